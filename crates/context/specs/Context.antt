@@ -1,0 +1,36 @@
+-- Questions about a win, and the renamed win. These are definitions.
+use mathlib.Core.Bool.{Bool, _&&_}
+use lib.Dec.{eqb, ltb}
+use Rattle.tile.specs.Tile.{isWind}
+use Rattle.tile.specs.declared.Renaming.{Renaming}
+use Rattle.tile.specs.Renaming.{ren}
+use Rattle.context.specs.declared.GameContext.{GameContext}
+
+abbrev pub isTsumo : GameContext → Bool
+isTsumo w = eqb (w .«win_type») 1
+
+-- East as seat wind is the dealer
+abbrev pub isDealer : GameContext → Bool
+isDealer w = eqb (w .«seat_wind») 27
+
+-- ron or tsumo, and both winds are winds
+abbrev pub inRange : GameContext → Bool
+inRange w = ltb (w .«win_type») 2 && (isWind (w .«round_wind») && isWind (w .«seat_wind»))
+
+-- winds and flags stay, the winning tile is renamed
+abbrev pub renWin : Renaming → GameContext → GameContext
+renWin ρ w =
+    record {
+      «win_type» = w .«win_type»;
+      «winning_tile» = ren ρ (w .«winning_tile»);
+      «round_wind» = w .«round_wind»;
+      «seat_wind» = w .«seat_wind»;
+      «is_riichi» = w .«is_riichi»;
+      «is_double_riichi» = w .«is_double_riichi»;
+      «is_ippatsu» = w .«is_ippatsu»;
+      «is_rinshan» = w .«is_rinshan»;
+      «is_chankan» = w .«is_chankan»;
+      «is_last_tile» = w .«is_last_tile»;
+      «is_tenhou» = w .«is_tenhou»;
+      «is_chiihou» = w .«is_chiihou»;
+    }

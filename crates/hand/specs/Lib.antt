@@ -1,0 +1,4 @@
+pub mod Counts
+pub mod Reading
+pub mod Records
+pub mod Readings

@@ -1,0 +1,5 @@
+pub mod Finite
+pub mod Permuted
+pub mod Members
+pub mod Arranged
+pub mod Relations

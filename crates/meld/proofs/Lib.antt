@@ -1,0 +1,2 @@
+pub mod Melds
+pub mod Renamed

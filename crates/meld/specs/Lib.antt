@@ -1,0 +1,2 @@
+pub mod Meld
+pub mod Renamed

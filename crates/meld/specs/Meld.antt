@@ -1,0 +1,79 @@
+-- Melds: questions about one meld, and the melds there are. Kinds: 0 closed sequence, 1 open sequence, 2 closed triplet,
+-- 3 open triplet, 4 closed kan, 5 open kan, 6 added kan. These are definitions.
+use mathlib.Core.Bool.{Bool, true, false, _&&_, _||_, not, cond}
+use mathlib.Core.List.{List, [], _∷_}
+use Prim.Native.Nat.{ℕ, _+_, _*_}
+use lib.Dec.{eqb, ltb, leb}
+use Rattle.lists.specs.Fold.{one, flat}
+use Rattle.lists.specs.Order.{arrange}
+use Rattle.tile.specs.Tile.{isStart, tiles}
+use Rattle.meld.specs.declared.Meld.{Meld}
+
+abbrev pub isSequence : Meld → Bool
+isSequence m = ltb (m .kind) 2
+
+abbrev pub isTripletOrKan : Meld → Bool
+isTripletOrKan m = leb 2 (m .kind) && ltb (m .kind) 7
+
+abbrev pub isKan : Meld → Bool
+isKan m = leb 4 (m .kind) && ltb (m .kind) 7
+
+-- no tile of it was called from another player
+abbrev pub isConcealed : Meld → Bool
+isConcealed m = eqb (m .kind) 0 || (eqb (m .kind) 2 || eqb (m .kind) 4)
+
+abbrev pub isOpen : Meld → Bool
+isOpen m = eqb (m .kind) 1 || (eqb (m .kind) 3 || (eqb (m .kind) 5 || eqb (m .kind) 6))
+
+-- kind and tile are in range, and a sequence starts at 1 to 7 of a suit
+abbrev pub isMeld : Meld → Bool
+isMeld m = ltb (m .kind) 7 && (ltb (m .tile) 34 && (leb 2 (m .kind) || isStart (m .tile)))
+
+-- a meld that the hand itself can hold: a closed sequence or a closed triplet
+abbrev pub isHandMeld : Meld → Bool
+isHandMeld m = isMeld m && (eqb (m .kind) 0 || eqb (m .kind) 2)
+
+-- a meld that is called: any other
+abbrev pub isCall : Meld → Bool
+isCall m = isMeld m && not (eqb (m .kind) 0 || eqb (m .kind) 2)
+
+-- the number by which melds ascend: by tile, then by kind
+abbrev pub key : Meld → ℕ
+key m = m .tile * 7 + m .kind
+
+-- how many of the tile t the meld holds: a sequence one each of three, a kan four, a triplet three
+abbrev pub runUses : ℕ → ℕ → ℕ
+runUses first t = one (leb first t && ltb t (first + 3))
+
+abbrev pub setSize : Bool → ℕ
+setSize kan = cond kan 4 3
+
+abbrev pub uses : Meld → ℕ → ℕ
+uses m t = cond (isSequence m) (runUses (m .tile) t) (cond (eqb t (m .tile)) (setSize (isKan m)) 0)
+
+abbrev pub eqMeld : Meld → Meld → Bool
+eqMeld m x = eqb (m .tile) (x .tile) && eqb (m .kind) (x .kind)
+
+abbrev pub meld : ℕ → ℕ → Meld
+meld t k = record { tile = t; kind = k }
+
+-- the melds of the tile t that a hand itself can hold, and all melds of t, by kind
+abbrev pub handMeldsAt : ℕ → List Meld
+handMeldsAt t = cond (isStart t) (meld t 0 ∷ meld t 2 ∷ []) (meld t 2 ∷ [])
+
+abbrev pub setsAt : ℕ → List Meld
+setsAt t = meld t 2 ∷ meld t 3 ∷ meld t 4 ∷ meld t 5 ∷ meld t 6 ∷ []
+
+abbrev pub meldsAt : ℕ → List Meld
+meldsAt t = cond (isStart t) (meld t 0 ∷ meld t 1 ∷ setsAt t) (setsAt t)
+
+-- the 55 melds that a hand itself can hold, and all 212 melds, ascending
+abbrev pub handMelds : List Meld
+handMelds = flat handMeldsAt tiles
+
+abbrev pub melds : List Meld
+melds = flat meldsAt tiles
+
+-- melds in ascending order
+abbrev pub sorted : List Meld → List Meld
+sorted l = arrange eqMeld melds l

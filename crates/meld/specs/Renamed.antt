@@ -1,0 +1,15 @@
+-- The renamed meld: its tiles are renamed, and the lowest of them is then its tile. This is a definition.
+use mathlib.Core.Bool.{_&&_, cond}
+use Prim.Native.Nat.{ℕ, _+_, min}
+use Rattle.tile.specs.Tile.{isStart}
+use Rattle.tile.specs.declared.Renaming.{Renaming}
+use Rattle.tile.specs.Renaming.{ren}
+use Rattle.meld.specs.declared.Meld.{Meld}
+use Rattle.meld.specs.Meld.{isSequence}
+
+abbrev pub renMeld : Renaming → Meld → Meld
+renMeld ρ m =
+    record {
+      tile = cond (isSequence m && isStart (m .tile)) (min (ren ρ (m .tile)) (ren ρ (m .tile + 2))) (ren ρ (m .tile));
+      kind = m .kind;
+    }

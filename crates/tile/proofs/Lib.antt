@@ -1,0 +1,2 @@
+pub mod Renamings
+pub mod Tiles

@@ -1,0 +1,26 @@
+-- The 34 tiles: which numbers they are, each once and ascending. Assumes nothing.
+use mathlib.Core.List.{List·Memᴰ}
+use Prim.Native.Nat.{ℕ, _<_}
+use lib.Dec.{T, eqb, ltb, eqb→eq, ltb→lt, eqb-refl}
+use Rattle.lists.specs.Fold.{allBelow, any}
+use Rattle.lists.specs.Order.{Nodup, Pairwise}
+use Rattle.lists.proofs.Finite.{at}
+use Rattle.lists.proofs.Members.{all-mem}
+use Rattle.lists.proofs.Arranged.{any-mem, distinct-nodup}
+use Rattle.lists.proofs.Relations.{up-pairwise}
+use Rattle.tile.specs.Tile.{tiles}
+
+tiles-test : T (allBelow 34 (λ t. any (eqb t) tiles))
+tiles-test = tt
+
+pub in-tiles : (t : ℕ) → t < 34 → List·Memᴰ t tiles
+in-tiles t h = any-mem eqb eqb→eq eqb-refl t tiles (at 34 (λ t. any (eqb t) tiles) tiles-test t h)
+
+pub tile-lt : {t : ℕ} → List·Memᴰ t tiles → t < 34
+tile-lt {t} i = ltb→lt t 34 (all-mem (λ u. ltb u 34) {l = tiles} tt i)
+
+pub tiles-nodup : Nodup tiles
+tiles-nodup = distinct-nodup eqb eqb→eq eqb-refl tiles tt
+
+pub tiles-ascend : Pairwise _<_ tiles
+tiles-ascend = up-pairwise tiles tt
