@@ -1,0 +1,11 @@
+pub mod Counted
+pub mod Kept
+pub mod Listed
+pub mod Sound
+pub mod Complete
+pub mod Once
+pub mod Lower
+pub mod Ascending
+pub mod Uncalled
+pub mod Allowed
+pub mod Bound
