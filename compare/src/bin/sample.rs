@@ -1,0 +1,177 @@
+//! Writes a sample of inputs with their right answers, which a proved program replays.
+//!
+//! The file is a row of records of 256 bytes, numbers little-endian, zero where nothing stands:
+//!
+//! | bytes   | content                                                                |
+//! |---------|------------------------------------------------------------------------|
+//! | 0       | length of the counts                                                   |
+//! | 1..41   | the counts                                                             |
+//! | 41..43  | number of calls                                                        |
+//! | 43..51  | four melds, each its tile and its kind                                 |
+//! | 51..53  | number of bytes lent, at most 120                                      |
+//! | 53      | the answer's number                                                    |
+//! | 54..56  | the answer's count of readings                                         |
+//! | 56..58  | the answer's count of bytes                                            |
+//! | 60..180 | the buffer after the call, as far as it is lent                        |
+//!
+//! Before the call, byte i of the buffer is (7 i + 3) mod 256.
+
+use compare::damage::with_faults;
+use compare::hand::Hand;
+use compare::oracle::{Expected, FAULTS};
+use compare::random;
+use compare::rng::Rng;
+use compare::tally::Tally;
+use std::collections::HashSet;
+use std::env;
+use std::fs;
+use std::process::ExitCode;
+
+const SEED: u64 = 34;
+const RECORD: usize = 256;
+const MOST_LENT: usize = 120;
+const MOST_CALLS: usize = u16::MAX as usize;
+
+/// A part of the sample: so many records of hands dealt until the right answer fits.
+struct Part {
+    title: String,
+    records: usize,
+    deal: Box<dyn Fn(&mut Rng) -> Hand>,
+    fits: Box<dyn Fn(&Expected) -> bool>,
+}
+
+impl Part {
+    fn new(
+        title: &str,
+        records: usize,
+        deal: impl Fn(&mut Rng) -> Hand + 'static,
+        fits: impl Fn(&Expected) -> bool + 'static,
+    ) -> Part {
+        Part {
+            title: title.into(),
+            records,
+            deal: Box::new(deal),
+            fits: Box::new(fits),
+        }
+    }
+}
+
+fn parts() -> Vec<Part> {
+    let mut parts = vec![
+        winning(1, 800),
+        winning(2, 1000),
+        winning(3, 450),
+        winning(4, 150),
+        Part::new("seven pairs", 200, random::seven_pairs, |_| true),
+        Part::new("thirteen orphans", 50, random::orphans, |_| true),
+        no_reading("winning", 250, random::near_winning),
+        no_reading("seven pairs", 50, random::near_seven_pairs),
+        no_reading("thirteen orphans", 50, random::near_orphans),
+        Part::new("tiles from the wall", 100, random::any_tiles, |_| true),
+    ];
+    for earlier in 1..=FAULTS {
+        parts.push(one_refusal(earlier, 100));
+        for later in earlier + 1..=FAULTS {
+            parts.push(two_faults(earlier, later, 20));
+        }
+    }
+    parts
+}
+
+fn winning(readings: usize, records: usize) -> Part {
+    let title = format!("winning hands, number of readings {readings}");
+    Part::new(&title, records, random::winning, move |expected| {
+        expected.readings == readings
+    })
+}
+
+fn no_reading(name: &str, records: usize, deal: fn(&mut Rng) -> Hand) -> Part {
+    let title = format!("near to {name}, no reading");
+    Part::new(&title, records, deal, |expected| expected.readings == 0)
+}
+
+fn one_refusal(number: usize, records: usize) -> Part {
+    let title = format!("refusal {number}");
+    let deal = move |rng: &mut Rng| with_faults(rng, number, number);
+    Part::new(&title, records, deal, move |expected| {
+        expected.listing(0).number == number
+    })
+}
+
+fn two_faults(earlier: usize, later: usize, records: usize) -> Part {
+    let title = format!("refusal {earlier}, ground for {later} too");
+    let deal = move |rng: &mut Rng| with_faults(rng, earlier, later);
+    Part::new(&title, records, deal, move |expected| {
+        expected.listing(0).number == earlier && expected.faults[later - 1]
+    })
+}
+
+/// A number of bytes to lend: most often enough, else around the need.
+fn lent(rng: &mut Rng, need: usize) -> usize {
+    let any = rng.below(MOST_LENT + 1);
+    if rng.percent(75) {
+        rng.pick(&[need, need + 1, MOST_LENT, any.max(need)])
+    } else {
+        let one_less = need.saturating_sub(1);
+        rng.pick(&[one_less, one_less, any % (need + 1), 0])
+    }
+}
+
+/// The record of a hand and a number of bytes lent.
+fn record(hand: &Hand, expected: &Expected, lent: usize) -> [u8; RECORD] {
+    let mut buffer: Vec<u8> = (0..lent).map(|i| (i * 7 + 3) as u8).collect();
+    expected.write(&mut buffer);
+    let answer = expected.listing(lent);
+
+    let mut record = [0; RECORD];
+    record[0] = hand.length as u8;
+    record[1..][..hand.length].copy_from_slice(hand.counts());
+    put_u16(&mut record, 41, hand.calls.count);
+    for (place, meld) in hand.calls.melds.iter().enumerate() {
+        record[43 + 2 * place] = meld.tile;
+        record[44 + 2 * place] = meld.kind;
+    }
+    put_u16(&mut record, 51, lent);
+    record[53] = answer.number as u8;
+    put_u16(&mut record, 54, answer.readings);
+    put_u16(&mut record, 56, answer.bytes);
+    record[60..][..lent].copy_from_slice(&buffer);
+    record
+}
+
+fn put_u16(record: &mut [u8; RECORD], at: usize, value: usize) {
+    let value = u16::try_from(value).expect("the number fits in its two bytes");
+    record[at..at + 2].copy_from_slice(&value.to_le_bytes());
+}
+
+fn main() -> ExitCode {
+    let Some(path) = env::args().nth(1) else {
+        eprintln!("usage: sample FILE");
+        return ExitCode::from(2);
+    };
+    let mut rng = Rng::new(SEED);
+    let mut tally = Tally::default();
+    let mut seen = HashSet::new();
+    let mut file = Vec::new();
+    println!("seed {SEED}, no record twice; records of each part:");
+    for part in parts() {
+        let mut written = 0;
+        while written < part.records {
+            let mut hand = random::until(&mut rng, &part.deal, &part.fits).with_noise(&mut rng);
+            hand.calls.count = hand.calls.count.min(MOST_CALLS);
+            let expected = Expected::of(&hand);
+            let lent = lent(&mut rng, expected.records.len());
+            let record = record(&hand, &expected, lent);
+            if seen.insert(record) {
+                file.extend(record);
+                tally.count_hand(&expected);
+                tally.count_answer(&expected.listing(lent));
+                written += 1;
+            }
+        }
+        println!("  {:5}  {}", part.records, part.title);
+    }
+    fs::write(&path, &file).expect("the file can be written");
+    print!("{} bytes in {path}\n{tally}", file.len());
+    ExitCode::SUCCESS
+}

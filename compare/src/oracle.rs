@@ -1,0 +1,173 @@
+//! What the library has to answer: the refusals as the scope paper lists them, and agari's readings.
+
+use crate::agari::{self, Record};
+use crate::hand::*;
+use crate::library::{Listing, Meld};
+
+/// The number of refusals that do not depend on the lent buffer.
+pub const FAULTS: usize = 6;
+/// The refusal of a buffer that is too short.
+const TOO_SHORT: usize = 7;
+
+/// What is expected for a hand, whatever buffer is lent.
+pub struct Expected {
+    /// Which of the refusals 1 to 6 have a ground in the hand. The first of them is the answer.
+    pub faults: [bool; FAULTS],
+    /// The number of readings; 0 where the hand is refused.
+    pub readings: usize,
+    /// The records of the readings; empty where the hand is refused.
+    pub records: Vec<u8>,
+}
+
+impl Expected {
+    pub fn of(hand: &Hand) -> Expected {
+        let faults = faults(hand);
+        let records = if faults.contains(&true) {
+            Vec::new()
+        } else {
+            records(hand)
+        };
+        Expected {
+            faults,
+            readings: records.len(),
+            records: records.iter().flat_map(bytes).collect(),
+        }
+    }
+
+    /// The answer where so many bytes are lent.
+    pub fn listing(&self, lent: usize) -> Listing {
+        let fault = self.faults.iter().position(|&fault| fault);
+        let number = match fault {
+            Some(place) => place + 1,
+            None if self.records.len() > lent => TOO_SHORT,
+            None => 0,
+        };
+        if number == 0 {
+            Listing {
+                number,
+                readings: self.readings,
+                bytes: self.records.len(),
+            }
+        } else {
+            Listing {
+                number,
+                readings: 0,
+                bytes: 0,
+            }
+        }
+    }
+
+    /// Does to the lent buffer what the library has to do.
+    pub fn write(&self, out: &mut [u8]) {
+        let written = self.listing(out.len()).bytes;
+        out[..written].copy_from_slice(&self.records[..written]);
+    }
+}
+
+/// The grounds for the refusals 1 to 6, each looked at by itself.
+fn faults(hand: &Hand) -> [bool; FAULTS] {
+    let counts = hand.counts();
+    let tiles: u128 = counts.iter().map(|&count| u128::from(count)).sum();
+    [
+        counts.len() != KINDS,
+        hand.calls.count > 4,
+        hand.called().iter().any(|&meld| !is_call(meld)),
+        counts.iter().any(|&count| count > 4),
+        hand.with_calls().iter().any(|&number| number > 4),
+        tiles + 3 * hand.calls.count as u128 != 14,
+    ]
+}
+
+fn is_call(meld: Meld) -> bool {
+    match meld.kind {
+        OPEN_SEQUENCE => starts_sequence(meld.tile),
+        OPEN_TRIPLET | CLOSED_KAN | OPEN_KAN | ADDED_KAN => usize::from(meld.tile) < KINDS,
+        _ => false,
+    }
+}
+
+/// The records of agari's readings, ascending, each once.
+fn records(hand: &Hand) -> Vec<Record> {
+    let counts = agari::tile_counts(hand.counts());
+    let readings = agari::readings(&counts, &agari::called_melds(hand.called()));
+    let mut records: Vec<Record> = readings.iter().map(agari::record).collect();
+    records.sort();
+    records.dedup();
+    records
+}
+
+/// The record as it is written: its length, its kind, its content.
+fn bytes(record: &Record) -> Vec<u8> {
+    let length = (4 + record.content.len()) as u16;
+    [
+        &length.to_le_bytes()[..],
+        &record.kind.to_le_bytes()[..],
+        &record.content[..],
+    ]
+    .concat()
+}
+
+#[cfg(test)]
+mod tests {
+    use super::*;
+
+    /// The hand of a text such as `123m55z`, with no call.
+    fn hand(text: &str) -> Hand {
+        let mut hand = Hand::empty();
+        let mut first = 27;
+        for letter in text.chars().rev() {
+            match letter {
+                'm' => first = 0,
+                'p' => first = 9,
+                's' => first = 18,
+                'z' => first = 27,
+                number => hand.counts[first + number as usize - '1' as usize] += 1,
+            }
+        }
+        hand
+    }
+
+    fn answer(hand: &Hand) -> (usize, usize) {
+        let listing = Expected::of(hand).listing(1467);
+        (listing.number, listing.readings)
+    }
+
+    #[test]
+    fn closed_hands_of_the_scope_paper() {
+        let hands = [
+            ("12355m456p234678s", (0, 1)),
+            ("222333444m567p88s", (0, 2)),
+            ("223344m667788p55s", (0, 2)),
+            ("111123m456p789s11z", (0, 1)),
+            ("19m19p19s12345677z", (0, 1)),
+            ("66677778888999m", (0, 4)),
+            ("1235m456p234678s", (6, 0)),
+        ];
+        for (text, expected) in hands {
+            assert_eq!(answer(&hand(text)), expected, "{text}");
+        }
+    }
+
+    #[test]
+    fn called_hands_of_the_scope_paper() {
+        let mut one_call = hand("55m456p234678s");
+        one_call.call(Meld::new(0, OPEN_SEQUENCE));
+        assert_eq!(answer(&one_call), (0, 1));
+
+        let mut four_calls = hand("55z");
+        for tile in [3, 12, 21, 33] {
+            four_calls.call(Meld::new(tile, ADDED_KAN));
+        }
+        assert_eq!(answer(&four_calls), (0, 1));
+    }
+
+    #[test]
+    fn records_ascend_by_kind_and_then_content() {
+        let expected = Expected::of(&hand("223344m667788p55s"));
+        let seven_pairs = [11, 0, 1, 0, 1, 2, 3, 14, 15, 16, 22];
+        let standard = [13, 0, 3, 0, 22, 1, 0, 1, 0, 14, 0, 14, 0];
+        assert_eq!(expected.records, [&seven_pairs[..], &standard[..]].concat());
+        assert_eq!(expected.listing(24).number, 0);
+        assert_eq!(expected.listing(23).number, 7);
+    }
+}
