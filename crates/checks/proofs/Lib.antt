@@ -1,0 +1,4 @@
+pub mod Turns
+pub mod Added
+pub mod Checked
+pub mod Passed

@@ -1,0 +1,86 @@
+-- What a turn of each loop does: of a test over the tiles, of a test over the calls, and of a copy. Assumes nothing.
+use mathlib.Core.Path.{_≡_, refl, sym, ap, ap₂, _∙_, subst}
+use mathlib.Core.Bool.{Bool, true, false, _&&_}
+use mathlib.Core.List.{List, [], _∷_, _++_, append-nil}
+use Prim.Native.Nat.{ℕ, zero, suc, _+_, _-_, _<_, _≤_}
+use native.Mathlib.Nat.{not-suc-le-zero, le-of-suc-le-suc}
+use native.Mathlib.Decide.{ℕ-discrete}
+use native.Mathlib.Numerals.{add-one}
+use native.Mathlib.Omega.{arith}
+use lib.Dec.{T}
+use lib.ListN.{length, getD, take, drop, set, length-take, drop-of-length-le}
+use lib.Seq.{drop-cons, getD-take, sets, sets-eq}
+use Rattle.lists.specs.Fold.{all, upFrom}
+use Rattle.lists.proofs.Finite.{and-left, and-right, and-both}
+use Rattle.hand.proofs.Sums.{upFrom-next, upFrom-end}
+
+-- ---- a test over the numbers from a on, below b
+pub test-next : (p : ℕ → Bool) (good : Bool) (a b : ℕ) → a < b → (good && p a) && all p (upFrom (b - (a + 1)) (a + 1)) ≡ good && all p (upFrom (b - a) a)
+test-next p true a b h = ap (all p) (sym (upFrom-next a b h))
+test-next p false a b h = refl
+
+pub test-end : (p : ℕ → Bool) (good : Bool) (a b : ℕ) → b ≤ a → good ≡ good && all p (upFrom (b - a) a)
+test-end p true a b h = sym (ap (all p) (upFrom-end a b h))
+test-end p false a b h = refl
+
+pub test-same : (p q : ℕ → Bool) → ((t : ℕ) → p t ≡ q t) → (l : List ℕ) → all p l ≡ all q l
+test-same p q e [] = refl
+test-same p q e (t ∷ l) = ap₂ _&&_ (e t) (test-same p q e l)
+
+-- where it passes, the test holds at each; and where it holds at each, it passes
+pub test-at : (p : ℕ → Bool) (n a : ℕ) → T (all p (upFrom n a)) → (t : ℕ) → a ≤ t → t < a + n → T (p t)
+test-at p zero a v t h k = absurd (omega arith)
+test-at p (suc n) a v t h k = go (ℕ-discrete t a) (test-at p n (suc a) (and-right (p a) (all p (upFrom n (suc a))) v) t)
+  where
+    go : Dec (t ≡ a) → (suc a ≤ t → t < suc a + n → T (p t)) → T (p t)
+    go (yes e) rest = subst (λ (m : ℕ). T (p m)) (sym e) (and-left (p a) (all p (upFrom n (suc a))) v)
+    go (no f) rest = rest (omega arith) (omega arith)
+
+pub test-intro : (p : ℕ → Bool) (n a : ℕ) → ((t : ℕ) → a ≤ t → t < a + n → T (p t)) → T (all p (upFrom n a))
+test-intro p zero a f = tt
+test-intro p (suc n) a f =
+    and-both (p a) (all p (upFrom n (suc a))) (f a (omega arith) (omega arith)) (test-intro p n (suc a) (λ t h k. f t (omega arith) (omega arith)))
+
+-- ---- a test over the first n of a list
+module _ {A : Type 0} (p : A → Bool) where
+  pub all-at : (l : List A) (i : ℕ) (d : A) → T (all p l) → i < length l → T (p (getD l i d))
+  all-at [] i d t h = absurd (not-suc-le-zero h)
+  all-at (a ∷ l) zero d t h = and-left (p a) (all p l) t
+  all-at (a ∷ l) (suc i) d t h = all-at l i d (and-right (p a) (all p l) t) (le-of-suc-le-suc h)
+
+  module _ (l : List A) (n i : ℕ) (fits : n ≤ length l) where
+    first-length : length (take n l) ≡ n
+    first-length = length-take n l ∙ omega arith
+
+    pub first-at : (d : A) → T (all p (take n l)) → i < n → T (p (getD l i d))
+    first-at d t h = rw (getD-take n l i d) at (all-at (take n l) i d t (let e = first-length in omega arith))
+
+    first-next : (d : A) → i < n → all p (drop i (take n l)) ≡ p (getD l i d) && all p (drop (i + 1) (take n l))
+    first-next d h =
+        let k : i < length (take n l) = (let e = first-length in omega arith) in
+        rw (add-one, drop-cons (take n l) i d, getD-take n l i d)
+
+    pub first-pass : (d : A) → i < n → p (getD l i d) ≡ true → all p (drop (i + 1) (take n l)) ≡ all p (drop i (take n l))
+    first-pass d h e = sym (first-next d h ∙ ap (λ (b : Bool). b && all p (drop (i + 1) (take n l))) e)
+
+    pub first-fail : (d : A) → i < n → p (getD l i d) ≡ false → all p (drop i (take n l)) ≡ false
+    first-fail d h e = first-next d h ∙ ap (λ (b : Bool). b && all p (drop (i + 1) (take n l))) e
+
+    pub first-end : n ≤ i → all p (drop i (take n l)) ≡ true
+    first-end h =
+        let k : length (take n l) ≤ i = (let e = first-length in omega arith) in
+        ap (all p) (drop-of-length-le (take n l) {i = i} k)
+
+-- ---- a copy
+pub copy-next : (d s : List ℕ) (i : ℕ) → i < length s → sets (set d i (getD s i 0)) (i + 1) (drop (i + 1) s) ≡ sets d i (drop i s)
+copy-next d s i h =
+    sym (ap (λ (l : List ℕ). sets d i l) (drop-cons s i 0 h) ∙ ap (λ (k : ℕ). sets (set d i (getD s i 0)) k (drop k s)) (sym (add-one i)))
+
+pub copy-end : (d s : List ℕ) (i : ℕ) → length s ≤ i → d ≡ sets d i (drop i s)
+copy-end d s i h = sym (ap (λ (l : List ℕ). sets d i l) (drop-of-length-le s {i = i} h))
+
+pub copy-whole : (d s : List ℕ) → length d ≡ length s → sets d 0 s ≡ s
+copy-whole d s e =
+    let z : 0 + length s ≡ length s = omega arith in
+    sets-eq s d 0 (omega arith) ∙ ap (λ (k : ℕ). s ++ drop k d) z ∙ ap (λ (l : List ℕ). s ++ l) (drop-of-length-le d {i = length s} (omega arith))
+    ∙ append-nil s

@@ -1,0 +1,36 @@
+-- The checks that a hand and its calls pass before they are read, in their order. These are definitions.
+use mathlib.Core.Bool.{Bool, true, false}
+use mathlib.Core.List.{List}
+use Prim.Native.Nat.{ℕ, _+_, _*_}
+use lib.Dec.{eqb, leb}
+use lib.ListN.{length, take}
+use Rattle.lists.specs.Fold.{all, sum}
+use Rattle.tile.specs.Tile.{tiles}
+use Rattle.meld.specs.declared.Meld.{Meld}
+use Rattle.meld.specs.Meld.{isCall, uses}
+use Rattle.hand.specs.Counts.{held}
+use Rattle.checks.specs.declared.Calls.{Calls}
+
+-- the calls: the first of the four melds, as many as are called
+abbrev pub called : Calls → List Meld
+called k = take (k .count) (k .melds)
+
+-- how many of the tile t hand and calls hold together
+abbrev pub together : List ℕ → List Meld → ℕ → ℕ
+together cs ms t = held cs t + sum (λ m. uses m t) ms
+
+-- a check that fails refuses with its number; else the next is made
+unfoldable pub check : Bool → ℕ → ℕ → ℕ
+check true n next = next
+check false n next = n
+
+-- 1 the counts are not 34 long; 2 more than four calls; 3 a call's kind or tile is not one; 4 a count above 4;
+-- 5 hand and calls together hold more than four of a kind; 6 the hand's tiles are not 14 - 3 × calls; 0 where all pass
+unfoldable pub handCheck : List ℕ → Calls → ℕ
+handCheck cs k =
+    check (eqb (length cs) 34) 1
+    (check (leb (k .count) 4) 2
+    (check (all isCall (called k)) 3
+    (check (all (λ t. leb (held cs t) 4) tiles) 4
+    (check (all (λ t. leb (together cs (called k) t) 4) tiles) 5
+    (check (eqb (sum (held cs) tiles + 3 * k .count) 14) 6 0)))))

@@ -1,0 +1,5 @@
+pub mod Digits
+pub mod Left
+pub mod Slots
+pub mod Parts
+pub mod Merged
