@@ -1,0 +1,4 @@
+pub mod Standards
+pub mod Listed
+pub mod Answers
+pub mod Special

@@ -1,0 +1,47 @@
+-- What the first pass of a listing finds. These are definitions.
+use mathlib.Core.Path.{_≡_}
+use mathlib.Core.Bool.{Bool, true, cond}
+use mathlib.Core.List.{List, [], _∷_, _++_}
+use Prim.Native.Nat.{ℕ, _+_, _-_, _*_, _≤_}
+use lib.Dec.{ltb}
+use lib.ListN.{length}
+use Rattle.tile.specs.Tile.{tiles}
+use Rattle.hand.specs.Counts.{held}
+use Rattle.hand.specs.Reading.{Reading, orphans}
+use Rattle.hand.specs.Records.{recordOf, records}
+use Rattle.hand.specs.Readings.{isPairs, sevenPairs, thirteenOrphans, uncalled}
+use Rattle.search.specs.Slots.{put}
+use Rattle.decompose.specs.Pairs.{foundWith}
+use Rattle.checks.specs.declared.Calls.{Calls}
+use Rattle.checks.specs.Checks.{called}
+use Rattle.unit.specs.declared.Found.{Found}
+
+-- how many readings were found, and how many bytes their records need
+abbrev pub readingsFound : Found → ℕ
+readingsFound f = f .standard + cond (f .seven) 1 0 + cond (ltb (f .orphan) 34) 1 0
+
+abbrev pub bytesFound : Found → ℕ
+bytesFound f = f .standard * 13 + cond (f .seven) 11 0 + cond (ltb (f .orphan) 34) 5 0
+
+-- the records of seven pairs and of thirteen orphans, where they were found
+abbrev pub sevenRecords : List ℕ → Bool → List ℕ
+sevenRecords cs seven = cond seven (records (sevenPairs (held cs))) []
+
+abbrev pub orphanRecords : ℕ → List ℕ
+orphanRecords p = cond (ltb p 34) (recordOf (orphans p)) []
+
+unfoldable pub specialRecords : List ℕ → Found → List ℕ
+specialRecords cs f = sevenRecords cs (f .seven) ++ orphanRecords (f .orphan)
+
+-- what was found is what there is
+pub record Finds (cs : List ℕ) (k : Calls) (f : Found) : Type 0 where
+  pub calls : length (called k) ≡ k .count
+  pub special : records (uncalled (called k) (sevenPairs (held cs) ++ thirteenOrphans (held cs))) ≡ specialRecords cs f
+  pub counted : length (uncalled (called k) (sevenPairs (held cs) ++ thirteenOrphans (held cs))) ≡ cond (f .seven) 1 0 + cond (ltb (f .orphan) 34) 1 0
+  pub pairs : f .seven ≡ true → isPairs (held cs) ≡ true
+  pub standard : f .standard ≡ length (foundWith (4 - k .count) (held cs) tiles)
+  pub few : f .standard ≤ 2176
+
+-- slots with a number put in its place, if it is there
+abbrev pub putCall : Bool → ℕ → List ℕ → List ℕ
+putCall there x slots = cond there (put x slots) slots

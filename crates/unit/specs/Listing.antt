@@ -1,0 +1,48 @@
+-- What listing the readings of a hand answers, and what it leaves in the lent buffer. These are definitions.
+use mathlib.Core.Bool.{Bool, _&&_, cond}
+use mathlib.Core.List.{List, _++_}
+use Prim.Native.Nat.{ℕ}
+use lib.Dec.{eqb, leb}
+use lib.ListN.{length, drop}
+use Rattle.hand.specs.Counts.{held}
+use Rattle.hand.specs.Reading.{Reading}
+use Rattle.hand.specs.Records.{records}
+use Rattle.hand.specs.Readings.{readings}
+use Rattle.checks.specs.declared.Calls.{Calls}
+use Rattle.checks.specs.Checks.{called, handCheck}
+use Rattle.unit.specs.declared.Listing.{Listing}
+use Rattle.unit.specs.declared.Listing.the-variants.{Refused, Listed}
+
+-- the scope paper's values for each answer: the number (0 where accepted), the count of readings, the count of bytes written
+abbrev pub numberOf : Listing → ℕ
+numberOf (Refused n) = n
+numberOf (Listed readings bytes) = 0
+
+abbrev pub readingsOf : Listing → ℕ
+readingsOf (Refused n) = 0
+readingsOf (Listed readings bytes) = readings
+
+abbrev pub bytesOf : Listing → ℕ
+bytesOf (Refused n) = 0
+bytesOf (Listed readings bytes) = bytes
+
+-- the readings of the counts with the calls, and their records
+unfoldable pub handReadings : List ℕ → Calls → List Reading
+handReadings cs k = readings (held cs) (called k)
+
+unfoldable pub handRecords : List ℕ → Calls → List ℕ
+handRecords cs k = records (handReadings cs k)
+
+-- where so many bytes are lent: refused by a check, refused with 7 where the records need more, or listed
+unfoldable pub listing : List ℕ → Calls → ℕ → Listing
+listing cs k room =
+    cond (eqb (handCheck cs k) 0)
+    (cond (leb (length (handRecords cs k)) room) (Listed (length (handReadings cs k)) (length (handRecords cs k))) (Refused 7))
+    (Refused (handCheck cs k))
+
+-- accepted, the buffer holds the records and behind them its old bytes; refused, its old bytes
+unfoldable pub written : List ℕ → Calls → List ℕ → List ℕ
+written cs k buffer =
+    cond (eqb (handCheck cs k) 0 && leb (length (handRecords cs k)) (length buffer))
+    (handRecords cs k ++ drop (length (handRecords cs k)) buffer)
+    buffer
