@@ -2,6 +2,7 @@
 ghost use mathlib.Core.Path.{_≡_};
 ghost use Rattle.context.specs.Context.{isTsumo, isDealer, inRange, renWin};
 
+#[repr(C)]
 pub struct GameContext {
     // 0 ron, 1 tsumo
     pub win_type: u8,

@@ -1,0 +1,58 @@
+-- Open melds and kans give no wait, and a wait is counted at most once for each of the four melds. Assumes nothing.
+use mathlib.Core.Path.{_≡_, subst, ap}
+use mathlib.Core.Bool.{Bool, true, false, _&&_}
+use mathlib.Core.List.{List, [], _∷_, List·Memᴰ}
+use Prim.Native.Nat.{ℕ, _≤_}
+use native.Mathlib.Omega.{arith}
+use borrow.Author.Tests.{ne-eqb}
+use lib.Dec.{T, eqb, leb, leb→le, le→leb}
+use lib.ListN.{length}
+use Rattle.lists.specs.Fold.{all, count, one}
+use Rattle.lists.proofs.Finite.{and-both}
+use Rattle.lists.proofs.Members.{all-mem}
+use Rattle.meld.specs.declared.Meld.{Meld}
+use Rattle.meld.specs.Meld.{isOpen, isKan, meld}
+use Rattle.hand.specs.Reading.{standard}
+use Rattle.wait.specs.Wait.{closedRun, closedTriplet, twoSided, middle, edge, waits}
+
+-- ---- open melds and kans
+-- a kind that passes a test is not one that fails it
+other-kind : (p : Meld → Bool) (m : Meld) (k : ℕ) → T (p m) → (T (p (meld (m .tile) k)) → ⊥) → eqb (m .kind) k ≡ false
+other-kind p m k t f = ne-eqb (m .kind) k (λ e. f (subst (λ (n : ℕ). T (p (meld (m .tile) n))) e t))
+
+pub open-no-wait : (q : ℕ → ℕ → Bool) (t : ℕ) (m : Meld) → T (isOpen m) → closedRun q t m ≡ false
+open-no-wait q t m o = ap (λ (b : Bool). b && q t (m .tile)) (other-kind isOpen m 0 o (λ x. x))
+
+pub open-no-shanpon : (t : ℕ) (m : Meld) → T (isOpen m) → closedTriplet t m ≡ false
+open-no-shanpon t m o = ap (λ (b : Bool). b && eqb t (m .tile)) (other-kind isOpen m 2 o (λ x. x))
+
+pub kan-no-wait : (q : ℕ → ℕ → Bool) (t : ℕ) (m : Meld) → T (isKan m) → closedRun q t m ≡ false
+kan-no-wait q t m o = ap (λ (b : Bool). b && q t (m .tile)) (other-kind isKan m 0 o (λ x. x))
+
+pub kan-no-shanpon : (t : ℕ) (m : Meld) → T (isKan m) → closedTriplet t m ≡ false
+kan-no-shanpon t m o = ap (λ (b : Bool). b && eqb t (m .tile)) (other-kind isKan m 2 o (λ x. x))
+
+-- ---- tallies
+pub one-le : (b : Bool) → one b ≤ 1
+one-le true = omega arith
+one-le false = omega arith
+
+pub count-le : {A : Type 0} (p : A → Bool) (l : List A) → count p l ≤ length l
+count-le p [] = omega arith
+count-le p (a ∷ l) = omega (arith, one-le (p a), count-le p l)
+
+module _ (t p : ℕ) (ms : List Meld) (four : length ms ≡ 4) where
+  counted : (q : Meld → Bool) → T (leb (count q ms) 4)
+  counted q = le→leb (count q ms) 4 (omega (arith, count-le q ms))
+
+  small : T (all (λ n. leb n 4) (waits t (standard p ms)))
+  unfolding waits
+  small =
+      and-both (leb (count (closedRun twoSided t) ms) 4) _ (counted (closedRun twoSided t))
+      (and-both (leb (count (closedRun middle t) ms) 4) _ (counted (closedRun middle t))
+      (and-both (leb (count (closedRun edge t) ms) 4) _ (counted (closedRun edge t))
+      (and-both (leb (count (closedTriplet t) ms) 4) _ (counted (closedTriplet t))
+      (and-both (leb (one (eqb t p)) 4) _ (le→leb (one (eqb t p)) 4 (omega (arith, one-le (eqb t p)))) tt))))
+
+  pub tally-le : (n : ℕ) → List·Memᴰ n (waits t (standard p ms)) → n ≤ 4
+  tally-le n i = leb→le n 4 (all-mem (λ n. leb n 4) small i)

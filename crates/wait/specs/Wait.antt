@@ -1,0 +1,61 @@
+-- Waits: what the winning tile t completed. A tile can have completed a reading in several ways, so waits are tallied.
+-- Open sequences and open triplets were complete before the win and give no wait. These are definitions.
+use mathlib.Core.Bool.{Bool, false, _&&_, _||_, not}
+use mathlib.Core.List.{List, [], _∷_}
+use Prim.Native.Nat.{ℕ, _+_, _%_}
+use lib.Dec.{eqb, ltb, leb}
+use Rattle.lists.specs.Fold.{all, any, count, one}
+use Rattle.tile.specs.Tile.{isDragon}
+use Rattle.meld.specs.declared.Meld.{Meld}
+use Rattle.meld.specs.Meld.{isSequence}
+use Rattle.context.specs.declared.GameContext.{GameContext}
+use Rattle.hand.specs.Reading.{Reading, pairs, orphans, standard}
+
+-- ---- the tile t in the sequence that starts at s
+-- it is one of the three
+abbrev pub within : ℕ → ℕ → Bool
+within t s = leb s t && ltb t (s + 3)
+
+-- Ryanmen: at an end, and a tile at the other end would have served too
+abbrev pub twoSided : ℕ → ℕ → Bool
+twoSided t s = eqb t s && not (eqb (s % 9) 6) || eqb t (s + 2) && not (eqb (s % 9) 0)
+
+-- Penchan: the 7 of 789 or the 3 of 123
+abbrev pub edge : ℕ → ℕ → Bool
+edge t s = eqb t s && eqb (s % 9) 6 || eqb t (s + 2) && eqb (s % 9) 0
+
+-- Kanchan: in the middle
+abbrev pub middle : ℕ → ℕ → Bool
+middle t s = eqb t (s + 1)
+
+-- a closed sequence, asked so
+abbrev pub closedRun : (ℕ → ℕ → Bool) → ℕ → Meld → Bool
+closedRun q t m = eqb (m .kind) 0 && q t (m .tile)
+
+-- Shanpon: a closed triplet of the tile
+abbrev pub closedTriplet : ℕ → Meld → Bool
+closedTriplet t m = eqb (m .kind) 2 && eqb t (m .tile)
+
+-- a tally for each entry of WaitType: Ryanmen, Kanchan, Penchan, Shanpon, Tanki, Kokushi13
+unfoldable pub waits : ℕ → Reading → List ℕ
+waits t (pairs ps) = 0 ∷ 0 ∷ 0 ∷ 0 ∷ one (any (eqb t) ps) ∷ 0 ∷ []
+waits t (orphans p) = 0 ∷ 0 ∷ 0 ∷ 0 ∷ one (eqb t p) ∷ one (not (eqb t p)) ∷ []
+waits t (standard p ms) =
+    count (closedRun twoSided t) ms
+    ∷ count (closedRun middle t) ms
+    ∷ count (closedRun edge t) ms
+    ∷ count (closedTriplet t) ms
+    ∷ one (eqb t p)
+    ∷ 0
+    ∷ []
+
+-- how often an honor counts: a dragon once, a wind once as round wind and once as seat wind
+abbrev pub weight : GameContext → ℕ → ℕ
+weight w t = one (isDragon t) + (one (eqb t (w .«round_wind»)) + one (eqb t (w .«seat_wind»)))
+
+-- Pinfu: a closed hand of sequences, a pair that counts nothing, and a two-sided wait
+unfoldable pub pinfu : GameContext → Bool → Reading → Bool
+pinfu w opened (pairs ps) = false
+pinfu w opened (orphans p) = false
+pinfu w opened (standard p ms) =
+    not opened && (all isSequence ms && (eqb (weight w p) 0 && any (closedRun twoSided (w .«winning_tile»)) ms))
