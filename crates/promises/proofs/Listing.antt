@@ -1,0 +1,67 @@
+-- Listing readings: what a hand that passes the checks 1 to 6 gets. Assumes nothing.
+use mathlib.Core.Path.{_≡_, refl, sym, ap, _∙_, subst}
+use mathlib.Core.Bool.{Bool, true, false, cond, _&&_}
+use mathlib.Core.List.{List, [], _++_, List·Memᴰ}
+use Prim.Native.Nat.{ℕ, _+_, _-_, _*_, _≤_, _<_}
+use native.Mathlib.Omega.{arith}
+use lib.Dec.{T, eqb, leb}
+use lib.ListN.{length, drop}
+use Rattle.lists.specs.Fold.{all, sum}
+use Rattle.lists.specs.Order.{Nodup, Pairwise}
+use Rattle.tile.specs.Tile.{tiles}
+use Rattle.hand.specs.Counts.{held}
+use Rattle.hand.specs.Reading.{Reading, Admits}
+use Rattle.hand.specs.Records.{records, Before}
+use Rattle.hand.specs.Readings.{readings}
+use Rattle.complete.proofs.Sound.{listed-admitted}
+use Rattle.complete.proofs.Complete.{admitted-listed}
+use Rattle.complete.proofs.Once.{readings-once}
+use Rattle.complete.proofs.Ascending.{readings-ascend}
+use Rattle.complete.proofs.Bound.{enough}
+use Rattle.checks.specs.declared.Calls.{Calls}
+use Rattle.checks.specs.Checks.{called, handCheck}
+use Rattle.checks.proofs.Passed.{passed, called-length}
+use Rattle.unit.specs.declared.Listing.the-variants.{Listed, Refused}
+use Rattle.unit.specs.Listing.{handReadings, handRecords, listing, written}
+use Rattle.unit.proofs.Answers.{listed-answer, short-answer}
+use Rattle.unit.proofs.Listed.{melds-called}
+
+-- a hand that passes the checks; the four melds of the calls are four (an array of four in the code)
+module _ (cs : List ℕ) (k : Calls) (four : length (k .melds) ≡ 4) (passes : handCheck cs k ≡ 0) where
+  few : length (called k) ≤ 4
+  few = let e = called-length k (passed cs k passes .few) four in let h = passed cs k passes .few in omega arith
+
+  -- each listed reading is one that the tiles admit
+  pub admitted : (r : Reading) → List·Memᴰ r (handReadings cs k) → Admits (held cs) (called k) r
+  unfolding handReadings
+  admitted r i = listed-admitted (held cs) (called k) few r i
+
+  -- each reading that the tiles admit is listed
+  pub listed : (r : Reading) → Admits (held cs) (called k) r → List·Memᴰ r (handReadings cs k)
+  unfolding handReadings
+  listed r a = admitted-listed (held cs) (called k) r a
+
+  -- each once, in the order of records
+  pub once : Nodup (handReadings cs k)
+  unfolding handReadings
+  once = readings-once (held cs) (called k)
+
+  pub ascending : Pairwise Before (handReadings cs k)
+  unfolding handReadings
+  ascending = readings-ascend (held cs) (called k)
+
+  -- 1,467 bytes are always enough
+  pub room : length (handRecords cs k) ≤ 1467
+  unfolding handRecords handReadings
+  room =
+      let h = passed cs k passes in
+      let t = h .tiles in
+      enough (held cs) (called k) (melds-called cs k passes) few (omega arith) (λ u i. h .four u)
+
+  -- with so many bytes lent the hand is listed, whatever it is
+  pub accepted : (lent : ℕ) → 1467 ≤ lent → listing cs k lent ≡ Listed (length (handReadings cs k)) (length (handRecords cs k))
+  accepted lent h = let r = room in sym (listed-answer cs k passes lent (length (handReadings cs k)) (length (handRecords cs k)) (omega arith) refl refl)
+
+  -- refused with 7 exactly where the records need more bytes than were lent
+  pub refused-short : (lent : ℕ) → lent < length (handRecords cs k) → listing cs k lent ≡ Refused 7
+  refused-short lent h = sym (short-answer cs k passes lent h)

@@ -1,0 +1,4 @@
+pub mod Below
+pub mod Questions
+pub mod Suits
+pub mod Gates
