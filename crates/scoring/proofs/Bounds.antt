@@ -1,0 +1,63 @@
+-- Bounds that the code's proofs use: the han of a Normal level, the shifted fu, the fu of a triplet or kan. Assumes nothing.
+use mathlib.Core.Path.{_≡_, refl, sym, subst}
+use mathlib.Core.Bool.{Bool, true, false, _&&_, _||_, cond}
+use Prim.Native.Nat.{ℕ, _+_, _*_, _/_, _^_, _%_, _<_, _≤_, max}
+use native.Mathlib.Omega.{arith}
+use native.Mathlib.Nat.{mul-le-mul, mod-eq-of-lt}
+use lib.Dec.{T, eqb, leb, leb→le}
+use borrow.Author.Tests.{leb-false}
+use Rattle.lists.proofs.Finite.{at}
+use Rattle.scoring.specs.declared.ScoreLevel.{ScoreLevel}
+use Rattle.scoring.specs.declared.ScoreLevel.the-variants.{Normal, Mangan, Haneman, Baiman, Sanbaiman, Yakuman}
+use Rattle.scoring.specs.Level.{level}
+
+-- ---- han where the level is Normal
+abbrev isNormal : ScoreLevel → Bool
+isNormal Normal = true
+isNormal Mangan = false
+isNormal Haneman = false
+isNormal Baiman = false
+isNormal Sanbaiman = false
+isNormal (Yakuman k) = false
+
+or-no : (a b : Bool) → (a || b) ≡ false → a ≡ false
+or-no true b e = e
+or-no false b e = refl
+
+-- a chain of tests that ends at Normal has passed none
+passed-none :
+    (k : ℕ) (y a b c d m : Bool)
+    → T (isNormal (cond y (Yakuman k) (cond a (Yakuman 1) (cond b Sanbaiman (cond c Baiman (cond d Haneman (cond m Mangan Normal)))))))
+    → m ≡ false
+passed-none k true a b c d m t = absurd t
+passed-none k false true b c d m t = absurd t
+passed-none k false false true c d m t = absurd t
+passed-none k false false false true d m t = absurd t
+passed-none k false false false false true m t = absurd t
+passed-none k false false false false false true t = absurd t
+passed-none k false false false false false false t = refl
+
+pub normal-below-5 : (han fu : ℕ) (yakuman : Bool) → level han fu yakuman ≡ Normal → han ≤ 4
+unfolding level
+normal-below-5 han fu yakuman e =
+    let high = eqb han 4 && leb 40 fu || eqb han 3 && leb 70 fu in
+    let none = passed-none (max (han / 13) 1) yakuman (leb 13 han) (leb 11 han) (leb 8 han) (leb 6 han) (leb 5 han || high) (subst (λ (l : ScoreLevel). T (isNormal l)) (sym e) tt) in
+    let h = leb-false 5 han (or-no (leb 5 han) high none) in
+    omega arith
+
+-- ---- basic points of at most 4 han
+power-le : (han : ℕ) → han ≤ 4 → 2 ^ (han + 2) ≤ 64
+power-le han h = leb→le _ _ (at 5 (λ n. leb (2 ^ (n + 2)) 64) tt han (omega arith))
+
+-- at most 4 han and a byte of fu: the shifted fu keep all their bits
+pub shift-fits : (fu han : ℕ) → fu < 256 → han ≤ 4 → (fu * 2 ^ (han + 2)) % 4294967296 ≡ fu * 2 ^ (han + 2)
+shift-fits fu han l h =
+    let p = power-le han h in
+    let q : fu ≤ 255 = omega arith in
+    let m = mul-le-mul q p in
+    mod-eq-of-lt (omega arith)
+
+-- ---- fu
+-- the products of a triplet's or a kan's fu are bytes
+pub set-fits : (base kan closed : ℕ) → base ≤ 4 → kan ≤ 4 → closed ≤ 2 → (kan * closed ≤ 8) × (base * (kan * closed) ≤ 32)
+set-fits base kan closed b k c = let inner = mul-le-mul k c in (inner, mul-le-mul b inner)

@@ -1,0 +1,53 @@
+-- Fu (minipoints) of a reading. These are definitions.
+use mathlib.Core.Bool.{Bool, _&&_, _||_, not, cond}
+use mathlib.Core.List.{List}
+use Prim.Native.Nat.{ℕ, _+_, _*_, _/_, max}
+use lib.Dec.{eqb}
+use Rattle.lists.specs.Fold.{any, sum}
+use Rattle.tile.specs.Tile.{isTerminalOrHonor}
+use Rattle.meld.specs.declared.Meld.{Meld}
+use Rattle.meld.specs.Meld.{isKan, isSequence}
+use Rattle.context.specs.declared.GameContext.{GameContext}
+use Rattle.context.specs.Context.{isTsumo}
+use Rattle.hand.specs.Reading.{Reading, pairs, orphans, standard}
+use Rattle.wait.specs.Wait.{closedRun, edge, middle, pinfu, weight}
+use Rattle.wait.specs.Concealed.{concealed, spared}
+
+-- a triplet: 2, doubled for terminals and honors, doubled where concealed; a kan four times as much; a sequence nothing
+abbrev pub meldFu : GameContext → Bool → Meld → ℕ
+meldFu w kept m =
+    cond (isSequence m) 0
+    (cond (isTerminalOrHonor (m .tile)) 4 2 * (cond (isKan m) 4 1 * cond (concealed w kept m) 2 1))
+
+-- 2 for a pair of dragons, 2 for the round wind, 2 for the seat wind
+abbrev pub pairFu : GameContext → ℕ → ℕ
+pairFu w p = 2 * weight w p
+
+-- 2 for a wait on the pair, on an edge or in the middle
+abbrev pub waitFu : GameContext → ℕ → List Meld → ℕ
+waitFu w p ms =
+    let t = w .«winning_tile» in
+    cond (eqb t p || (any (closedRun edge t) ms || any (closedRun middle t) ms)) 2 0
+
+-- 20, and 2 for a tsumo or 10 for a closed ron
+abbrev pub baseFu : GameContext → Bool → ℕ
+baseFu w opened = 20 + cond (isTsumo w) 2 (cond opened 0 10)
+
+abbrev pub roundUpTo10 : ℕ → ℕ
+roundUpTo10 n = (n + 9) / 10 * 10
+
+-- an open hand has at least 30
+abbrev pub atLeast30 : Bool → ℕ → ℕ
+atLeast30 opened n = cond opened (max n 30) n
+
+-- pinfu is 20 by tsumo and 30 by ron
+unfoldable pub standardFu : GameContext → Bool → ℕ → List Meld → ℕ
+standardFu w opened p ms =
+    cond (pinfu w opened (standard p ms)) (cond (isTsumo w) 20 30)
+    (atLeast30 opened (roundUpTo10 (baseFu w opened + sum (meldFu w (spared w ms)) ms + pairFu w p + waitFu w p ms)))
+
+-- seven pairs have 25, thirteen orphans 30
+unfoldable pub fu : GameContext → Bool → Reading → ℕ
+fu w opened (pairs ps) = 25
+fu w opened (orphans p) = 30
+fu w opened (standard p ms) = standardFu w opened p ms

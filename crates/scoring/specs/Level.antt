@@ -1,0 +1,29 @@
+-- Level and basic points of han and fu. These are definitions.
+use mathlib.Core.Bool.{Bool, _&&_, _||_, cond}
+use Prim.Native.Nat.{ℕ, _+_, _*_, _/_, _^_, max, min}
+use lib.Dec.{eqb, leb}
+use Rattle.scoring.specs.declared.ScoreLevel.{ScoreLevel}
+use Rattle.scoring.specs.declared.ScoreLevel.the-variants.{Normal, Mangan, Haneman, Baiman, Sanbaiman, Yakuman}
+
+-- a yakuman counts once for each 13 han; 13 han or more without one are a single one
+unfoldable pub level : ℕ → ℕ → Bool → ScoreLevel
+level han fu yakuman =
+    cond yakuman (Yakuman (max (han / 13) 1))
+    (cond (leb 13 han) (Yakuman 1)
+    (cond (leb 11 han) Sanbaiman
+    (cond (leb 8 han) Baiman
+    (cond (leb 6 han) Haneman
+    (cond (leb 5 han || (eqb han 4 && leb 40 fu || eqb han 3 && leb 70 fu)) Mangan Normal)))))
+
+-- the basic points of a level; at Normal fu times 2 to the power of han + 2, at most 2,000
+abbrev pub pointsAt : ScoreLevel → ℕ → ℕ
+pointsAt Normal n = min n 2000
+pointsAt Mangan n = 2000
+pointsAt Haneman n = 3000
+pointsAt Baiman n = 4000
+pointsAt Sanbaiman n = 6000
+pointsAt (Yakuman k) n = 8000 * k
+
+unfoldable pub basicPoints : ℕ → ℕ → Bool → ℕ
+unfolding level
+basicPoints han fu yakuman = pointsAt (level han fu yakuman) (fu * 2 ^ (han + 2))

@@ -1,0 +1,302 @@
+// Fu, level, basic points and payment (scoring.rs of agari).
+ghost use mathlib.Core.Path.{_≡_};
+ghost use mathlib.Core.Bool.{cond, _&&_, _||_};
+ghost use Prim.Native.Nat.{_+_, _*_, _/_, _^_, _≤_, max, min};
+ghost use lib.Dec.{eqb, leb};
+ghost use Rattle.lists.specs.Fold.{any, sum};
+ghost use Rattle.structure.specs.Structure.{readingOf};
+ghost use Rattle.wait.specs.Wait.{closedRun, edge, middle};
+ghost use Rattle.wait.specs.Concealed.{spared};
+ghost use Rattle.scoring.specs.Fu.{meldFu, pairFu, waitFu, baseFu, roundUpTo10, atLeast30, fu};
+ghost use Rattle.scoring.specs.Level.{level, basicPoints};
+ghost use Rattle.scoring.specs.Payment.{roundUpTo100, payment, paymentAnswer, totalAt};
+
+// Score limit levels. A yakuman carries how many times it counts.
+pub enum ScoreLevel {
+    Normal,
+    Mangan,
+    Haneman,
+    Baiman,
+    Sanbaiman,
+    Yakuman(u8),
+}
+
+// One case for each kind of settlement: a ron, a tsumo of the dealer, a tsumo of another player.
+pub enum Payment {
+    Ron {
+        from_discarder: u32,
+    },
+    DealerTsumo {
+        from_each: u32,
+    },
+    Tsumo {
+        from_dealer: u32,
+        from_non_dealer: u32,
+    },
+}
+
+// ---- level and basic points
+
+// How many yakuman the han of yakuman make: one for each 13, at least one.
+fn yakuman_count(han: u8) -> u8
+    ensures { λ r. ⌜ r ≡ max (han / 13) 1 ⌝ }
+{
+    let n = han / 13;
+    if n < 1 { 1 } else { n }
+}
+
+// Do han and fu reach mangan: 5 han, 4 han with 40 fu, 3 han with 70 fu?
+fn reaches_mangan(han: u8, fu: u8) -> bool
+    ensures { λ r. ⌜ r ≡ (leb 5 han || (eqb han 4 && leb 40 fu || eqb han 3 && leb 70 fu)) ⌝ }
+{
+    (5 <= han) | (((han == 4) & (40 <= fu)) | ((han == 3) & (70 <= fu)))
+}
+
+// The level of han and fu, with or without a yakuman.
+pub fn determine_score_level(han: u8, fu: u8, is_yakuman: bool) -> ScoreLevel
+    ensures { λ r. ⌜ r ≡ level han fu «is_yakuman» ⌝ }
+{
+    if is_yakuman {
+        return ScoreLevel::Yakuman(yakuman_count(han));
+    }
+    if 13 <= han {
+        return ScoreLevel::Yakuman(1);
+    }
+    if 11 <= han {
+        return ScoreLevel::Sanbaiman;
+    }
+    if 8 <= han {
+        return ScoreLevel::Baiman;
+    }
+    if 6 <= han {
+        return ScoreLevel::Haneman;
+    }
+    if reaches_mangan(han, fu) {
+        return ScoreLevel::Mangan;
+    }
+    ScoreLevel::Normal
+}
+
+// fu times 2 to the power of han + 2, for at most 4 han.
+fn fu_points(han: u8, fu: u8) -> u32
+    requires { ⌜ han ≤ 4 ⌝ }
+    ensures { λ r. ⌜ r ≡ fu * 2 ^ (han + 2) ⌝ }
+{
+    (fu as u32) << (han + 2)
+}
+
+// The basic points of han and fu, with or without a yakuman.
+pub fn calculate_basic_points(han: u8, fu: u8, is_yakuman: bool) -> u32
+    ensures { λ r. ⌜ r ≡ basicPoints han fu «is_yakuman» ⌝ }
+{
+    let level = determine_score_level(han, fu, is_yakuman);
+    match level {
+        ScoreLevel::Normal => at_most_2000(fu_points(han, fu)),
+        ScoreLevel::Mangan => 2000,
+        ScoreLevel::Haneman => 3000,
+        ScoreLevel::Baiman => 4000,
+        ScoreLevel::Sanbaiman => 6000,
+        ScoreLevel::Yakuman(n) => 8000 * (n as u32),
+    }
+}
+
+// The lower of a number and 2,000.
+fn at_most_2000(n: u32) -> u32
+    ensures { λ r. ⌜ r ≡ min n 2000 ⌝ }
+{
+    if n < 2000 { n } else { 2000 }
+}
+
+// ---- payment
+
+// A payer's amount, rounded up to 100.
+fn round_up_to_100(n: u32) -> u32
+    requires { ⌜ n ≤ 1000000 ⌝ }
+    ensures { λ r. ⌜ r ≡ roundUpTo100 n ⌝ }
+{
+    (n + 99) / 100 * 100
+}
+
+// Who pays what for basic points up to 152,000.
+pub fn calculate_payment(basic_points: u32, is_dealer: bool, is_tsumo: bool) -> Payment
+    requires { ⌜ «basic_points» ≤ 152000 ⌝ }
+    ensures { λ r. ⌜ r ≡ payment «is_tsumo» «is_dealer» «basic_points» ⌝ }
+{
+    if is_tsumo {
+        let single = round_up_to_100(basic_points);
+        let double = round_up_to_100(basic_points * 2);
+        if is_dealer {
+            return Payment::DealerTsumo { from_each: double };
+        }
+        return Payment::Tsumo {
+            from_dealer: double,
+            from_non_dealer: single,
+        };
+    }
+    if is_dealer {
+        return Payment::Ron {
+            from_discarder: round_up_to_100(basic_points * 6),
+        };
+    }
+    Payment::Ron {
+        from_discarder: round_up_to_100(basic_points * 4),
+    }
+}
+
+// A payment, or why there is none: 8 for a win type above 1, 13 for basic points above 152,000.
+pub enum PaymentAnswer {
+    Refused(u8),
+    Paid(Payment),
+}
+
+// Who pays what for any basic points and any win type, 0 for ron and 1 for tsumo.
+pub fn score_payment(basic_points: u32, is_dealer: bool, win_type: u8) -> PaymentAnswer
+    ensures { λ r. ⌜ r ≡ paymentAnswer «basic_points» «is_dealer» «win_type» ⌝ }
+{
+    if 1 < win_type {
+        return PaymentAnswer::Refused(8);
+    }
+    if 152000 < basic_points {
+        return PaymentAnswer::Refused(13);
+    }
+    PaymentAnswer::Paid(calculate_payment(basic_points, is_dealer, win_type == 1))
+}
+
+impl Payment {
+    // All that the winner receives, at a table of four.
+    pub fn total(self) -> u64
+        ensures { λ r. ⌜ r ≡ totalAt 4 self ⌝ }
+    {
+        match self {
+            Payment::Ron { from_discarder } => from_discarder as u64,
+            Payment::DealerTsumo { from_each } => (from_each as u64) * 3,
+            Payment::Tsumo {
+                from_dealer,
+                from_non_dealer,
+            } => (from_dealer as u64) + (from_non_dealer as u64) * 2,
+        }
+    }
+}
+
+// ---- fu
+
+// One number or another.
+fn pick(b: bool, yes: u8, no: u8) -> u8
+    ensures { λ r. ⌜ (r ≡ cond b yes no) × (r ≤ max yes no) ⌝ }
+{
+    if b { yes } else { no }
+}
+
+// The fu of a meld; `kept` where a closed sequence holds the winning tile.
+fn meld_fu_with_context(m: meld::Meld, w: context::GameContext, kept: bool) -> u8
+    ensures { λ r. ⌜ (r ≡ meldFu w kept m) × (r ≤ 32) ⌝ }
+{
+    if m.is_sequence() {
+        return 0;
+    }
+    let tile = tile::Tile(m.tile);
+    let base = pick(tile.is_terminal_or_honor(), 4, 2);
+    base * (pick(m.is_kan(), 4, 1) * pick(wait::is_concealed_set(m, w, kept), 2, 1))
+}
+
+// The fu of four melds.
+fn melds_fu(ms: [meld::Meld; 4], w: context::GameContext, kept: bool) -> u8
+    ensures { λ r. ⌜ (r ≡ sum (meldFu w kept) ms) × (r ≤ 128) ⌝ }
+{
+    meld_fu_with_context(ms[0], w, kept)
+        + (meld_fu_with_context(ms[1], w, kept)
+            + (meld_fu_with_context(ms[2], w, kept) + meld_fu_with_context(ms[3], w, kept)))
+}
+
+// The fu of a pair: 2 for each time that it counts, so 4 for a wind that is both round and seat wind.
+fn pair_fu(pair: u8, w: context::GameContext) -> u8
+    ensures { λ r. ⌜ (r ≡ pairFu w pair) × (r ≤ 6) ⌝ }
+{
+    match wait::weight(w, pair) {
+        0 => 0,
+        1 => 2,
+        2 => 4,
+        _ => 6,
+    }
+}
+
+// Can the tile have completed one of the melds at an edge?
+fn any_penchan(ms: [meld::Meld; 4], t: u8) -> bool
+    ensures { λ r. ⌜ r ≡ any (closedRun edge t) ms ⌝ }
+{
+    wait::is_penchan(ms[0], t)
+        | (wait::is_penchan(ms[1], t) | (wait::is_penchan(ms[2], t) | wait::is_penchan(ms[3], t)))
+}
+
+// Can it have completed one of them in the middle?
+fn any_kanchan(ms: [meld::Meld; 4], t: u8) -> bool
+    ensures { λ r. ⌜ r ≡ any (closedRun middle t) ms ⌝ }
+{
+    wait::is_kanchan(ms[0], t)
+        | (wait::is_kanchan(ms[1], t) | (wait::is_kanchan(ms[2], t) | wait::is_kanchan(ms[3], t)))
+}
+
+// The fu of the wait: 2 on the pair, on an edge or in the middle.
+fn wait_fu(ms: [meld::Meld; 4], pair: u8, w: context::GameContext) -> u8
+    ensures { λ r. ⌜ (r ≡ waitFu w pair ms) × (r ≤ 2) ⌝ }
+{
+    let t = w.winning_tile;
+    pick(
+        (t == pair) | (any_penchan(ms, t) | any_kanchan(ms, t)),
+        2,
+        0,
+    )
+}
+
+// The fu that every hand has: 20, and 2 for a tsumo or 10 for a closed ron.
+fn base_fu(w: context::GameContext, opened: bool) -> u8
+    ensures { λ r. ⌜ (r ≡ baseFu w opened) × (r ≤ 30) ⌝ }
+{
+    20 + pick(w.is_tsumo(), 2, pick(opened, 0, 10))
+}
+
+// The higher of a number and 30.
+fn at_least_30(n: u8) -> u8
+    ensures { λ r. ⌜ r ≡ max n 30 ⌝ }
+{
+    if n < 30 { 30 } else { n }
+}
+
+// Fu rounded up to 10; an open hand has at least 30.
+fn rounded_fu(n: u8, opened: bool) -> u8
+    requires { ⌜ n ≤ 166 ⌝ }
+    ensures { λ r. ⌜ r ≡ atLeast30 opened (roundUpTo10 n) ⌝ }
+{
+    let up = (n + 9) / 10 * 10;
+    if opened {
+        return at_least_30(up);
+    }
+    up
+}
+
+// The fu of a pair and four melds that are no pinfu, before rounding.
+fn raw_fu(ms: [meld::Meld; 4], pair: u8, w: context::GameContext, opened: bool) -> u8
+    ensures { λ r. ⌜ (r ≡ baseFu w opened + sum (meldFu w (spared w ms)) ms + pairFu w pair + waitFu w pair ms) × (r ≤ 166) ⌝ }
+{
+    let kept = wait::winning_tile_in_closed_sequence(ms, w);
+    let melds = melds_fu(ms, w, kept);
+    base_fu(w, opened) + melds + pair_fu(pair, w) + wait_fu(ms, pair, w)
+}
+
+// The fu of a reading: 25 for seven pairs, 30 for thirteen orphans; pinfu has 20 by tsumo and 30 by ron.
+pub fn calculate_fu(h: structure::Hand, w: context::GameContext, opened: bool) -> u8
+    ensures { λ r. ⌜ r ≡ fu w opened (readingOf h) ⌝ }
+{
+    let s = h.structure;
+    match s {
+        structure::HandStructure::Standard { pair } => {
+            if wait::is_pinfu(h, w, opened) {
+                return pick(w.is_tsumo(), 20, 30);
+            }
+            let ms = h.melds;
+            rounded_fu(raw_fu(ms, pair.0, w, opened), opened)
+        }
+        structure::HandStructure::Chiitoitsu => 25,
+        structure::HandStructure::Kokushi { pair: _ } => 30,
+    }
+}
