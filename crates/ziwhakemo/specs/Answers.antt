@@ -1,7 +1,35 @@
 -- The operations' answers as plain numbers. These are definitions.
 use Rattle.unit.specs.declared.Listing.{Listing}
 use Rattle.unit.specs.Listing.{numberOf, readingsOf, bytesOf}
+use Rattle.scoring.specs.declared.ScoreLevel.{ScoreLevel}
+use Rattle.scoring.specs.declared.ScoreLevel.the-variants.{Normal, Mangan, Haneman, Baiman, Sanbaiman, Yakuman}
+use Rattle.scoring.specs.declared.Payment.{Payment}
+use Rattle.scoring.specs.declared.Payment.the-variants.{Ron, DealerTsumo, Tsumo}
+use Rattle.scoring.specs.declared.PaymentAnswer.{PaymentAnswer}
+use Rattle.scoring.specs.declared.PaymentAnswer.the-variants.{Refused, Paid}
+use Rattle.scoring.specs.Payment.{totalAt}
 use Rattle.ziwhakemo.specs.declared.ListingAnswer.{ListingAnswer}
+use Rattle.ziwhakemo.specs.declared.LevelAnswer.{LevelAnswer}
+use Rattle.ziwhakemo.specs.declared.PaymentValues.{PaymentValues}
 
 abbrev pub listingAnswer : Listing → ListingAnswer
 listingAnswer a = record { number = numberOf a; readings = readingsOf a; bytes = bytesOf a }
+
+-- the level's place in ScoreLevel, and how many times a yakuman counts
+abbrev pub levelAnswer : ScoreLevel → LevelAnswer
+levelAnswer Normal = record { level = 0; count = 0 }
+levelAnswer Mangan = record { level = 1; count = 0 }
+levelAnswer Haneman = record { level = 2; count = 0 }
+levelAnswer Baiman = record { level = 3; count = 0 }
+levelAnswer Sanbaiman = record { level = 4; count = 0 }
+levelAnswer (Yakuman n) = record { level = 5; count = n }
+
+-- what each non-dealer, the dealer and the discarder pays, and the total at a table of four
+abbrev pub paid : Payment → PaymentValues
+paid (Ron n) = record { number = 0; «from_non_dealer» = 0; «from_dealer» = 0; «from_discarder» = n; total = totalAt 4 (Ron n) }
+paid (DealerTsumo n) = record { number = 0; «from_non_dealer» = n; «from_dealer» = 0; «from_discarder» = 0; total = totalAt 4 (DealerTsumo n) }
+paid (Tsumo d n) = record { number = 0; «from_non_dealer» = n; «from_dealer» = d; «from_discarder» = 0; total = totalAt 4 (Tsumo d n) }
+
+abbrev pub paymentValues : PaymentAnswer → PaymentValues
+paymentValues (Refused n) = record { number = n; «from_non_dealer» = 0; «from_dealer» = 0; «from_discarder» = 0; total = 0 }
+paymentValues (Paid p) = paid p

@@ -2,7 +2,9 @@
 ghost use mathlib.Core.Path.{_≡_};
 ghost use lib.ListN.{length};
 ghost use Rattle.unit.specs.Listing.{listing, written};
-ghost use Rattle.ziwhakemo.specs.Answers.{listingAnswer};
+ghost use Rattle.scoring.specs.Level.{level, basicPoints};
+ghost use Rattle.scoring.specs.Payment.{paymentAnswer};
+ghost use Rattle.ziwhakemo.specs.Answers.{listingAnswer, levelAnswer, paid, paymentValues};
 
 // The answer to a listing: number 0 where accepted, else the refusal; the count of readings; the count of bytes written.
 #[repr(C)]
@@ -34,5 +36,102 @@ pub extern "C" fn ziwhakemo_list_readings(
             readings: readings,
             bytes: bytes,
         },
+    }
+}
+
+// A level: 0 Normal, 1 Mangan, 2 Haneman, 3 Baiman, 4 Sanbaiman, 5 Yakuman, and how many times a yakuman counts.
+#[repr(C)]
+pub struct LevelAnswer {
+    pub level: u8,
+    pub count: u8,
+}
+
+// The level of han and fu, with or without a yakuman.
+#[no_mangle]
+pub extern "C" fn ziwhakemo_score_level(han: u8, fu: u8, is_yakuman: bool) -> LevelAnswer
+    ensures { λ r. ⌜ r ≡ levelAnswer (level han fu «is_yakuman») ⌝ }
+{
+    let answer = scoring::determine_score_level(han, fu, is_yakuman);
+    match answer {
+        scoring::ScoreLevel::Normal => LevelAnswer { level: 0, count: 0 },
+        scoring::ScoreLevel::Mangan => LevelAnswer { level: 1, count: 0 },
+        scoring::ScoreLevel::Haneman => LevelAnswer { level: 2, count: 0 },
+        scoring::ScoreLevel::Baiman => LevelAnswer { level: 3, count: 0 },
+        scoring::ScoreLevel::Sanbaiman => LevelAnswer { level: 4, count: 0 },
+        scoring::ScoreLevel::Yakuman(n) => LevelAnswer { level: 5, count: n },
+    }
+}
+
+// The basic points of han and fu, with or without a yakuman.
+#[no_mangle]
+pub extern "C" fn ziwhakemo_basic_points(han: u8, fu: u8, is_yakuman: bool) -> u32
+    ensures { λ r. ⌜ r ≡ basicPoints han fu «is_yakuman» ⌝ }
+{
+    scoring::calculate_basic_points(han, fu, is_yakuman)
+}
+
+// A payment: number 0 where it is given, else the refusal; what each non-dealer, the dealer and the discarder pays (0 for who does not),
+// and the total.
+#[repr(C)]
+pub struct PaymentValues {
+    pub number: u32,
+    pub from_non_dealer: u32,
+    pub from_dealer: u32,
+    pub from_discarder: u32,
+    pub total: u64,
+}
+
+// The values of a payment that is given.
+fn values_of(p: scoring::Payment) -> PaymentValues
+    ensures { λ r. ⌜ r ≡ paid p ⌝ }
+{
+    let total = p.total();
+    match p {
+        scoring::Payment::Ron { from_discarder } => PaymentValues {
+            number: 0,
+            from_non_dealer: 0,
+            from_dealer: 0,
+            from_discarder: from_discarder,
+            total: total,
+        },
+        scoring::Payment::DealerTsumo { from_each } => PaymentValues {
+            number: 0,
+            from_non_dealer: from_each,
+            from_dealer: 0,
+            from_discarder: 0,
+            total: total,
+        },
+        scoring::Payment::Tsumo {
+            from_dealer,
+            from_non_dealer,
+        } => PaymentValues {
+            number: 0,
+            from_non_dealer: from_non_dealer,
+            from_dealer: from_dealer,
+            from_discarder: 0,
+            total: total,
+        },
+    }
+}
+
+// Who pays what for any basic points and any win type, 0 for ron and 1 for tsumo.
+#[no_mangle]
+pub extern "C" fn ziwhakemo_payment(
+    basic_points: u32,
+    is_dealer: bool,
+    win_type: u8,
+) -> PaymentValues
+    ensures { λ r. ⌜ r ≡ paymentValues (paymentAnswer «basic_points» «is_dealer» «win_type») ⌝ }
+{
+    let answer = scoring::score_payment(basic_points, is_dealer, win_type);
+    match answer {
+        scoring::PaymentAnswer::Refused(number) => PaymentValues {
+            number: number as u32,
+            from_non_dealer: 0,
+            from_dealer: 0,
+            from_discarder: 0,
+            total: 0,
+        },
+        scoring::PaymentAnswer::Paid(p) => values_of(p),
     }
 }
