@@ -1,0 +1,3 @@
+pub mod Otherwise
+pub mod Lines
+pub mod Peikou

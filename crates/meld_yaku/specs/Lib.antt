@@ -1,0 +1,3 @@
+pub mod Melds
+pub mod Yakuman
+pub mod Standard

@@ -1,0 +1,85 @@
+-- Yaku that ask the pair p and the melds ms of a standard reading, in an order that does not matter. These are definitions.
+use mathlib.Core.Bool.{Bool, false, _&&_, _||_, not, cond}
+use mathlib.Core.List.{List, [], _∷_, map}
+use Prim.Native.Nat.{ℕ, _+_, _*_, _/_, _%_}
+use lib.Dec.{eqb, leb}
+use Rattle.lists.specs.Fold.{all, any, count, sum}
+use Rattle.tile.specs.Tile.{isDragon, isHonor, isTerminal, isTerminalOrHonor, isWind}
+use Rattle.meld.specs.declared.Meld.{Meld}
+use Rattle.meld.specs.Meld.{isKan, isSequence, isTripletOrKan}
+use Rattle.context.specs.declared.GameContext.{GameContext}
+use Rattle.wait.specs.Wait.{weight}
+use Rattle.wait.specs.Concealed.{concealed, spared}
+
+-- ---- one meld
+-- a sequence that starts at the tile; a triplet or kan of a tile that passes the question
+abbrev pub runFrom : ℕ → Meld → Bool
+runFrom t m = isSequence m && eqb t (m .tile)
+
+abbrev pub setOf : (ℕ → Bool) → Meld → Bool
+setOf q m = isTripletOrKan m && q (m .tile)
+
+-- 123 or 789
+abbrev pub endRun : Meld → Bool
+endRun m = isSequence m && (eqb (m .tile % 9) 0 || eqb (m .tile % 9) 6)
+
+-- ---- triplets and kans
+unfoldable pub toitoi : List Meld → Bool
+toitoi ms = all isTripletOrKan ms
+
+unfoldable pub kans : List Meld → ℕ
+kans ms = count isKan ms
+
+-- the tally of an honor: its triplets and kans, each as often as the honor counts
+unfoldable pub yakuhai : GameContext → List Meld → ℕ → ℕ
+yakuhai w ms t = count (setOf (eqb t)) ms * weight w t
+
+unfoldable pub dragons : List Meld → ℕ
+dragons ms = count (setOf isDragon) ms
+
+unfoldable pub winds : List Meld → ℕ
+winds ms = count (setOf isWind) ms
+
+unfoldable pub sanAnkou : GameContext → List Meld → Bool
+sanAnkou w ms = eqb (count (concealed w (spared w ms)) ms) 3
+
+-- ---- sequences
+-- some line of numbers has a meld for each
+abbrev pub anyLine : (ℕ → Meld → Bool) → List Meld → List (List ℕ) → Bool
+anyLine q ms lines = any (λ line. all (λ t. any (q t) ms) line) lines
+
+-- 123 456 789 of a suit
+abbrev pub straights : List (List ℕ)
+straights = (0 ∷ 3 ∷ 6 ∷ []) ∷ (9 ∷ 12 ∷ 15 ∷ []) ∷ (18 ∷ 21 ∷ 24 ∷ []) ∷ []
+
+unfoldable pub ittsu : List Meld → Bool
+ittsu ms = anyLine runFrom ms straights
+
+-- the same number in man, pin and sou
+abbrev pub threeSuits : ℕ → List ℕ
+threeSuits n = n ∷ (n + 9) ∷ (n + 18) ∷ []
+
+unfoldable pub sanshokuDoujun : List Meld → Bool
+sanshokuDoujun ms = anyLine runFrom ms (map threeSuits (0 ∷ 1 ∷ 2 ∷ 3 ∷ 4 ∷ 5 ∷ 6 ∷ []))
+
+unfoldable pub sanshokuDoukou : List Meld → Bool
+sanshokuDoukou ms = anyLine (λ t. setOf (eqb t)) ms (map threeSuits (0 ∷ 1 ∷ 2 ∷ 3 ∷ 4 ∷ 5 ∷ 6 ∷ 7 ∷ 8 ∷ []))
+
+-- pairs of identical sequences: three alike make one pair, four make two; one is Iipeikou, two are Ryanpeikou
+abbrev pub starts : List ℕ
+starts = 0 ∷ 1 ∷ 2 ∷ 3 ∷ 4 ∷ 5 ∷ 6 ∷ 9 ∷ 10 ∷ 11 ∷ 12 ∷ 13 ∷ 14 ∷ 15 ∷ 18 ∷ 19 ∷ 20 ∷ 21 ∷ 22 ∷ 23 ∷ 24 ∷ []
+
+unfoldable pub peikou : List Meld → ℕ
+peikou ms = sum (λ t. count (runFrom t) ms / 2) starts
+
+-- ---- terminals and honors in each group, and a sequence
+unfoldable pub chanta : ℕ → List Meld → Bool
+chanta p ms = isTerminalOrHonor p && (any isSequence ms && all (λ m. endRun m || setOf isTerminalOrHonor m) ms)
+
+unfoldable pub junchan : ℕ → List Meld → Bool
+junchan p ms = isTerminal p && (any isSequence ms && all (λ m. endRun m || setOf isTerminal m) ms)
+
+-- two dragon sets and a pair of the third
+unfoldable pub shousangen : ℕ → List Meld → Bool
+unfolding dragons
+shousangen p ms = isDragon p && eqb (dragons ms) 2
