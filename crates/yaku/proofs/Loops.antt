@@ -1,0 +1,59 @@
+-- What a turn of each loop does, and what the stores of the three parts make. Assumes nothing.
+use mathlib.Core.Path.{_≡_, refl, sym, ap, ap₂, _∙_}
+use mathlib.Core.Bool.{Bool, true, false, _||_, or-false}
+use mathlib.Core.List.{List, [], _∷_, _++_}
+use Prim.Native.Nat.{ℕ, suc, _+_, _*_, _<_, _≤_}
+use native.Mathlib.Numerals.{add-one}
+use native.Mathlib.Omega.{arith}
+use lib.ListN.{length, getD, drop, set, replicate, drop-of-length-le}
+use lib.Seq.{drop-cons, sets}
+use Rattle.lists.specs.Fold.{any}
+use Rattle.structure.proofs.Four.{elements}
+use Rattle.yaku.specs.Han.{dot}
+
+-- ---- is there one that passes the question: b is the answer so far
+pub any-turn : (q : ℕ → Bool) (l : List ℕ) (i : ℕ) (b : Bool) → i < length l → ((b || q (getD l i 0)) || any q (drop (i + 1) l)) ≡ (b || any q (drop i l))
+any-turn q l i true h = refl
+any-turn q l i false h = rw (add-one, drop-cons l i 0)
+
+pub any-end : (q : ℕ → Bool) (l : List ℕ) (i : ℕ) (b : Bool) → length l ≤ i → (b || any q (drop i l)) ≡ b
+any-end q l i b h = ap (λ (m : List ℕ). b || any q m) (drop-of-length-le l {i = i} h) ∙ or-false b
+
+-- ---- the sum of values, each as often as its tally says, from place i on
+unfoldable pub dotFrom : List ℕ → List ℕ → ℕ → ℕ
+dotFrom vs ns i = dot (drop i vs) (drop i ns)
+
+pub dot-all : (vs ns : List ℕ) → dotFrom vs ns 0 ≡ dot vs ns
+unfolding dotFrom
+dot-all vs ns = refl
+
+pub dot-turn : (vs ns : List ℕ) (i : ℕ) → i < length vs → i < length ns → dotFrom vs ns i ≡ getD vs i 0 * getD ns i 0 + dotFrom vs ns (i + 1)
+unfolding dotFrom
+dot-turn vs ns i h k = rw (add-one, drop-cons vs i 0, drop-cons ns i 0)
+
+pub dot-end : (vs ns : List ℕ) (i : ℕ) → length vs ≤ i → dotFrom vs ns i ≡ 0
+unfolding dotFrom
+dot-end vs ns i h = ap (λ (l : List ℕ). dot l (drop i ns)) (drop-of-length-le vs {i = i} h)
+
+-- ---- stores: one, and the rest
+pub sets-turn : (d s : List ℕ) (at i : ℕ) → i < length s → sets d (at + i) (drop i s) ≡ sets (set d (at + i) (getD s i 0)) (at + (i + 1)) (drop (i + 1) s)
+sets-turn d s at i h =
+    ap (λ (l : List ℕ). sets d (at + i) l) (drop-cons s i 0 h)
+    ∙ ap (λ (k : ℕ). sets (set d (at + i) (getD s i 0)) k (drop (suc i) s)) e
+    ∙ ap (λ (k : ℕ). sets (set d (at + i) (getD s i 0)) (at + (i + 1)) (drop k s)) (sym (add-one i))
+  where
+    e : suc (at + i) ≡ at + (i + 1)
+    e = omega arith
+
+-- ---- the parts in their places
+module _ (c : List ℕ) (k : length c ≡ 15) where
+  pub last-part : sets (replicate 47 0) 32 c ≡ replicate 32 0 ++ c
+  last-part =
+      ap (λ (m : List ℕ). sets (replicate 47 0) 32 m) (elements 0 15 c k)
+      ∙ ap (λ (m : List ℕ). replicate 32 0 ++ m) (sym (elements 0 15 c k))
+
+  pub all-parts : (a b : List ℕ) → length a ≡ 17 → length b ≡ 15 → sets (sets (sets (replicate 47 0) 32 c) 0 a) 17 b ≡ (a ++ b) ++ c
+  all-parts a b h i =
+      ap (λ (m : List ℕ). sets (sets m 0 a) 17 b) last-part
+      ∙ ap₂ (λ (x y : List ℕ). sets (sets (replicate 32 0 ++ c) 0 x) 17 y) (elements 0 17 a h) (elements 0 15 b i)
+      ∙ sym (ap₂ (λ (x y : List ℕ). (x ++ y) ++ c) (elements 0 17 a h) (elements 0 15 b i))

@@ -1,0 +1,359 @@
+// The tallies of a reading and their han (yaku.rs of agari: detect_yaku_with_context).
+ghost use mathlib.Core.Path.{_≡_};
+ghost use mathlib.Core.Bool.{true, false, not, cond};
+ghost use mathlib.Core.List.{_++_, map};
+ghost use Prim.Native.Nat.{_+_, _≤_};
+ghost use lib.Dec.{eqb};
+ghost use lib.ListN.{length, replicate};
+ghost use lib.Seq.{sets};
+ghost use Rattle.lists.specs.Fold.{any, one};
+ghost use Rattle.structure.specs.Structure.{readingOf};
+ghost use Rattle.meld_yaku.specs.Standard.{ofStandard};
+ghost use Rattle.yaku.specs.Tally.{isChiitoitsu, unlessOrphans, orphansWon, oneHan, moreHan, yakuman, isYakuman, ordinary, tallies};
+ghost use Rattle.yaku.specs.Han.{hanOf, dot, han};
+
+// What is found of a reading: a tally for each yaku, their han, and whether there is a yakuman among them.
+pub struct YakuResult {
+    pub tallies: [u8; 47],
+    pub han: u8,
+    pub is_yakuman: bool,
+}
+
+// Is it seven pairs?
+fn is_chiitoitsu(h: structure::Hand) -> bool
+    ensures { λ r. ⌜ r ≡ isChiitoitsu (readingOf h) ⌝ }
+{
+    let s = h.structure;
+    let structure::HandStructure::Chiitoitsu = s else {
+        return false;
+    };
+    true
+}
+
+// The answer to a question of the tiles; no for thirteen orphans.
+fn unless_orphans(q: bool, h: structure::Hand) -> bool
+    ensures { λ r. ⌜ r ≡ unlessOrphans q (readingOf h) ⌝ }
+{
+    let s = h.structure;
+    match s {
+        structure::HandStructure::Standard { pair: _ } => q,
+        structure::HandStructure::Chiitoitsu => q,
+        structure::HandStructure::Kokushi { pair: _ } => false,
+    }
+}
+
+// The answer to a question of the tiles; no unless they are a pair and four melds.
+fn if_standard(q: bool, h: structure::Hand) -> bool
+    ensures { λ r. ⌜ r ≡ ofStandard (λ p ms. q) (readingOf h) ⌝ }
+{
+    let s = h.structure;
+    let structure::HandStructure::Standard { pair: _ } = s else {
+        return false;
+    };
+    q
+}
+
+// Are they thirteen orphans, won on the doubled tile?
+fn won_on_pair(h: structure::Hand, w: context::GameContext) -> bool
+    ensures { λ r. ⌜ r ≡ orphansWon w true (readingOf h) ⌝ }
+{
+    let s = h.structure;
+    let structure::HandStructure::Kokushi { pair } = s else {
+        return false;
+    };
+    w.winning_tile == pair.0
+}
+
+// Are they thirteen orphans, won on another tile?
+fn won_beside_pair(h: structure::Hand, w: context::GameContext) -> bool
+    ensures { λ r. ⌜ r ≡ orphansWon w false (readingOf h) ⌝ }
+{
+    let s = h.structure;
+    let structure::HandStructure::Kokushi { pair } = s else {
+        return false;
+    };
+    !(w.winning_tile == pair.0)
+}
+
+// The tallies of one han, Riichi to HouteiRaoyui.
+fn one_han(
+    h: structure::Hand,
+    s: tile_yaku::TileYaku,
+    w: context::GameContext,
+    opened: bool,
+) -> [u8; 17]
+    ensures { λ r. ⌜ r ≡ oneHan w opened s (readingOf h) ⌝ }
+{
+    let tsumo = w.is_tsumo();
+    let riichi = w.is_riichi & !opened;
+    let rinshan = w.is_rinshan & tsumo;
+    [
+        wait::one_if(riichi & !w.is_double_riichi),
+        wait::one_if(riichi & (w.is_ippatsu & !rinshan)),
+        wait::one_if(tsumo & !opened),
+        wait::one_if(unless_orphans(s.tanyao, h)),
+        wait::one_if(wait::is_pinfu(h, w, opened)),
+        wait::one_if(meld_yaku::check_iipeikou(h, opened)),
+        meld_yaku::check_yakuhai(h, w, 27),
+        meld_yaku::check_yakuhai(h, w, 28),
+        meld_yaku::check_yakuhai(h, w, 29),
+        meld_yaku::check_yakuhai(h, w, 30),
+        meld_yaku::check_yakuhai(h, w, 31),
+        meld_yaku::check_yakuhai(h, w, 32),
+        meld_yaku::check_yakuhai(h, w, 33),
+        wait::one_if(rinshan),
+        wait::one_if(w.is_chankan & !tsumo),
+        wait::one_if(w.is_last_tile & (tsumo & !w.is_rinshan)),
+        wait::one_if(w.is_last_tile & !tsumo),
+    ]
+}
+
+// The tallies of more han, DoubleRiichi to Chinitsu.
+fn more_han(
+    h: structure::Hand,
+    s: tile_yaku::TileYaku,
+    w: context::GameContext,
+    opened: bool,
+) -> [u8; 15]
+    ensures { λ r. ⌜ r ≡ moreHan w opened s (readingOf h) ⌝ }
+{
+    [
+        wait::one_if((w.is_riichi & !opened) & w.is_double_riichi),
+        wait::one_if(meld_yaku::check_toitoi(h)),
+        wait::one_if(meld_yaku::check_sanshoku(h)),
+        wait::one_if(meld_yaku::check_sanshoku_doukou(h)),
+        wait::one_if(meld_yaku::check_ittsu(h)),
+        wait::one_if(is_chiitoitsu(h)),
+        wait::one_if(meld_yaku::check_chanta(h)),
+        wait::one_if(meld_yaku::check_sanankou(h, w)),
+        wait::one_if(meld_yaku::check_kantsu(h, 3)),
+        wait::one_if(unless_orphans(s.honroutou, h)),
+        wait::one_if(meld_yaku::check_shousangen(h)),
+        wait::one_if(unless_orphans(s.honitsu, h)),
+        wait::one_if(meld_yaku::check_junchan(h)),
+        wait::one_if(meld_yaku::check_ryanpeikou(h, opened)),
+        wait::one_if(unless_orphans(s.chinitsu, h)),
+    ]
+}
+
+// The tallies of yakuman, Tenhou to JunseiChuurenPoutou.
+fn yakuman_tallies(
+    h: structure::Hand,
+    s: tile_yaku::TileYaku,
+    w: context::GameContext,
+    opened: bool,
+) -> [u8; 15]
+    ensures { λ r. ⌜ r ≡ map one (yakuman w opened s (readingOf h)) ⌝ }
+{
+    let tsumo = w.is_tsumo();
+    let dealer = w.is_dealer();
+    [
+        wait::one_if(w.is_tenhou & (tsumo & (!opened & dealer))),
+        wait::one_if(w.is_chiihou & (tsumo & (!opened & !dealer))),
+        wait::one_if(won_beside_pair(h, w)),
+        wait::one_if(meld_yaku::check_suuankou(h, w)),
+        wait::one_if(meld_yaku::check_daisangen(h)),
+        wait::one_if(meld_yaku::check_shousuushii(h)),
+        wait::one_if(meld_yaku::check_daisuushii(h)),
+        wait::one_if(unless_orphans(s.tsuuiisou, h)),
+        wait::one_if(unless_orphans(s.chinroutou & !(is_chiitoitsu(h) & s.tsuuiisou), h)),
+        wait::one_if(if_standard(s.ryuuiisou, h)),
+        wait::one_if(if_standard(!opened & (s.nine_gates & !s.pure_wait), h)),
+        wait::one_if(meld_yaku::check_kantsu(h, 4)),
+        wait::one_if(won_on_pair(h, w)),
+        wait::one_if(meld_yaku::check_suuankou_tanki(h, w)),
+        wait::one_if(if_standard(!opened & (s.nine_gates & s.pure_wait), h)),
+    ]
+}
+
+// Is one of the tallies above 0?
+fn any_tally(tallies: [u8; 15]) -> bool
+    ensures { λ r. ⌜ r ≡ any (λ n. not (eqb n 0)) tallies ⌝ }
+{
+    let mut found = false;
+    for i in 0..15 {
+        found = found | !(tallies[i] == 0);
+    }
+    found
+}
+
+// Stores the part from `at` on.
+fn put(out: &mut [u8; 47], at: usize, part: &[u8])
+    requires { ⌜ at + length (now part) ≤ 47 ⌝ }
+    ensures { λ _. ⌜ now (out .exit) ≡ sets (now (out .entry)) at (now (part .entry)) ⌝ }
+{
+    for i in 0..part.len() {
+        out[at + i] = part[i];
+    }
+}
+
+// All tallies, from those of yakuman: a yakuman leaves every other yaku out.
+fn all_tallies(
+    h: structure::Hand,
+    s: tile_yaku::TileYaku,
+    w: context::GameContext,
+    opened: bool,
+    yakuman: [u8; 15],
+    is_yakuman: bool,
+) -> [u8; 47]
+    ensures { λ r. ⌜ r ≡ cond «is_yakuman» (replicate 32 0) (ordinary w opened s (readingOf h)) ++ yakuman ⌝ }
+{
+    let mut all = [0u8; 47];
+    put(&mut all, 32, &yakuman);
+    if is_yakuman {
+        return all;
+    }
+    let one_han = one_han(h, s, w, opened);
+    let more_han = more_han(h, s, w, opened);
+    put(&mut all, 0, &one_han);
+    put(&mut all, 17, &more_han);
+    all
+}
+
+// The han of each entry of the tallies, in a closed hand and in an open one.
+const HAN_CLOSED: [u8; 47] = [
+    1, // Riichi
+    1, // Ippatsu
+    1, // MenzenTsumo
+    1, // Tanyao
+    1, // Pinfu
+    1, // Iipeikou
+    1, // Yakuhai(East)
+    1, // Yakuhai(South)
+    1, // Yakuhai(West)
+    1, // Yakuhai(North)
+    1, // Yakuhai(White)
+    1, // Yakuhai(Green)
+    1, // Yakuhai(Red)
+    1, // RinshanKaihou
+    1, // Chankan
+    1, // HaiteiRaoyue
+    1, // HouteiRaoyui
+    2, // DoubleRiichi
+    2, // Toitoi
+    2, // SanshokuDoujun
+    2, // SanshokuDoukou
+    2, // Ittsu
+    2, // Chiitoitsu
+    2, // Chanta
+    2, // SanAnkou
+    2, // SanKantsu
+    2, // Honroutou
+    2, // Shousangen
+    3, // Honitsu
+    3, // Junchan
+    3, // Ryanpeikou
+    6, // Chinitsu
+    13, // Tenhou
+    13, // Chiihou
+    13, // KokushiMusou
+    13, // Suuankou
+    13, // Daisangen
+    13, // Shousuushii
+    26, // Daisuushii
+    13, // Tsuuiisou
+    13, // Chinroutou
+    13, // Ryuuiisou
+    13, // ChuurenPoutou
+    13, // SuuKantsu
+    26, // Kokushi13Wait
+    26, // SuuankouTanki
+    26, // JunseiChuurenPoutou
+];
+
+const HAN_OPEN: [u8; 47] = [
+    0, // Riichi
+    0, // Ippatsu
+    0, // MenzenTsumo
+    1, // Tanyao
+    0, // Pinfu
+    0, // Iipeikou
+    1, // Yakuhai(East)
+    1, // Yakuhai(South)
+    1, // Yakuhai(West)
+    1, // Yakuhai(North)
+    1, // Yakuhai(White)
+    1, // Yakuhai(Green)
+    1, // Yakuhai(Red)
+    1, // RinshanKaihou
+    1, // Chankan
+    1, // HaiteiRaoyue
+    1, // HouteiRaoyui
+    0, // DoubleRiichi
+    2, // Toitoi
+    1, // SanshokuDoujun
+    2, // SanshokuDoukou
+    1, // Ittsu
+    2, // Chiitoitsu
+    1, // Chanta
+    2, // SanAnkou
+    2, // SanKantsu
+    2, // Honroutou
+    2, // Shousangen
+    2, // Honitsu
+    2, // Junchan
+    0, // Ryanpeikou
+    5, // Chinitsu
+    0, // Tenhou
+    0, // Chiihou
+    0, // KokushiMusou
+    0, // Suuankou
+    13, // Daisangen
+    13, // Shousuushii
+    26, // Daisuushii
+    13, // Tsuuiisou
+    13, // Chinroutou
+    13, // Ryuuiisou
+    0, // ChuurenPoutou
+    13, // SuuKantsu
+    0, // Kokushi13Wait
+    0, // SuuankouTanki
+    0, // JunseiChuurenPoutou
+];
+
+// The han of each entry of the tallies.
+fn han_table(opened: bool) -> [u8; 47]
+    ensures { λ r. ⌜ r ≡ hanOf opened ⌝ }
+{
+    if opened {
+        return HAN_OPEN;
+    }
+    HAN_CLOSED
+}
+
+fn wide(x: u8) -> u32
+    ensures { λ r. ⌜ (r ≡ x) × (r ≤ 255) ⌝ }
+{
+    x as u32
+}
+
+// The sum of each value as often as its tally says.
+fn sum_of(values: [u8; 47], tallies: [u8; 47]) -> u32
+    ensures { λ r. ⌜ r ≡ dot values tallies ⌝ }
+{
+    let mut han = 0;
+    for i in 0..47 {
+        han += wide(values[i]) * wide(tallies[i]);
+    }
+    han
+}
+
+// What is found of a reading.
+pub fn detect_yaku_with_context(
+    h: structure::Hand,
+    s: tile_yaku::TileYaku,
+    w: context::GameContext,
+    opened: bool,
+) -> YakuResult
+    ensures { λ r. ⌜ (r .tallies ≡ tallies w opened s (readingOf h)) × ((r .han ≡ han w opened s (readingOf h)) × (r .«is_yakuman» ≡ isYakuman w opened s (readingOf h))) ⌝ }
+{
+    let yakuman = yakuman_tallies(h, s, w, opened);
+    let is_yakuman = any_tally(yakuman);
+    let tallies = all_tallies(h, s, w, opened, yakuman, is_yakuman);
+    let han = sum_of(han_table(opened), tallies);
+    YakuResult {
+        tallies: tallies,
+        han: han as u8,
+        is_yakuman: is_yakuman,
+    }
+}
