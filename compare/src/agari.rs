@@ -18,11 +18,16 @@ const HONORS: [Honor; 7] = [
 ];
 
 /// agari's tile of a number below 34.
-fn tile(number: u8) -> Tile {
+pub fn tile(number: u8) -> Tile {
     match number {
         0..27 => Tile::suited(SUITS[usize::from(number / 9)], number % 9 + 1),
-        _ => Tile::honor(HONORS[usize::from(number - 27)]),
+        _ => Tile::honor(honor(number)),
     }
+}
+
+/// agari's honour of a number from 27 to 33.
+pub fn honor(number: u8) -> Honor {
+    HONORS[usize::from(number - 27)]
 }
 
 /// The number of agari's tile.

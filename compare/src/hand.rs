@@ -69,6 +69,11 @@ impl Hand {
         &self.calls.melds[..self.calls.count.min(4)]
     }
 
+    /// Whether a call opens the hand. A closed kan does not.
+    pub fn is_open(&self) -> bool {
+        self.called().iter().any(|meld| meld.kind != CLOSED_KAN)
+    }
+
     /// Adds a call to fewer than four.
     pub fn call(&mut self, meld: Meld) {
         self.calls.melds[self.calls.count] = meld;
@@ -109,5 +114,24 @@ impl fmt::Display for Hand {
             write!(f, " (tile {} kind {})", meld.tile, meld.kind)?;
         }
         Ok(())
+    }
+}
+
+#[cfg(test)]
+impl Hand {
+    /// The hand of a text such as `123m55z`, with no call.
+    pub fn written(text: &str) -> Hand {
+        let mut hand = Hand::empty();
+        let mut first = 27;
+        for letter in text.chars().rev() {
+            match letter {
+                'm' => first = 0,
+                'p' => first = 9,
+                's' => first = 18,
+                'z' => first = 27,
+                number => hand.counts[first + number as usize - '1' as usize] += 1,
+            }
+        }
+        hand
     }
 }

@@ -1,40 +1,53 @@
 //! Compares the proved library with agari-core.
 
-use compare::checker::Checker;
-use compare::every::{calls_outside, hand_of, honour_counts, suit_counts};
-use compare::random;
-use compare::rng::Rng;
-use compare::tally::Tally;
+use compare::readings;
 use std::env;
 use std::process::ExitCode;
-use std::time::{Duration, Instant};
+use std::time::Duration;
 
-const USAGE: &str = "usage: compare readings [--seed N] [--random N] [--suit] [--mixed SECONDS]";
+const USAGE: &str = "usage: compare readings [--seed N] [--random N] [--suit] [--mixed SECONDS]
+       compare points
+       compare scores [--seed N] [--wins N]";
 const RANDOM: u64 = 5_000_000;
 const MIXED_SECONDS: u64 = 600;
+const WINS: u64 = 3_000_000;
 
-/// What to compare. Where no class is named, all are.
-struct Options {
-    seed: u64,
-    random: Option<u64>,
-    suit: bool,
-    mixed: Option<Duration>,
+fn main() -> ExitCode {
+    let arguments: Vec<String> = env::args().skip(1).collect();
+    let arguments: Vec<&str> = arguments.iter().map(String::as_str).collect();
+    match compare(&arguments) {
+        Some(0) => ExitCode::SUCCESS,
+        Some(_) => ExitCode::FAILURE,
+        None => {
+            eprintln!("{USAGE}");
+            ExitCode::from(2)
+        }
+    }
 }
 
-fn parse(arguments: &[String]) -> Option<Options> {
-    let mut arguments = arguments.iter();
-    if arguments.next()? != "readings" {
-        return None;
+/// The number of inputs that differ; nothing where the arguments are not understood.
+fn compare(arguments: &[&str]) -> Option<u64> {
+    let (&command, options) = arguments.split_first()?;
+    match command {
+        "readings" => compare_readings(options),
+        "points" => options.is_empty().then(compare::points::compare),
+        "scores" => compare_scores(options),
+        _ => None,
     }
-    let mut options = Options {
+}
+
+/// Where no class is named, all are compared.
+fn compare_readings(arguments: &[&str]) -> Option<u64> {
+    let mut options = readings::Options {
         seed: 1,
         random: None,
         suit: false,
         mixed: None,
     };
-    while let Some(name) = arguments.next() {
-        let mut number = || arguments.next()?.parse::<u64>().ok();
-        match name.as_str() {
+    let mut arguments = arguments.iter();
+    while let Some(&name) = arguments.next() {
+        let mut number = || arguments.next()?.parse().ok();
+        match name {
             "--seed" => options.seed = number()?,
             "--random" => options.random = Some(number()?),
             "--suit" => options.suit = true,
@@ -47,108 +60,19 @@ fn parse(arguments: &[String]) -> Option<Options> {
         options.suit = true;
         options.mixed = Some(Duration::from_secs(MIXED_SECONDS));
     }
-    Some(options)
+    Some(readings::compare(&options))
 }
 
-fn main() -> ExitCode {
-    let arguments: Vec<String> = env::args().skip(1).collect();
-    let Some(options) = parse(&arguments) else {
-        eprintln!("{USAGE}");
-        return ExitCode::from(2);
-    };
-    match compare_readings(&options).differ() {
-        0 => ExitCode::SUCCESS,
-        _ => ExitCode::FAILURE,
-    }
-}
-
-fn compare_readings(options: &Options) -> Tally {
-    let mut checker = Checker::new(options.seed);
-    let mut total = Tally::default();
-    if options.suit {
-        let title = "every hand of one suit, with 0 to 4 calls";
-        total.add(&run(&mut checker, title, compare_suits));
-    }
-    if let Some(budget) = options.mixed {
-        let title = "hands of one suit with pairs and triplets of honours";
-        total.add(&run(&mut checker, title, |checker| {
-            compare_mixed(checker, budget)
-        }));
-    }
-    if let Some(hands) = options.random {
-        let title = format!("random hands, seed {}", options.seed);
-        total.add(&run(&mut checker, &title, |checker| {
-            compare_random(checker, options.seed, hands)
-        }));
-    }
-    println!("all\n{total}  differ: {}", total.differ());
-    total
-}
-
-/// Compares a class, and prints its tally.
-fn run(checker: &mut Checker, title: &str, class: impl FnOnce(&mut Checker)) -> Tally {
-    println!("{title}");
-    let start = Instant::now();
-    class(checker);
-    let tally = checker.take_tally();
-    let seconds = start.elapsed().as_secs_f64();
-    println!("{tally}  differ: {}\n  {seconds:.1} s\n", tally.differ());
-    tally
-}
-
-fn compare_suits(checker: &mut Checker) {
-    for calls in 0..=4 {
-        let numbers = suit_counts(14 - 3 * calls as u8);
-        for suit in 0..3 {
-            let lists = match calls {
-                0 => vec![vec![]],
-                _ => calls_outside(suit, calls),
-            };
-            for list in lists {
-                for numbers in &numbers {
-                    let mut hand = hand_of(suit, numbers, &[0; 7]);
-                    list.iter().for_each(|&meld| hand.call(meld));
-                    checker.check(&hand);
-                }
-            }
+fn compare_scores(arguments: &[&str]) -> Option<u64> {
+    let (mut seed, mut wins) = (1, WINS);
+    let mut arguments = arguments.iter();
+    while let Some(&name) = arguments.next() {
+        let number = arguments.next()?.parse().ok()?;
+        match name {
+            "--seed" => seed = number,
+            "--wins" => wins = number,
+            _ => return None,
         }
     }
-}
-
-/// Goes up by the number of pairs, then of triplets, and stops where the time is over. Hands with
-/// two pairs or more come last: they have a reading at most as seven pairs.
-fn compare_mixed(checker: &mut Checker, budget: Duration) {
-    let start = Instant::now();
-    for (pairs, triplets) in honour_groups() {
-        let numbers = suit_counts((14 - 2 * pairs - 3 * triplets) as u8);
-        let honours = honour_counts(pairs, triplets);
-        let parts = 3 * honours.len();
-        for part in 0..parts {
-            if start.elapsed() > budget {
-                println!("  stopped at {pairs} pairs and {triplets} triplets of honours,");
-                println!("  after {part} of their {parts} choices of honours and suit");
-                return;
-            }
-            for numbers in &numbers {
-                checker.check(&hand_of(part % 3, numbers, &honours[part / 3]));
-            }
-        }
-    }
-    println!("  every one of them was compared");
-}
-
-/// The numbers of pairs and of triplets of honours that fit in 14 tiles, at least one of either.
-fn honour_groups() -> impl Iterator<Item = (usize, usize)> {
-    (0..=7)
-        .flat_map(|pairs| (0..=4).map(move |triplets| (pairs, triplets)))
-        .filter(|&(pairs, triplets)| pairs + triplets > 0)
-        .filter(|&(pairs, triplets)| 2 * pairs + 3 * triplets <= 14)
-        .filter(|&(pairs, triplets)| pairs + triplets <= 7)
-}
-
-fn compare_random(checker: &mut Checker, seed: u64, hands: u64) {
-    let mut rng = Rng::new(!seed);
-    for _ in 0..hands {
-        checker.check(&random::any(&mut rng));
-    }
+    Some(compare::scores::compare(seed, wins))
 }

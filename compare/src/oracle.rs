@@ -111,22 +111,6 @@ fn bytes(record: &Record) -> Vec<u8> {
 mod tests {
     use super::*;
 
-    /// The hand of a text such as `123m55z`, with no call.
-    fn hand(text: &str) -> Hand {
-        let mut hand = Hand::empty();
-        let mut first = 27;
-        for letter in text.chars().rev() {
-            match letter {
-                'm' => first = 0,
-                'p' => first = 9,
-                's' => first = 18,
-                'z' => first = 27,
-                number => hand.counts[first + number as usize - '1' as usize] += 1,
-            }
-        }
-        hand
-    }
-
     fn answer(hand: &Hand) -> (usize, usize) {
         let listing = Expected::of(hand).listing(1467);
         (listing.number, listing.readings)
@@ -144,17 +128,17 @@ mod tests {
             ("1235m456p234678s", (6, 0)),
         ];
         for (text, expected) in hands {
-            assert_eq!(answer(&hand(text)), expected, "{text}");
+            assert_eq!(answer(&Hand::written(text)), expected, "{text}");
         }
     }
 
     #[test]
     fn called_hands_of_the_scope_paper() {
-        let mut one_call = hand("55m456p234678s");
+        let mut one_call = Hand::written("55m456p234678s");
         one_call.call(Meld::new(0, OPEN_SEQUENCE));
         assert_eq!(answer(&one_call), (0, 1));
 
-        let mut four_calls = hand("55z");
+        let mut four_calls = Hand::written("55z");
         for tile in [3, 12, 21, 33] {
             four_calls.call(Meld::new(tile, ADDED_KAN));
         }
@@ -163,7 +147,7 @@ mod tests {
 
     #[test]
     fn records_ascend_by_kind_and_then_content() {
-        let expected = Expected::of(&hand("223344m667788p55s"));
+        let expected = Expected::of(&Hand::written("223344m667788p55s"));
         let seven_pairs = [11, 0, 1, 0, 1, 2, 3, 14, 15, 16, 22];
         let standard = [13, 0, 3, 0, 22, 1, 0, 1, 0, 14, 0, 14, 0];
         assert_eq!(expected.records, [&seven_pairs[..], &standard[..]].concat());

@@ -8,7 +8,7 @@ use crate::rng::Rng;
 
 const SUIT: u64 = 0x1ff;
 const HONOURS: u64 = 0x7f << 27;
-const ORPHANS: [usize; 13] = [0, 8, 9, 17, 18, 26, 27, 28, 29, 30, 31, 32, 33];
+pub const ORPHANS: [usize; 13] = [0, 8, 9, 17, 18, 26, 27, 28, 29, 30, 31, 32, 33];
 
 /// The kinds of tiles that a hand is drawn from, one bit for each.
 #[derive(Clone, Copy)]
@@ -32,6 +32,11 @@ impl Pool {
         Pool(Pool::all().0 & !Pool::suit_and_honours(left_out).0)
     }
 
+    /// The kinds that are listed.
+    pub fn of(tiles: &[usize]) -> Pool {
+        Pool(tiles.iter().fold(0, |kinds, tile| kinds | 1 << tile))
+    }
+
     /// So many neighbouring numbers of a suit.
     fn window(rng: &mut Rng, width: usize) -> Pool {
         let first = 9 * rng.below(3) + rng.below(10 - width);
@@ -39,7 +44,7 @@ impl Pool {
     }
 
     /// One of the kinds.
-    fn tile(self, rng: &mut Rng) -> u8 {
+    pub fn tile(self, rng: &mut Rng) -> u8 {
         let mut kinds = self.0;
         for _ in 0..rng.below(kinds.count_ones() as usize) {
             kinds &= kinds - 1;
@@ -48,7 +53,7 @@ impl Pool {
     }
 
     /// One of the kinds at which a sequence inside the pool starts, of which there must be one.
-    fn start(self, rng: &mut Rng) -> u8 {
+    pub fn start(self, rng: &mut Rng) -> u8 {
         loop {
             let tile = self.tile(rng);
             if starts_sequence(tile) && self.0 >> tile & 7 == 7 {
@@ -69,7 +74,7 @@ pub struct Style {
 }
 
 impl Style {
-    fn closed_meld(self, rng: &mut Rng) -> Meld {
+    pub fn closed_meld(self, rng: &mut Rng) -> Meld {
         if rng.percent(self.sequences) {
             Meld::new(self.pool.start(rng), CLOSED_SEQUENCE)
         } else {
@@ -106,13 +111,13 @@ impl Style {
     }
 }
 
-fn add_meld(hand: &mut Hand, meld: Meld) {
+pub fn add_meld(hand: &mut Hand, meld: Meld) {
     for tile in meld.tiles() {
         hand.counts[tile] += 1;
     }
 }
 
-fn at_most_four(hand: &Hand) -> bool {
+pub fn at_most_four(hand: &Hand) -> bool {
     hand.with_calls().iter().all(|&number| number <= 4)
 }
 

@@ -112,7 +112,7 @@ impl Tally {
 }
 
 /// Counts with their numbers, which go up from the first.
-fn listed(first: usize, counts: &[u64]) -> String {
+pub fn listed(first: usize, counts: &[u64]) -> String {
     let entries = counts.iter().enumerate();
     let entries: Vec<String> = entries
         .map(|(place, count)| format!("{}: {count}", first + place))

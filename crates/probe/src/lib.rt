@@ -46,7 +46,12 @@ fn nothing() -> ReadingScore {
 
 // The score of a reading; `counts` are the tiles of hand and calls together.
 #[no_mangle]
-pub extern "C" fn probe_reading(reading: Reading, counts: &[u8], win: context::GameContext, opened: bool) -> ReadingScore {
+pub extern "C" fn probe_reading(
+    reading: Reading,
+    counts: &[u8],
+    win: context::GameContext,
+    opened: bool,
+) -> ReadingScore {
     if counts.len() != 34 {
         return nothing();
     }

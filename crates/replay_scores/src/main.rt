@@ -37,12 +37,28 @@ fn reading_of(rec: &[u8]) -> structure::Hand
     let kind = rec[0];
     let pair = tile::Tile(rec[1]);
     if kind == 1 {
-        return structure::Hand::chiitoitsu([rec[10], rec[11], rec[12], rec[13], rec[14], rec[15], rec[16]]);
+        return structure::Hand::chiitoitsu([
+            rec[10],
+            rec[11],
+            rec[12],
+            rec[13],
+            rec[14],
+            rec[15],
+            rec[16],
+        ]);
     }
     if kind == 2 {
         return structure::Hand::kokushi(pair);
     }
-    structure::Hand::standard(pair, [meld_at(rec, 2), meld_at(rec, 4), meld_at(rec, 6), meld_at(rec, 8)])
+    structure::Hand::standard(
+        pair,
+        [
+            meld_at(rec, 2),
+            meld_at(rec, 4),
+            meld_at(rec, 6),
+            meld_at(rec, 8),
+        ],
+    )
 }
 
 // The win of a record.

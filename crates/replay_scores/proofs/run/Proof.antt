@@ -12,7 +12,6 @@ Inv-loop fd turn₀ left₀ turn left = left ≤ 1000000
 abbrev μ-loop : tie.MeasureT-loop
 μ-loop fd turn₀ left₀ turn left = left
 
-
 loop-holds : tie.Need-loop-holds Inv-loop μ-loop
 loop-holds c = search needs
 

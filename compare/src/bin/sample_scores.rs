@@ -1,0 +1,203 @@
+//! Writes a sample of readings with agari's scores, which a proved program replays.
+//!
+//! The file is a row of records of 128 bytes, zero where nothing stands, flags 0 or 1:
+//!
+//! | bytes    | content                                                                       |
+//! |----------|-------------------------------------------------------------------------------|
+//! | 0        | kind of the reading: 1 seven pairs, 2 thirteen orphans, 3 standard            |
+//! | 1        | the pair's tile                                                               |
+//! | 2..10    | four melds, each its tile and its kind                                        |
+//! | 10..17   | the tiles of seven pairs                                                      |
+//! | 17..51   | the counts of hand and calls together                                         |
+//! | 51..55   | win type, winning tile, round wind, seat wind                                 |
+//! | 55..63   | riichi, double riichi, ippatsu, rinshan, chankan, last tile, tenhou, chiihou  |
+//! | 63       | whether the hand is open                                                      |
+//! | 64..111  | the yaku tallies                                                              |
+//! | 111..117 | the wait tallies                                                              |
+//! | 117      | han                                                                           |
+//! | 118      | fu                                                                            |
+//! | 119      | whether it is a yakuman                                                       |
+
+use compare::agari_scores::{ReadHand, WAIT_ENTRIES, YAKU_ENTRIES};
+use compare::hand::{CLOSED_SEQUENCE, KINDS};
+use compare::probe::{Reading, ReadingScore, STANDARD, Win};
+use compare::rng::Rng;
+use compare::score_tally::*;
+use compare::wins;
+use std::collections::HashSet;
+use std::env;
+use std::fs;
+use std::ops::Range;
+use std::process::ExitCode;
+
+const SEED: u64 = 47;
+const RECORD: usize = 128;
+// Places among the yaku tallies and the wait tallies.
+const PINFU: usize = 4;
+const WINDS: Range<usize> = 6..10;
+const NINE_GATES: [usize; 2] = [42, 46];
+const RYANMEN: usize = 0;
+
+/// A reading of a win with agari's score.
+struct Scored {
+    reading: Reading,
+    counts: [u8; KINDS],
+    win: Win,
+    is_open: bool,
+    score: ReadingScore,
+}
+
+/// A part of the sample: so many records of readings dealt until one fits.
+struct Part {
+    title: String,
+    records: usize,
+    fits: Box<dyn Fn(&Scored) -> bool>,
+}
+
+impl Part {
+    fn new(title: &str, records: usize, fits: impl Fn(&Scored) -> bool + 'static) -> Part {
+        Part {
+            title: title.into(),
+            records,
+            fits: Box::new(fits),
+        }
+    }
+}
+
+fn parts() -> Vec<Part> {
+    let mut parts = Vec::new();
+    for (place, yaku) in YAKU_ENTRIES.iter().enumerate() {
+        let title = format!("{yaku:?}");
+        parts.push(Part::new(&title, 50, move |scored| {
+            scored.score.tallies[place] > 0
+        }));
+    }
+    for place in WINDS {
+        let title = format!("{:?} twice", YAKU_ENTRIES[place]);
+        parts.push(Part::new(&title, 25, move |scored| {
+            scored.score.tallies[place] == 2
+        }));
+    }
+    for (place, wait) in WAIT_ENTRIES.iter().enumerate() {
+        let title = format!("{wait:?}");
+        parts.push(Part::new(&title, 50, move |scored| {
+            scored.score.waits[place] > 0
+        }));
+    }
+    parts.extend([
+        Part::new("several waits", 150, |scored| {
+            has_several_waits(&scored.score)
+        }),
+        Part::new("a wait twice or more", 50, |scored| {
+            has_equal_waits(&scored.score)
+        }),
+        Part::new(
+            "ron tile in a closed triplet and a closed sequence",
+            100,
+            |scored| has_spared_triplet(&scored.reading, &scored.win),
+        ),
+        Part::new(
+            "winning tile in an open sequence or triplet too",
+            100,
+            |scored| has_called_tile(&scored.reading, &scored.win),
+        ),
+        Part::new("pinfu but for the pair", 50, is_nearly_pinfu),
+        Part::new("nine gates but for the calls", 50, is_nearly_nine_gates),
+        Part::new("no yaku", 150, |scored| scored.score.han == 0),
+        Part::new("any", 600, |_| true),
+    ]);
+    parts
+}
+
+/// Closed sequences and a two-sided wait, and no pinfu.
+fn is_nearly_pinfu(scored: &Scored) -> bool {
+    let melds = scored.reading.melds;
+    let is_fitting = scored.reading.kind == STANDARD
+        && melds.iter().all(|meld| meld.kind == CLOSED_SEQUENCE)
+        && scored.score.waits[RYANMEN] > 0;
+    is_fitting && scored.score.tallies[PINFU] == 0 && scored.score.is_yakuman == 0
+}
+
+/// At least the tiles 1112345678999 of a suit, and no nine gates.
+fn is_nearly_nine_gates(scored: &Scored) -> bool {
+    const LEAST: [u8; 9] = [3, 1, 1, 1, 1, 1, 1, 1, 3];
+    let mut suits = scored.counts[..27].chunks(9);
+    let is_fitting = suits.any(|counts| counts.iter().zip(LEAST).all(|(&n, least)| n >= least));
+    is_fitting && NINE_GATES.map(|place| scored.score.tallies[place]) == [0; 2]
+}
+
+/// One reading of a random win.
+fn deal(rng: &mut Rng) -> Scored {
+    let hand = wins::hand(rng);
+    let read = ReadHand::of(&hand);
+    let winning_tiles = wins::winning_tiles(rng, &hand);
+    let winning_tile = rng.pick(&winning_tiles);
+    let win = wins::win(rng, &hand, winning_tile);
+    let (reading, structure) = &read.readings[rng.below(read.readings.len())];
+    Scored {
+        reading: *reading,
+        counts: read.counts,
+        win,
+        is_open: read.is_open,
+        score: read.score(structure, &win),
+    }
+}
+
+fn record(scored: &Scored) -> [u8; RECORD] {
+    let Scored {
+        reading,
+        counts,
+        win,
+        is_open,
+        score,
+    } = scored;
+    let mut record = [0; RECORD];
+    record[0] = reading.kind;
+    record[1] = reading.pair;
+    for (place, meld) in reading.melds.iter().enumerate() {
+        record[2 + 2 * place] = meld.tile;
+        record[3 + 2 * place] = meld.kind;
+    }
+    record[10..17].copy_from_slice(&reading.pairs);
+    record[17..51].copy_from_slice(counts);
+    record[51] = win.win_type;
+    record[52] = win.winning_tile;
+    record[53] = win.round_wind;
+    record[54] = win.seat_wind;
+    record[55..63].copy_from_slice(&win.flags().map(u8::from));
+    record[63] = u8::from(*is_open);
+    record[64..111].copy_from_slice(&score.tallies);
+    record[111..117].copy_from_slice(&score.waits);
+    record[117] = score.han;
+    record[118] = score.fu;
+    record[119] = score.is_yakuman;
+    record
+}
+
+fn main() -> ExitCode {
+    let Some(path) = env::args().nth(1) else {
+        eprintln!("usage: sample_scores FILE");
+        return ExitCode::from(2);
+    };
+    let mut rng = Rng::new(SEED);
+    let mut tally = ScoreTally::new();
+    let mut seen = HashSet::new();
+    let mut file = Vec::new();
+    println!("seed {SEED}, no record twice; records of each part:");
+    for part in parts() {
+        let mut written = 0;
+        while written < part.records {
+            let scored = deal(&mut rng);
+            let record = record(&scored);
+            if (part.fits)(&scored) && seen.insert(record) {
+                file.extend(record);
+                tally.count(&scored.reading, &scored.win, scored.is_open, &scored.score);
+                written += 1;
+            }
+        }
+        println!("  {:5}  {}", part.records, part.title);
+    }
+    fs::write(&path, &file).expect("the file can be written");
+    print!("{} bytes in {path}\n{tally}", file.len());
+    ExitCode::SUCCESS
+}
