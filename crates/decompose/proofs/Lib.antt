@@ -1,3 +1,3 @@
 pub mod Words
+pub mod Places
 pub mod Turns
-pub mod Suits

@@ -1,20 +1,16 @@
 // The standard readings of a hand from its 34 counts (decompose_hand and decompose_hand_with_melds of agari): a loop over the tiles
 // that can be the pair, and the search for the melds. The counts are packed three bits a tile for the search.
 ghost use mathlib.Core.Path.{_≡_};
-ghost use mathlib.Core.Bool.{false};
-ghost use mathlib.Core.List.{[]};
-ghost use Prim.Native.Nat.{ℕ, _+_, _-_, _≤_, _<_};
-ghost use lib.Dec.{T};
+ghost use Prim.Native.Nat.{_+_, _-_, _*_, _≤_, _<_};
 ghost use lib.ListN.{length};
 ghost use lib.Seq.{sets};
-ghost use Rattle.lists.specs.Fold.{upFrom};
 ghost use Rattle.tile.specs.Tile.{tiles};
 ghost use Rattle.hand.specs.Counts.{held, AtMostFour};
-ghost use Rattle.hand.specs.Groups.{isGroup};
 ghost use Rattle.hand.specs.Readings.{lessPair};
+ghost use Rattle.hand.specs.Weights.{weight, byThree};
 ghost use Rattle.search.specs.Remaining.{left, Fair};
 ghost use Rattle.decompose.specs.Packed.{packFrom, inWords, Fit};
-ghost use Rattle.decompose.specs.Pairs.{withPair, foundWith, recordsOver};
+ghost use Rattle.decompose.specs.Pairs.{foundWith, recordsOver, OnlyAt};
 
 // The counts packed three bits a tile: man and pin, and sou and the honors.
 pub struct Packed {
@@ -75,70 +71,80 @@ impl Packed {
     }
 }
 
-// Can the pair stand in a suit or among the honors? Not where the number of the tiles there does not leave 2 by 3.
-fn can_hold_pair(counts: &[u8], from: usize, to: usize) -> bool
-    requires { ⌜ (length (now counts) ≡ 34) × ((from ≤ to) × ((to ≤ 34) × T (isGroup from (to - from)))) ⌝ }
-    ensures { λ r. ⌜ (r ≡ false → (n p : ℕ) → from ≤ p → p < to → withPair n (held (now (counts .entry))) p ≡ []) ⌝ }
-{
-    hand::sum_range(counts, from, to) % 3 == 2
+// Where the pair can stand: at the tiles from `first` on in steps of three, below `end`.
+pub struct PairPlaces {
+    pub first: usize,
+    pub end: usize,
 }
 
-// How many readings have their pair among the tiles from one up to another.
-fn count_pairs(counts: &[u8], h: Packed, needed: u32, from: usize, to: usize) -> usize
-    requires { ⌜ (length (now counts) ≡ 34) × ((to ≤ 34) × ((needed ≤ 4) × ((inWords h ≡ held (now counts)) × Fit h))) ⌝ }
-    ensures { λ r. ⌜ (r ≡ length (foundWith needed (held (now (counts .entry))) (upFrom (to - from) from))) × (r ≤ 544) ⌝ }
+// What the tiles' numbers leave by 3, summed over the tiles, of which the last leaves nothing.
+fn sum_numbers(counts: &[u8]) -> u64
+    requires { ⌜ length (now counts) ≡ 34 ⌝ }
+    ensures { λ r. ⌜ (r ≡ weight byThree (held (now (counts .entry)))) × (r ≤ 765 * 11) ⌝ }
 {
+    let mut sum: u64 = 0;
+    let mut i = 0;
+    while i < 33 {
+        sum += wide(counts[i + 1]) + 2 * wide(counts[i + 2]);
+        i += 3;
+    }
+    sum
+}
+
+// Where the pair can stand. Melds take three tiles of a suit or of the honors or none of them, and tiles whose numbers sum up to
+// a multiple of 3. So the pair's suit leaves 2 by 3 and the others leave 0, and its number twice leaves what the sum of all leaves.
+pub fn pair_places(counts: &[u8]) -> PairPlaces
+    requires { ⌜ length (now counts) ≡ 34 ⌝ }
+    ensures { λ r. ⌜ OnlyAt (held (now (counts .entry))) r ⌝ }
+{
+    let man = hand::sum_range(counts, 0, 9) % 3;
+    let pin = hand::sum_range(counts, 9, 18) % 3;
+    let sou = hand::sum_range(counts, 18, 27) % 3;
+    let honors = hand::sum_range(counts, 27, 34) % 3;
+    if man + pin + sou + honors != 2 {
+        return PairPlaces { first: 34, end: 34 };
+    }
+    let start = pin / 2 * 9 + sou / 2 * 18 + honors / 2 * 27;
+    PairPlaces {
+        first: (start + 2 * sum_numbers(counts) % 3) as usize,
+        end: (start + 9 - honors / 2 * 2) as usize,
+    }
+}
+
+// How many standard readings there are with `needed` melds of the hand itself.
+pub fn count_standard(counts: &[u8], h: Packed, places: PairPlaces, needed: u32) -> usize
+    requires { ⌜ (length (now counts) ≡ 34) × ((needed ≤ 4) × ((inWords h ≡ held (now counts)) × (Fit h × OnlyAt (held (now counts)) places))) ⌝ }
+    ensures { λ r. ⌜ (r ≡ length (foundWith needed (held (now (counts .entry))) tiles)) × (r ≤ 2176) ⌝ }
+{
+    let end = places.end;
     let mut total = 0;
-    let mut p = from;
-    while p < to {
+    let mut p = places.first;
+    while p < end {
         if 2 <= counts[p] {
             total += search::count_meld_combinations(h.without_pair(p as u32), needed);
         }
-        p += 1;
+        p += 3;
     }
     total
 }
 
-// The same for a suit or the honors: none where it cannot hold the pair.
-fn count_group(counts: &[u8], h: Packed, needed: u32, from: usize, to: usize) -> usize
-    requires { ⌜ (length (now counts) ≡ 34) × ((to ≤ 34) × ((needed ≤ 4) × ((inWords h ≡ held (now counts)) × (Fit h × ((from ≤ to) × T (isGroup from (to - from))))))) ⌝ }
-    ensures { λ r. ⌜ (r ≡ length (foundWith needed (held (now (counts .entry))) (upFrom (to - from) from))) × (r ≤ 544) ⌝ }
-{
-    if can_hold_pair(counts, from, to) {
-        return count_pairs(counts, h, needed, from, to);
-    }
-    0
-}
-
-// How many standard readings there are with `needed` melds of the hand itself.
-pub fn count_standard(counts: &[u8], h: Packed, needed: u32) -> usize
-    requires { ⌜ (length (now counts) ≡ 34) × ((needed ≤ 4) × ((inWords h ≡ held (now counts)) × Fit h)) ⌝ }
-    ensures { λ r. ⌜ (r ≡ length (foundWith needed (held (now (counts .entry))) tiles)) × (r ≤ 2176) ⌝ }
-{
-    let a = count_group(counts, h, needed, 0, 9);
-    let b = count_group(counts, h, needed, 9, 18);
-    let c = count_group(counts, h, needed, 18, 27);
-    let d = count_group(counts, h, needed, 27, 34);
-    a + b + c + d
-}
-
-// Writes the records of the readings that have their pair among the tiles from one up to another. Answers the place behind them.
-fn write_pairs(
+// Writes the records of all standard readings. Answers the place behind them.
+pub fn write_standards(
     counts: &[u8],
     h: Packed,
+    places: PairPlaces,
     needed: u32,
     slots: [u16; 4],
-    from: usize,
-    to: usize,
     out: &mut [u8],
     at: usize,
 ) -> usize
-    requires { ⌜ (length (now counts) ≡ 34) × ((to ≤ 34) × ((needed ≤ 4) × ((inWords h ≡ held (now counts)) × (Fit h × (at + length (recordsOver needed (held (now counts)) slots (upFrom (to - from) from)) ≤ length (now out)))))) ⌝ }
-    ensures { λ r. ⌜ (r ≡ at + length (recordsOver needed (held (now (counts .entry))) slots (upFrom (to - from) from))) × (now (out .exit) ≡ sets (now (out .entry)) at (recordsOver needed (held (now (counts .entry))) slots (upFrom (to - from) from))) ⌝ }
+    requires { ⌜ (length (now counts) ≡ 34) × ((needed ≤ 4) × ((inWords h ≡ held (now counts)) × (Fit h × (OnlyAt (held (now counts)) places × (at + length (recordsOver needed (held (now counts)) slots tiles) ≤ length (now out)))))) ⌝ }
+    ensures { λ r. ⌜ (r ≡ at + length (recordsOver needed (held (now (counts .entry))) slots tiles)) × (now (out .exit) ≡ sets (now (out .entry)) at (recordsOver needed (held (now (counts .entry))) slots tiles)) ⌝ }
 {
+    let end = places.end;
     let mut pos = at;
-    let mut p = from;
-    while p < to {
+    let mut p = places.first;
+    while p < end {
         if 2 <= counts[p] {
             pos = search::write_meld_combinations(
                 h.without_pair(p as u32),
@@ -149,45 +155,7 @@ fn write_pairs(
                 pos,
             );
         }
-        p += 1;
+        p += 3;
     }
     pos
-}
-
-// The same for a suit or the honors: none where it cannot hold the pair.
-fn write_group(
-    counts: &[u8],
-    h: Packed,
-    needed: u32,
-    slots: [u16; 4],
-    from: usize,
-    to: usize,
-    out: &mut [u8],
-    at: usize,
-) -> usize
-    requires { ⌜ (length (now counts) ≡ 34) × ((to ≤ 34) × ((needed ≤ 4) × ((inWords h ≡ held (now counts)) × (Fit h × ((from ≤ to) × (T (isGroup from (to - from)) × (at + length (recordsOver needed (held (now counts)) slots (upFrom (to - from) from)) ≤ length (now out)))))))) ⌝ }
-    ensures { λ r. ⌜ (r ≡ at + length (recordsOver needed (held (now (counts .entry))) slots (upFrom (to - from) from))) × (now (out .exit) ≡ sets (now (out .entry)) at (recordsOver needed (held (now (counts .entry))) slots (upFrom (to - from) from))) ⌝ }
-{
-    if can_hold_pair(counts, from, to) {
-        return write_pairs(counts, h, needed, slots, from, to, out, at);
-    }
-    at
-}
-
-// Writes the records of all standard readings. Answers the place behind them.
-pub fn write_standards(
-    counts: &[u8],
-    h: Packed,
-    needed: u32,
-    slots: [u16; 4],
-    out: &mut [u8],
-    at: usize,
-) -> usize
-    requires { ⌜ (length (now counts) ≡ 34) × ((needed ≤ 4) × ((inWords h ≡ held (now counts)) × (Fit h × (at + length (recordsOver needed (held (now counts)) slots tiles) ≤ length (now out))))) ⌝ }
-    ensures { λ r. ⌜ (r ≡ at + length (recordsOver needed (held (now (counts .entry))) slots tiles)) × (now (out .exit) ≡ sets (now (out .entry)) at (recordsOver needed (held (now (counts .entry))) slots tiles)) ⌝ }
-{
-    let a = write_group(counts, h, needed, slots, 0, 9, out, at);
-    let b = write_group(counts, h, needed, slots, 9, 18, out, a);
-    let c = write_group(counts, h, needed, slots, 18, 27, out, b);
-    write_group(counts, h, needed, slots, 27, 34, out, c)
 }

@@ -1,4 +1,4 @@
 pub mod Search
 pub mod Lowest
-pub mod Groups
+pub mod Weights
 pub mod Sums

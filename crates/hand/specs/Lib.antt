@@ -2,4 +2,4 @@ pub mod Counts
 pub mod Reading
 pub mod Records
 pub mod Readings
-pub mod Groups
+pub mod Weights

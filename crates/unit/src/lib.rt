@@ -9,6 +9,7 @@ ghost use Rattle.hand.specs.Counts.{held};
 ghost use Rattle.hand.specs.Readings.{isPairs};
 ghost use Rattle.search.specs.Slots.{slotsOf};
 ghost use Rattle.decompose.specs.Packed.{inWords, Fit};
+ghost use Rattle.decompose.specs.Pairs.{OnlyAt};
 ghost use Rattle.checks.specs.Checks.{called, handCheck};
 ghost use Rattle.unit.specs.Listing.{listing, written, handRecords};
 ghost use Rattle.unit.specs.FirstPass.{Finds, bytesFound, readingsFound, sevenRecords, orphanRecords, putCall};
@@ -53,13 +54,18 @@ impl Found {
 }
 
 // The first pass: what there is to list, of a hand that has passed the checks.
-fn find_readings(counts: &[u8], h: decompose::Packed, k: checks::Calls) -> Found
-    requires { ⌜ (handCheck (now counts) k ≡ 0) × ((inWords h ≡ held (now counts)) × Fit h) ⌝ }
+fn find_readings(
+    counts: &[u8],
+    h: decompose::Packed,
+    places: decompose::PairPlaces,
+    k: checks::Calls,
+) -> Found
+    requires { ⌜ (handCheck (now counts) k ≡ 0) × ((inWords h ≡ held (now counts)) × (Fit h × OnlyAt (held (now counts)) places)) ⌝ }
     ensures { λ r. ⌜ Finds (now (counts .entry)) k r ⌝ }
 {
     let count = k.count;
     let needed = 4 - (count % 256) as u32;
-    let standard = decompose::count_standard(counts, h, needed);
+    let standard = decompose::count_standard(counts, h, places, needed);
     if count != 0 {
         return Found {
             seven: false,
@@ -124,18 +130,19 @@ fn write_orphan(orphan: usize, out: &mut [u8], at: usize) -> usize
 fn write_readings(
     counts: &[u8],
     h: decompose::Packed,
+    places: decompose::PairPlaces,
     k: checks::Calls,
     found: Found,
     out: &mut [u8],
 )
-    requires { ⌜ (handCheck (now counts) k ≡ 0) × ((inWords h ≡ held (now counts)) × (Fit h × (Finds (now counts) k found × (length (handRecords (now counts) k) ≤ length (now out))))) ⌝ }
+    requires { ⌜ (handCheck (now counts) k ≡ 0) × ((inWords h ≡ held (now counts)) × (Fit h × (OnlyAt (held (now counts)) places × (Finds (now counts) k found × (length (handRecords (now counts) k) ≤ length (now out)))))) ⌝ }
     ensures { λ _. ⌜ now (out .exit) ≡ sets (now (out .entry)) 0 (handRecords (now (counts .entry)) k) ⌝ }
 {
     let count = k.count;
     let needed = 4 - (count % 256) as u32;
     let after_seven = write_seven(counts, found.seven, out);
     let after_orphan = write_orphan(found.orphan, out, after_seven);
-    decompose::write_standards(counts, h, needed, slots_of(k), out, after_orphan);
+    decompose::write_standards(counts, h, places, needed, slots_of(k), out, after_orphan);
 }
 
 // Lists the readings of a finished hand. A refusal answers its number and leaves the buffer as it was.
@@ -148,11 +155,12 @@ pub fn list_readings(counts: &[u8], k: checks::Calls, out: &mut [u8]) -> Listing
         return Listing::Refused(number);
     }
     let h = decompose::pack(counts);
-    let found = find_readings(counts, h, k);
+    let places = decompose::pair_places(counts);
+    let found = find_readings(counts, h, places, k);
     let bytes = found.bytes();
     if out.len() < bytes {
         return Listing::Refused(7);
     }
-    write_readings(counts, h, k, found, out);
+    write_readings(counts, h, places, k, found, out);
     Listing::Listed(found.readings(), bytes)
 }

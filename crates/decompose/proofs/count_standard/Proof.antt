@@ -1,56 +1,89 @@
--- `decompose::count_standard` meets its contract. Assumes nothing.
+-- `decompose::count_standard` meets its contract. The loop's invariant is `Counted`. Assumes nothing.
+use mathlib.Core.Path.{ap, _∙_}
+use mathlib.Core.Logic.{⊎-elim}
+use Prim.Native.Nat.{ℕ, _+_, _-_}
 use native.Mathlib.Omega.{arith}
-use Rattle.hand.specs.Counts.{held}
-use Rattle.hand.proofs.Groups.{man-group, pin-group, sou-group, honors-group}
-use Rattle.decompose.proofs.Suits.{found-suits}
 use borrow.Author.Needs.{needs}
+use lib.ListN.{length}
+use Rattle.hand.specs.Counts.{held}
+use Rattle.decompose.proofs.Turns.{Counted, count-first, count-on, count-past, count-last, found-there}
 use Rattle.decompose.proofs.count_standard.Statement.{statement}
 use Rattle.decompose.proofs.count_standard.Tie as tie
 
-count-group-requires : tie.Need-count-group-requires
-count-group-requires c κs =
-    let k = c .before .pre in
-    (k .0, (omega arith, (k .1 .0, (k .1 .1 .0, (k .1 .1 .1, (omega arith, man-group))))))
+abbrev Inv-loop : tie.InvT-loop
+Inv-loop counts h needed end total₀ p₀ total p = Counted needed (held counts) p₀ total p
 
-count-group-requires-2 : tie.Need-count-group-requires-2
-count-group-requires-2 c κs =
-    let k = c .before .before .pre in
-    (k .0, (omega arith, (k .1 .0, (k .1 .1 .0, (k .1 .1 .1, (omega arith, pin-group))))))
+abbrev μ-loop : tie.MeasureT-loop
+μ-loop counts h needed end total₀ p₀ total p = end - p
 
-count-group-requires-3 : tie.Need-count-group-requires-3
-count-group-requires-3 c κs =
-    let k = c .before .before .before .pre in
-    (k .0, (omega arith, (k .1 .0, (k .1 .1 .0, (k .1 .1 .1, (omega arith, sou-group))))))
+loop-holds : tie.Need-loop-holds Inv-loop μ-loop
+loop-holds c =
+    let s = c .before in
+    let a = s .args in
+    count-first (a .needed) (held (a .counts .now)) (a .places .first) (a .places .end) (s .pre .1 .1 .1 .1)
 
-count-group-requires-4 : tie.Need-count-group-requires-4
-count-group-requires-4 c κs =
-    let k = c .before .before .before .before .pre in
-    (k .0, (omega arith, (k .1 .0, (k .1 .1 .0, (k .1 .1 .1, (omega arith, honors-group))))))
+shared-slice-read-if1 : tie.Need-shared-slice-read-if1 Inv-loop μ-loop
+shared-slice-read-if1 c = omega (arith, c .before .before .before .before .pre .1 .1 .1 .1 .ends)
 
-add-result : tie.Need-add-result
-add-result c = search needs
+cast-without-pair : tie.Need-cast-without-pair Inv-loop μ-loop
+cast-without-pair c = omega (arith, c .before .before .before .before .before .pre .1 .1 .1 .1 .ends)
 
-add-result-2 : tie.Need-add-result-2
-add-result-2 c = search needs
+without-pair-requires : tie.Need-without-pair-requires Inv-loop μ-loop
+without-pair-requires c κs =
+    let s = c .before .before .before .before .before in
+    let a = s .args in
+    let l = c .before .before .before .loop in
+    (omega (arith, s .pre .1 .1 .1 .1 .ends), (s .pre .1 .1 .1 .0, omega (arith, ap (λ (f : ℕ → ℕ). f (l .p)) (s .pre .1 .1 .0))))
 
-add-result-3 : tie.Need-add-result-3
-add-result-3 c = search needs
+count-meld-combinations-requires : tie.Need-count-meld-combinations-requires Inv-loop μ-loop
+count-meld-combinations-requires c κs = (search needs, c .without-pair .ensures .1)
 
-returns : tie.Need-returns
+add-total : tie.Need-add-total Inv-loop μ-loop
+add-total c = omega (arith, c .count-meld-combinations .ensures .1, c .before .before .before .before .before .loop .inv .few, c .before .before .before .before .before .loop .inv .within)
+
+add-p : tie.Need-add-p Inv-loop μ-loop
+add-p c = omega (arith, c .before .before .before .before .before .pre .1 .1 .1 .1 .ends)
+
+loop-less : tie.Need-loop-less Inv-loop μ-loop
+loop-less c = search needs
+
+loop-again : tie.Need-loop-again Inv-loop μ-loop
+loop-again c =
+    let s = c .before .before .before .before .before in
+    let a = s .args in
+    let l = c .before .before .before .loop in
+    let d = held (a .counts .now) in
+    let more = c .before .before .loop-test .taken in
+    ⊎-elim {C = Counted (a .needed) d (a .places .first) (c .if1 .total) (l .p + 3)}
+    (λ w.
+    count-on (a .needed) d (a .places .first) (a .places .end) (s .pre .1 .1 .1 .1) (l .total) (l .p) (l .inv) more (w .2 .result) (c .if1 .total)
+    (w .2 .ensures .0
+    ∙ ap length (found-there (a .needed) d (l .p) (w .0 .taken) (a .h) (s .pre .1 .1 .0) (w .1 .result) (w .1 .ensures .0)))
+    (w .2 .ensures .1) (w .3))
+    (λ w.
+    count-past (a .needed) d (a .places .first) (a .places .end) (s .pre .1 .1 .1 .1) (l .total) (l .p) (l .inv) more (w .0 .left) (c .if1 .total) (w .1))
+    (c .if1 .came)
+
+returns : tie.Need-returns Inv-loop μ-loop
 returns c =
-    let a = c .before .before .before .before .before .args in
-    let e = found-suits (a .needed) (held (a .counts .now)) in
-    (omega arith, omega arith)
+    let s = c .before .before .before in
+    let a = s .args in
+    let l = c .before .loop in
+    count-last (a .needed) (held (a .counts .now)) (a .places .first) (a .places .end) (s .pre .1 .1 .1 .1) (l .total) (l .p) (l .inv) (c .loop-test .left)
 
 pub count-standard-spec : {M : Type 1} → statement M
 count-standard-spec =
     tie.close
     (tie.spec
-    count-group-requires
-    count-group-requires-2
-    count-group-requires-3
-    count-group-requires-4
-    add-result
-    add-result-2
-    add-result-3
+    Inv-loop
+    μ-loop
+    loop-holds
+    shared-slice-read-if1
+    cast-without-pair
+    without-pair-requires
+    count-meld-combinations-requires
+    add-total
+    add-p
+    loop-less
+    loop-again
     returns)

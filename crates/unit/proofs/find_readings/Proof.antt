@@ -1,13 +1,12 @@
 -- `unit::find_readings` meets its contract. Assumes nothing.
-use mathlib.Core.Path.{_≡_, refl, sym, ap, _∙_}
+use mathlib.Core.Path.{_≡_, sym, ap, _∙_}
 use mathlib.Core.Bool.{Bool, true, false}
-use mathlib.Core.List.{List, _++_}
+use mathlib.Core.List.{_++_}
 use Prim.Native.Nat.{ℕ, _+_, _-_, _%_}
 use native.Mathlib.Omega.{arith}
 use lib.ListN.{length, length-map}
 use Rattle.tile.specs.Tile.{tiles}
 use Rattle.hand.specs.Counts.{held}
-use Rattle.hand.specs.Reading.{Reading}
 use Rattle.hand.specs.Records.{records}
 use Rattle.hand.specs.Readings.{sevenPairs, thirteenOrphans}
 use Rattle.decompose.specs.Pairs.{foundWith}
@@ -40,7 +39,7 @@ returns c =
     let k = s .args .k in
     let h = passed (s .args .counts .now) k (s .pre .0) in
     let few = h .few in
-    let long = called-length k few (sym (length-map (k .melds) _) ∙ s .good .1 .1 .0 .1 .1 .1 .0 .1 .0 .1) in
+    let long = called-length k few (sym (length-map (k .melds) _) ∙ s .good .1 .1 .1 .0 .1 .1 .1 .0 .1 .0 .1) in
     let some = something-called (called k) (λ e. c .if1 .taken (sym long ∙ e)) (sevenPairs (held (s .args .counts .now)) ++ thirteenOrphans (held (s .args .counts .now))) in
     let n : 4 - k .count % 256 ≡ 4 - k .count = omega arith in
     record {
@@ -82,7 +81,7 @@ returns-2 c =
     let k = s .args .k in
     let h = passed cs k (s .pre .0) in
     let few = h .few in
-    let long = called-length k few (sym (length-map (k .melds) _) ∙ s .good .1 .1 .0 .1 .1 .1 .0 .1 .0 .1) in
+    let long = called-length k few (sym (length-map (k .melds) _) ∙ s .good .1 .1 .1 .0 .1 .1 .1 .0 .1 .0 .1) in
     let zero = c .before .before .before .if1 .left in
     let none = nothing-called (called k) (long ∙ zero) (sevenPairs (held cs) ++ thirteenOrphans (held cs)) in
     let seven = c .before .is-chiitoitsu .ensures in

@@ -1,11 +1,8 @@
 -- `unit::list_readings` meets its contract: the answer and the whole buffer, for every input. Assumes nothing.
-use mathlib.Core.Path.{_≡_, refl, sym, ap, _∙_}
-use Prim.Native.Nat.{ℕ, _≤_}
+use mathlib.Core.Path.{sym, _∙_}
 use native.Mathlib.Omega.{arith}
 use lib.ListN.{length}
 use Rattle.checks.proofs.Passed.{passed}
-use Rattle.unit.specs.Listing.{handReadings, handRecords}
-use Rattle.unit.specs.FirstPass.{bytesFound, readingsFound}
 use Rattle.unit.proofs.Answers.{refused-answer, refused-buffer, short-answer, short-buffer, listed-answer, listed-buffer}
 use Rattle.unit.proofs.Listed.{bytes-counted, melds-called, readings-counted}
 use borrow.Author.Needs.{needs}
@@ -28,16 +25,24 @@ pack-requires c κs =
     let h = passed (a .counts .now) (a .k) (sym (c .before .check-hand .ensures) ∙ c .if1 .left) in
     (h .long, h .four)
 
+pair-places-requires : tie.Need-pair-places-requires
+pair-places-requires c κs =
+    let a = c .before .before .before .before .before .args in
+    passed (a .counts .now) (a .k) (sym (c .before .before .check-hand .ensures) ∙ c .before .if1 .left) .long
+
 find-readings-requires : tie.Need-find-readings-requires
-find-readings-requires c κs = (sym (c .before .before .check-hand .ensures) ∙ c .before .if1 .left, c .pack .ensures)
+find-readings-requires c κs = (
+  sym (c .before .before .before .check-hand .ensures) ∙ c .before .before .if1 .left,
+  (c .before .pack .ensures .0, (c .before .pack .ensures .1, c .pair-places .ensures)),
+)
 
 bytes-requires : tie.Need-bytes-requires
 bytes-requires c κs = c .find-readings .ensures .few
 
 returns-2 : tie.Need-returns-2
 returns-2 c =
-    let a = c .before .before .before .before .before .before .before .before .args in
-    let ok = sym (c .before .before .before .before .before .check-hand .ensures) ∙ c .before .before .before .before .if1 .left in
+    let a = c .before .before .before .before .before .before .before .before .before .args in
+    let ok = sym (c .before .before .before .before .before .before .check-hand .ensures) ∙ c .before .before .before .before .before .if1 .left in
     let f = c .before .before .find-readings .ensures in
     let need =
     bytes-counted (a .counts .now) (a .k) (melds-called (a .counts .now) (a .k) ok) (f .calls) (passed (a .counts .now) (a .k) ok .few) _ f
@@ -49,14 +54,14 @@ returns-2 c =
 
 write-readings-requires : tie.Need-write-readings-requires
 write-readings-requires c κs =
-    let a = c .before .before .before .before .before .before .before .before .before .args in
-    let ok = sym (c .before .before .before .before .before .before .check-hand .ensures) ∙ c .before .before .before .before .before .if1 .left in
+    let a = c .before .before .before .before .before .before .before .before .before .before .args in
+    let ok = sym (c .before .before .before .before .before .before .before .check-hand .ensures) ∙ c .before .before .before .before .before .before .if1 .left in
     let f = c .before .before .before .find-readings .ensures in
     let need =
     bytes-counted (a .counts .now) (a .k) (melds-called (a .counts .now) (a .k) ok) (f .calls) (passed (a .counts .now) (a .k) ok .few) _ f
     ∙ sym (c .before .before .bytes .ensures) in
     let room = c .before .if2 .left in
-    (ok, (c .before .before .before .before .pack .ensures .0, (c .before .before .before .before .pack .ensures .1, (f, omega (arith, need, room)))))
+    (ok, (c .before .before .before .before .before .pack .ensures .0, (c .before .before .before .before .before .pack .ensures .1, (c .before .before .before .before .pair-places .ensures, (f, omega (arith, need, room))))))
 
 readings-requires : tie.Need-readings-requires
 readings-requires c κs = c .before .before .before .before .before .before .find-readings .ensures .few
@@ -66,8 +71,8 @@ same-length c = search needs
 
 returns-3 : tie.Need-returns-3
 returns-3 c =
-    let a = c .before .before .before .before .before .before .before .before .before .before .before .before .before .args in
-    let ok = sym (c .before .before .before .before .before .before .before .before .before .before .check-hand .ensures) ∙ c .before .before .before .before .before .before .before .before .before .if1 .left in
+    let a = c .before .before .before .before .before .before .before .before .before .before .before .before .before .before .args in
+    let ok = sym (c .before .before .before .before .before .before .before .before .before .before .before .check-hand .ensures) ∙ c .before .before .before .before .before .before .before .before .before .before .if1 .left in
     let f = c .before .before .before .before .before .before .before .find-readings .ensures in
     let few = passed (a .counts .now) (a .k) ok .few in
     let melds = melds-called (a .counts .now) (a .k) ok in
@@ -86,6 +91,7 @@ list-readings-spec =
     check-hand-requires
     returns
     pack-requires
+    pair-places-requires
     find-readings-requires
     bytes-requires
     returns-2

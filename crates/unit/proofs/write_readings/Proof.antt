@@ -2,7 +2,7 @@
 -- Assumes nothing.
 use mathlib.Core.Path.{_≡_, refl, sym, ap, ap₂, _∙_}
 use mathlib.Core.List.{List, _++_}
-use Prim.Native.Nat.{ℕ, _+_, _-_, _%_, _≤_}
+use Prim.Native.Nat.{ℕ, _+_, _-_, _%_}
 use native.Mathlib.Omega.{arith}
 use lib.ListN.{length, length-append}
 use lib.Seq.{sets, length-sets}
@@ -55,17 +55,17 @@ write-seven-requires : tie.Need-write-seven-requires
 write-seven-requires c κs =
     let s = c .before .before .before in
     let cs = s .args .counts .now in
-    let f = s .pre .1 .1 .1 .0 in
-    (passed cs (s .args .k) (s .pre .0) .long, (f .pairs, omega (arith, s .pre .1 .1 .1 .1, sizes cs (s .args .k) (s .args .found) (s .pre .0) f)))
+    let f = s .pre .1 .1 .1 .1 .0 in
+    (passed cs (s .args .k) (s .pre .0) .long, (f .pairs, omega (arith, s .pre .1 .1 .1 .1 .1, sizes cs (s .args .k) (s .args .found) (s .pre .0) f)))
 
 write-orphan-requires : tie.Need-write-orphan-requires
 write-orphan-requires c κs =
     let s = c .before .before .before .before .before .before .before in
     let cs = s .args .counts .now in
-    let f = s .pre .1 .1 .1 .0 in
+    let f = s .pre .1 .1 .1 .1 .0 in
     let w = c .before .before .before .write-seven .ensures in
     let long = ap length (w .1) ∙ length-sets (s .args .out .now) 0 (sevenRecords cs (s .args .found .seven)) in
-    omega (arith, s .pre .1 .1 .1 .1, sizes cs (s .args .k) (s .args .found) (s .pre .0) f, w .0, long)
+    omega (arith, s .pre .1 .1 .1 .1 .1, sizes cs (s .args .k) (s .args .found) (s .pre .0) f, w .0, long)
 
 slots-of-requires : tie.Need-slots-of-requires
 slots-of-requires c κs =
@@ -77,7 +77,7 @@ write-standards-requires c κs =
     let s = c .before .before .before .before .before .before .before .before .before .before .before .before in
     let cs = s .args .counts .now in
     let k = s .args .k in
-    let f = s .pre .1 .1 .1 .0 in
+    let f = s .pre .1 .1 .1 .1 .0 in
     let w = c .before .before .before .before .before .before .before .before .write-seven .ensures in
     let o = c .before .before .before .before .write-orphan .ensures in
     let one = ap length (w .1) ∙ length-sets (s .args .out .now) 0 (sevenRecords cs (s .args .found .seven)) in
@@ -91,7 +91,7 @@ write-standards-requires c κs =
           s .pre .1 .0,
           (
             s .pre .1 .1 .0,
-            omega (arith, s .pre .1 .1 .1 .1, sizes cs k (s .args .found) (s .pre .0) f, w .0, o .0, one, two, same),
+            (s .pre .1 .1 .1 .0, omega (arith, s .pre .1 .1 .1 .1 .1, sizes cs k (s .args .found) (s .pre .0) f, w .0, o .0, one, two, same)),
           ),
         ),
       ),
@@ -106,7 +106,7 @@ returns c =
     let cs = s .args .counts .now in
     let k = s .args .k in
     let g = s .args .found in
-    let f = s .pre .1 .1 .1 .0 in
+    let f = s .pre .1 .1 .1 .1 .0 in
     let w = c .before .before .before .before .before .before .before .before .before .before .before .write-seven .ensures in
     let o = c .before .before .before .before .before .before .before .write-orphan .ensures in
     let d = c .before .before .write-standards .ensures in

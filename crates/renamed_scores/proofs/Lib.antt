@@ -1,0 +1,9 @@
+pub mod Tiles
+pub mod Moved
+pub mod Waits
+pub mod Melds
+pub mod Yakuhai
+pub mod Asked
+pub mod Han
+pub mod Fu
+pub mod Score

@@ -1,0 +1,123 @@
+-- What the winning tile completed stays when it and the reading are renamed: waits, the pair's weight, Pinfu, and what is concealed.
+-- Assumes nothing.
+use mathlib.Core.Path.{_≡_, refl, sym, subst, ap, ap₂, _∙_}
+use mathlib.Core.Bool.{Bool, _&&_, _||_, not, Bool·beq}
+use mathlib.Core.List.{List, [], _∷_}
+use Prim.Native.Nat.{ℕ, _+_, _<_}
+use native.Mathlib.Omega.{arith}
+use lib.Dec.{T, eqb, ltb, leb, eqb→eq, ltb→lt}
+use Rattle.lists.specs.Fold.{all, one}
+use Rattle.lists.proofs.Finite.{beq→eq, and-left, and-right}
+use Rattle.tile.specs.Tile.{isWind}
+use Rattle.tile.specs.declared.Renaming.{Renaming}
+use Rattle.tile.specs.Renaming.{ren}
+use Rattle.tile.proofs.Renamings.{ren-eqb, ren-isDragon, wind-stays}
+use Rattle.meld.specs.declared.Meld.{Meld}
+use Rattle.meld.specs.Meld.{isMeld, isSequence, isTripletOrKan}
+use Rattle.meld.specs.Renamed.{renMeld}
+use Rattle.meld.proofs.Renamed.{meld-tile-at, onMelds, Moved, all-moved, any-moved, count-moved}
+use Rattle.context.specs.declared.GameContext.{GameContext}
+use Rattle.context.specs.Context.{inRange, isDealer, isTsumo, renWin}
+use Rattle.hand.specs.Reading.{Reading, pairs, orphans, standard}
+use Rattle.renamed.specs.Renamed.{renReading}
+use Rattle.renamed.proofs.Records.{isReading}
+use Rattle.wait.specs.Wait.{within, twoSided, edge, middle, closedRun, closedTriplet, waits, weight, pinfu}
+use Rattle.wait.specs.Concealed.{spared, concealed}
+use Rattle.renamed_scores.proofs.Moved.{sorted-moved, pairs-any, and-cong, set-eqb}
+
+-- ---- a tile and a closed sequence, each law by a test
+closed-law :
+    (p : ℕ → ℕ → Bool) → T (onMelds (λ m. eqb (m .kind) 0) (λ ρ m t. Bool·beq (p (ren ρ t) (renMeld ρ m .tile)) (p t (m .tile))))
+    → (ρ : Renaming) (t : ℕ) → t < 34 → (m : Meld) → T (isMeld m) → closedRun p (ren ρ t) (renMeld ρ m) ≡ closedRun p t m
+closed-law p ok ρ t h m v =
+    and-cong (eqb (m .kind) 0)
+    (λ i. beq→eq _ _
+    (meld-tile-at (λ m. eqb (m .kind) 0) (λ ρ m t. Bool·beq (p (ren ρ t) (renMeld ρ m .tile)) (p t (m .tile))) ok ρ m v i t h))
+
+-- how a question of a tile and a meld moves
+abbrev TileStays : (ℕ → Meld → Bool) → Type 0
+TileStays q = (ρ : Renaming) (t : ℕ) → t < 34 → (m : Meld) → T (isMeld m) → q (ren ρ t) (renMeld ρ m) ≡ q t m
+
+pub ren-within : TileStays (closedRun within)
+ren-within = closed-law within tt
+
+pub ren-twoSided : TileStays (closedRun twoSided)
+ren-twoSided = closed-law twoSided tt
+
+pub ren-edge : TileStays (closedRun edge)
+ren-edge = closed-law edge tt
+
+pub ren-middle : TileStays (closedRun middle)
+ren-middle = closed-law middle tt
+
+-- ---- a tile and a closed triplet
+closed-set : (m : Meld) → T (eqb (m .kind) 2) → T (isTripletOrKan m)
+closed-set m i = subst (λ (k : ℕ). T (leb 2 k && ltb k 7)) (sym (eqb→eq (m .kind) 2 i)) tt
+
+ren-triplet : TileStays closedTriplet
+ren-triplet ρ t h m v = and-cong (eqb (m .kind) 2) (λ i. set-eqb ρ t h m v (closed-set m i))
+
+-- ---- how often an honor counts: a tile is the round wind or the seat wind where the renamed tile is the renamed win's
+wind-lt : (t : ℕ) → T (isWind t) → t < 34
+wind-lt t h = let k = ltb→lt t 31 (and-right (leb 27 t) (ltb t 31) h) in omega arith
+
+wind-eqb : (ρ : Renaming) (t u : ℕ) → t < 34 → T (isWind u) → eqb (ren ρ t) u ≡ eqb t u
+wind-eqb ρ t u h k = ap (eqb (ren ρ t)) (sym (wind-stays ρ u (wind-lt u k) k)) ∙ ren-eqb ρ t u h (wind-lt u k)
+
+module _ (ρ : Renaming) (w : GameContext) (winds : T (inRange w)) where
+  both-winds : T (isWind (w .«round_wind») && isWind (w .«seat_wind»))
+  both-winds = and-right (ltb (w .«win_type») 2) _ winds
+
+  round-eqb : (t : ℕ) → t < 34 → eqb (ren ρ t) (renWin ρ w .«round_wind») ≡ eqb t (w .«round_wind»)
+  round-eqb t h = wind-eqb ρ t (w .«round_wind») h (and-left (isWind (w .«round_wind»)) _ both-winds)
+
+  seat-eqb : (t : ℕ) → t < 34 → eqb (ren ρ t) (renWin ρ w .«seat_wind») ≡ eqb t (w .«seat_wind»)
+  seat-eqb t h = wind-eqb ρ t (w .«seat_wind») h (and-right (isWind (w .«round_wind»)) _ both-winds)
+
+  pub ren-isDealer : isDealer (renWin ρ w) ≡ isDealer w
+  ren-isDealer = refl
+
+  pub ren-weight : (t : ℕ) → t < 34 → weight (renWin ρ w) (ren ρ t) ≡ weight w t
+  ren-weight t h = λ i. one (ren-isDragon ρ t h i) + (one (round-eqb t h i) + one (seat-eqb t h i))
+
+-- ---- what is concealed
+module _ (ρ : Renaming) (w : GameContext) (h : w .«winning_tile» < 34) where
+  pub ren-spared : {ms ns : List Meld} → Moved ρ ms ns → spared (renWin ρ w) ns ≡ spared w ms
+  ren-spared mv = any-moved mv _ _ (ren-within ρ (w .«winning_tile») h)
+
+  pub ren-concealed : (kept : Bool) (m : Meld) → T (isMeld m) → concealed (renWin ρ w) kept (renMeld ρ m) ≡ concealed w kept m
+  ren-concealed kept m v =
+      ap (λ (b : Bool). eqb (m .kind) 4 || b)
+      (and-cong (eqb (m .kind) 2)
+      (λ i. ap (λ (b : Bool). isTsumo w || (not b || kept)) (set-eqb ρ (w .«winning_tile») h m v (closed-set m i))))
+
+-- ---- Pinfu
+pub pinfu-renamed :
+    (ρ : Renaming) (w : GameContext) → T (inRange w) → w .«winning_tile» < 34 → (opened : Bool) (r : Reading) → T (isReading r)
+    → pinfu (renWin ρ w) opened (renReading ρ r) ≡ pinfu w opened r
+unfolding pinfu
+pinfu-renamed ρ w winds h opened (pairs ps) v = refl
+pinfu-renamed ρ w winds h opened (orphans p) v = refl
+pinfu-renamed ρ w winds h opened (standard p ms) v =
+    let mv = sorted-moved ρ ms (and-right (ltb p 34) (all isMeld ms) v) in
+    let k : p < 34 = ltb→lt p 34 (and-left (ltb p 34) (all isMeld ms) v) in
+    ap (λ (b : Bool). not opened && b)
+    (ap₂ _&&_ (all-moved mv isSequence isSequence (λ m v. refl))
+    (ap₂ _&&_ (ap (λ (n : ℕ). eqb n 0) (ren-weight ρ w winds p k)) (any-moved mv _ _ (ren-twoSided ρ (w .«winning_tile») h))))
+
+-- ---- the tallies of waits
+pub waits-renamed : (ρ : Renaming) (t : ℕ) → t < 34 → (r : Reading) → T (isReading r) → waits (ren ρ t) (renReading ρ r) ≡ waits t r
+unfolding waits
+waits-renamed ρ t h (pairs ps) v =
+    ap (λ (b : Bool). 0 ∷ 0 ∷ 0 ∷ 0 ∷ one b ∷ 0 ∷ [])
+    (pairs-any ρ ps v (eqb t) (eqb (ren ρ t)) (λ u k. ren-eqb ρ t u h k))
+waits-renamed ρ t h (orphans p) v =
+    ap (λ (b : Bool). 0 ∷ 0 ∷ 0 ∷ 0 ∷ one b ∷ one (not b) ∷ []) (ren-eqb ρ t p h (ltb→lt p 34 v))
+waits-renamed ρ t h (standard p ms) v =
+    let mv = sorted-moved ρ ms (and-right (ltb p 34) (all isMeld ms) v) in
+    let k : p < 34 = ltb→lt p 34 (and-left (ltb p 34) (all isMeld ms) v) in
+    let ryanmen = count-moved mv (closedRun twoSided t) (closedRun twoSided (ren ρ t)) (ren-twoSided ρ t h) in
+    let kanchan = count-moved mv (closedRun middle t) (closedRun middle (ren ρ t)) (ren-middle ρ t h) in
+    let penchan = count-moved mv (closedRun edge t) (closedRun edge (ren ρ t)) (ren-edge ρ t h) in
+    let shanpon = count-moved mv (closedTriplet t) (closedTriplet (ren ρ t)) (ren-triplet ρ t h) in
+    λ i. ryanmen i ∷ kanchan i ∷ penchan i ∷ shanpon i ∷ one (ren-eqb ρ t p h k i) ∷ 0 ∷ []
