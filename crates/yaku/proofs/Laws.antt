@@ -1,6 +1,6 @@
 -- The han of a reading with at most four melds is below 256; it is 0 exactly where no yaku that counts is there; and a value of the
 -- table for open hands is that of closed hands, one less, or nothing. Assumes nothing.
-use mathlib.Core.Path.{_≡_, refl, sym, subst, ap}
+use mathlib.Core.Path.{_≡_, refl, subst}
 use mathlib.Core.Logic.{_⊎_, inl, inr, ⊎-elim}
 use mathlib.Core.Bool.{Bool, true, false, _&&_, _||_, cond}
 use mathlib.Core.List.{List, [], _∷_, _++_, map}
@@ -147,7 +147,7 @@ module _ (w : GameContext) (opened : Bool) (s : TileYaku) (r : Reading) (short :
   unfolding han tallies isYakuman
   han-small = let most = dot-most (any (λ b. b) (yakuman w opened s r)) refl in omega arith
 
--- ---- no han: no yaku that counts in such a hand
+-- ---- no han: at each place the value or the tally is 0
 no-sum→ : (vs ns : List ℕ) → dot vs ns ≡ 0 → (i : ℕ) → (getD vs i 0 ≡ 0) ⊎ (getD ns i 0 ≡ 0)
 no-sum→ [] ns e i = inl refl
 no-sum→ (v ∷ vs) [] e i = inr refl
@@ -164,6 +164,7 @@ no-sum← (v ∷ vs) (n ∷ ns) h =
     ⊎-elim (λ e. rw e (omega arith)) (λ e. rw e (omega arith)) (h 0)
 
 module _ (w : GameContext) (opened : Bool) (s : TileYaku) (r : Reading) where
+  -- no yaku that counts in such a hand is there
   abbrev pub NoYaku : Type 0
   NoYaku = (i : ℕ) → (getD (hanOf opened) i 0 ≡ 0) ⊎ (getD (tallies w opened s r) i 0 ≡ 0)
 
@@ -172,9 +173,9 @@ module _ (w : GameContext) (opened : Bool) (s : TileYaku) (r : Reading) where
   no-yaku-zero = (no-sum→ (hanOf opened) (tallies w opened s r), no-sum← (hanOf opened) (tallies w opened s r))
 
 -- ---- the tables: in an open hand a yaku counts nothing, as much as in a closed hand, or one less
-abbrev pub opens : ℕ → ℕ → Bool
-opens closed opened = eqb opened 0 || (eqb opened closed || eqb (opened + 1) closed)
+abbrev pub openValue : ℕ → ℕ → Bool
+openValue closed opened = eqb opened 0 || (eqb opened closed || eqb (opened + 1) closed)
 
-pub table-rule : (i : ℕ) → i < 47 → T (opens (getD (hanOf false) i 0) (getD (hanOf true) i 0))
+pub table-rule : (i : ℕ) → i < 47 → T (openValue (getD (hanOf false) i 0) (getD (hanOf true) i 0))
 unfolding hanOf
-table-rule = at 47 (λ i. opens (getD (hanOf false) i 0) (getD (hanOf true) i 0)) tt
+table-rule = at 47 (λ i. openValue (getD (hanOf false) i 0) (getD (hanOf true) i 0)) tt

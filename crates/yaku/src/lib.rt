@@ -321,6 +321,7 @@ fn han_table(opened: bool) -> [u8; 47]
     HAN_CLOSED
 }
 
+// A byte as a wider number.
 fn wide(x: u8) -> u32
     ensures { λ r. ⌜ (r ≡ x) × (r ≤ 255) ⌝ }
 {

@@ -1,7 +1,6 @@
 -- `detect_yaku_with_context` meets its contract: what its parts ensure makes the definitions, and the han fits a byte.
 -- Assumes nothing.
 use mathlib.Core.Path.{sym, _∙_}
-use native.Mathlib.Omega.{arith}
 use lib.ListN.{length-map}
 use Rattle.structure.specs.Structure.{readingOf}
 use Rattle.yaku.proofs.Found.{all-found}
@@ -25,21 +24,6 @@ han-table-requires c κs = search needs
 sum-of-requires : tie.Need-sum-of-requires
 sum-of-requires c κs = search needs
 
-cast-t10 : tie.Need-cast-t10
-cast-t10 c =
-    let start = c .before .before .before .before .before in
-    let a = start .args in
-    let four = sym (length-map (a .h .melds) _) ∙ start .good .0 .1 .1 .1 .0 .1 .0 .1 in
-    let small = han-small (a .w) (a .opened) (a .s) (readingOf (a .h)) (short-reading (a .h) four) in
-    let found =
-    all-found (a .w) (a .opened) (a .s) (readingOf (a .h))
-    (c .before .before .before .before .yakuman-tallies .ensures)
-    (c .before .before .before .any-tally .ensures)
-    (c .before .before .all-tallies .ensures)
-    (c .before .han-table .ensures)
-    (c .sum-of .ensures) in
-    search needs
-
 returns : tie.Need-returns
 returns c =
     let a = c .before .before .before .before .before .args in
@@ -49,6 +33,15 @@ returns c =
     (c .before .before .all-tallies .ensures)
     (c .before .han-table .ensures)
     (c .sum-of .ensures)
+
+cast-t10 : tie.Need-cast-t10
+cast-t10 c =
+    let start = c .before .before .before .before .before in
+    let a = start .args in
+    let four = sym (length-map (a .h .melds) _) ∙ start .good .0 .1 .1 .1 .0 .1 .0 .1 in
+    let small = han-small (a .w) (a .opened) (a .s) (readingOf (a .h)) (short-reading (a .h) four) in
+    let found = returns c in
+    search needs
 
 pub detect-yaku-with-context-spec : {M : Type 1} → statement M
 detect-yaku-with-context-spec =
