@@ -221,7 +221,7 @@ mod tests {
     const SOUTH: u8 = 28;
 
     /// Han, fu and total of each reading, won by seat South in the round of East with no flags.
-    fn scores(hand: &Hand, win_type: u8, winning_tile: u8) -> Vec<(u8, u8, u32)> {
+    fn scores(hand: &Hand, win_type: u8, winning_tile: u8) -> Vec<(u8, u8, u64)> {
         let win = Win {
             win_type,
             winning_tile,
