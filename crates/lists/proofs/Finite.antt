@@ -73,6 +73,11 @@ pub or-skip : (a b : Bool) → T a → T (not a || b) → T b
 or-skip true b h t = t
 or-skip false b h t = absurd h
 
+-- a part asked only where the condition holds
+pub and-cong : (b : Bool) {x y : Bool} → (T b → x ≡ y) → (b && x) ≡ (b && y)
+and-cong true f = f tt
+and-cong false f = refl
+
 -- a test that passes at each number below n
 pub allBelow-intro : (n : ℕ) (p : ℕ → Bool) → ((k : ℕ) → k < n → T (p k)) → T (allBelow n p)
 allBelow-intro zero p h = tt

@@ -3,7 +3,8 @@ use mathlib.Core.Path.{_≡_, refl, sym, subst, ap, _∙_}
 use mathlib.Core.Bool.{Bool, true, false, _&&_, _||_, not, cond, Bool·beq}
 use mathlib.Core.List.{List, map, List·Permᴰ}
 use Prim.Native.Nat.{ℕ, _<_}
-use lib.Dec.{T, eqb, eqb→eq}
+use lib.Dec.{T, eqb, leb, ltb, eqb→eq, leb→le}
+use borrow.Author.Tests.{le-ltb}
 use Rattle.lists.specs.Fold.{allBelow, one, all, any, sum, count, every, some, total}
 use Rattle.lists.proofs.Finite.{at, beq→eq, and-left, and-right, or-skip}
 use Rattle.lists.proofs.Permuted.{every-perm, some-perm, total-perm, map-perm, map-moved}
@@ -11,7 +12,7 @@ use Rattle.tile.specs.declared.Renaming.{Renaming}
 use Rattle.tile.specs.Renaming.{ren, back}
 use Rattle.tile.proofs.Renamings.{allRen, ren-at, ren-eqb}
 use Rattle.meld.specs.declared.Meld.{Meld}
-use Rattle.meld.specs.Meld.{isSequence, isKan, isMeld, isHandMeld, uses, setSize, eqMeld}
+use Rattle.meld.specs.Meld.{isSequence, isTripletOrKan, isKan, isMeld, isHandMeld, uses, setSize, eqMeld}
 use Rattle.meld.specs.Renamed.{renMeld}
 use Rattle.meld.proofs.Melds.{allMelds, melds-at, meld-tile, eqMeld→eq}
 
@@ -77,6 +78,18 @@ ren-uses ρ m v t h = go (isSequence m) refl
     go : (b : Bool) → isSequence m ≡ b → uses (renMeld ρ m) (ren ρ t) ≡ uses m t
     go true e = ren-uses-seq ρ m v t h (subst T (sym e) tt)
     go false e = ren-uses-trip ρ m v t h e
+
+-- ---- the tile of a renamed triplet or kan
+pub not-sequence : (m : Meld) → T (isTripletOrKan m) → isSequence m ≡ false
+not-sequence m i = le-ltb (m .kind) 2 (leb→le 2 (m .kind) (and-left (leb 2 (m .kind)) (ltb (m .kind) 7) i))
+
+pub set-tile : (ρ : Renaming) (m : Meld) → isSequence m ≡ false → renMeld ρ m .tile ≡ ren ρ (m .tile)
+set-tile ρ m e = rw e
+
+pub set-eqb :
+    (ρ : Renaming) (t : ℕ) → t < 34 → (m : Meld) → T (isMeld m) → T (isTripletOrKan m)
+    → eqb (ren ρ t) (renMeld ρ m .tile) ≡ eqb t (m .tile)
+set-eqb ρ t h m v i = ap (eqb (ren ρ t)) (set-tile ρ m (not-sequence m i)) ∙ ren-eqb ρ t (m .tile) h (meld-tile m v)
 
 -- ---- melds that are others renamed, in any order
 pub record Moved (ρ : Renaming) (ms ns : List Meld) : Type 0 where

@@ -1,3 +1,4 @@
 pub mod Otherwise
 pub mod Lines
 pub mod Peikou
+pub mod Renamed

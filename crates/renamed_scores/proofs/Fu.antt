@@ -14,7 +14,7 @@ use Rattle.meld.specs.declared.Meld.{Meld}
 use Rattle.meld.specs.Meld.{isKan, isMeld, isSequence, sorted}
 use Rattle.meld.specs.Renamed.{renMeld}
 use Rattle.meld.proofs.Melds.{meld-tile}
-use Rattle.meld.proofs.Renamed.{Moved, any-moved, sum-moved}
+use Rattle.meld.proofs.Renamed.{Moved, any-moved, sum-moved, set-tile}
 use Rattle.context.specs.declared.GameContext.{GameContext}
 use Rattle.context.specs.Context.{inRange, isTsumo, renWin}
 use Rattle.hand.specs.Reading.{Reading, pairs, orphans, standard}
@@ -22,8 +22,9 @@ use Rattle.renamed.specs.Renamed.{renReading}
 use Rattle.renamed.proofs.Records.{isReading}
 use Rattle.wait.specs.Concealed.{spared}
 use Rattle.scoring.specs.Fu.{meldFu, waitFu, baseFu, roundUpTo10, atLeast30, standardFu, fu}
-use Rattle.renamed_scores.proofs.Moved.{sorted-moved, set-tile}
-use Rattle.renamed_scores.proofs.Waits.{ren-edge, ren-middle, ren-weight, ren-spared, ren-concealed, pinfu-renamed}
+use Rattle.renamed_scores.proofs.Moved.{sorted-moved}
+use Rattle.wait.proofs.Renamed.{ren-edge, ren-middle}
+use Rattle.renamed_scores.proofs.Waits.{ren-weight, ren-spared, ren-concealed, pinfu-renamed}
 
 module _ (ρ : Renaming) (w : GameContext) (h : w .«winning_tile» < 34) where
   -- ---- one meld: a triplet or kan is of terminals or honors where the renamed one is

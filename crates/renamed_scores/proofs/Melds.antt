@@ -1,85 +1,26 @@
 -- The yaku of the pair and the melds stay when the reading and the winning tile are renamed. Assumes nothing.
 use mathlib.Core.Path.{_≡_, refl, ap, ap₂, _∙_}
-use mathlib.Core.Bool.{Bool, false, _&&_, _||_, not, Bool·beq}
-use mathlib.Core.List.{List, [], _∷_, map}
+use mathlib.Core.Bool.{Bool, false, _&&_, _||_, not}
+use mathlib.Core.List.{List}
 use Prim.Native.Nat.{ℕ, _/_, _<_}
-use native.Mathlib.Omega.{arith}
 use lib.Dec.{T, eqb, ltb, ltb→lt}
 use Rattle.lists.specs.Fold.{any, count}
-use Rattle.lists.proofs.Finite.{beq→eq, and-left, or-skip}
-use Rattle.lists.proofs.Permuted.{isPerm, isPerm-perm, Shuffled, sum-over, lines-over, sameLines}
-use Rattle.tile.specs.Tile.{isDragon, isStart, isSuited, isTerminal, isTerminalOrHonor, isWind}
+use Rattle.lists.proofs.Permuted.{sum-over, lines-over}
+use Rattle.tile.specs.Tile.{isDragon, isStart, isTerminal, isTerminalOrHonor, isWind}
 use Rattle.tile.specs.declared.Renaming.{Renaming}
 use Rattle.tile.specs.Renaming.{ren}
-use Rattle.tile.proofs.Renamings.{ren-at, ren-isDragon, ren-isTerminal, ren-isTerminalOrHonor, ren-isWind}
+use Rattle.tile.proofs.Renamings.{ren-isDragon, ren-isTerminal, ren-isTerminalOrHonor, ren-isWind}
 use Rattle.meld.specs.declared.Meld.{Meld}
-use Rattle.meld.specs.Meld.{isKan, isMeld, isSequence, isTripletOrKan, meld}
+use Rattle.meld.specs.Meld.{isKan, isMeld, isSequence, isTripletOrKan}
 use Rattle.meld.specs.Renamed.{renMeld}
-use Rattle.meld.proofs.Renamed.{meld-law, meld-tile-at, onMelds, Moved, all-moved, any-moved, count-moved}
+use Rattle.meld.proofs.Renamed.{Moved, all-moved, any-moved, count-moved}
 use Rattle.context.specs.declared.GameContext.{GameContext}
 use Rattle.context.specs.Context.{renWin}
 use Rattle.wait.specs.Concealed.{concealed, spared}
-use Rattle.meld_yaku.specs.Melds.{runFrom, setOf, endRun, toitoi, kans, dragons, winds, sanAnkou, straights, ittsu, threeSuits, sanshokuDoujun, sanshokuDoukou, starts, peikou, chanta, junchan, shousangen}
+use Rattle.meld_yaku.specs.Melds.{runFrom, setOf, endRun, toitoi, kans, dragons, winds, sanAnkou, straights, ittsu, sanshokuDoujun, sanshokuDoukou, peikou, chanta, junchan, shousangen}
+use Rattle.meld_yaku.proofs.Renamed.{dragon-set, wind-set, outer-meld, terminal-meld, ren-setOf, renStart, ren-runFrom, starts-over, runLines, setLines, straights-same, runLines-same, setLines-same}
 use Rattle.meld_yaku.specs.Yakuman.{suuankou, daisangen, shousuushii, daisuushii, suuKantsu}
-use Rattle.renamed_scores.proofs.Moved.{and-cong, set-eqb}
 use Rattle.renamed_scores.proofs.Waits.{ren-spared, ren-concealed}
-
--- ---- questions of one meld that stay, each by a test over all renamings and melds
-abbrev Stays : (Meld → Bool) → Type 0
-Stays p = (ρ : Renaming) (m : Meld) → T (isMeld m) → p (renMeld ρ m) ≡ p m
-
-dragon-set : Stays (setOf isDragon)
-dragon-set = meld-law (setOf isDragon) tt
-
-wind-set : Stays (setOf isWind)
-wind-set = meld-law (setOf isWind) tt
-
-outer-meld : Stays (λ m. endRun m || setOf isTerminalOrHonor m)
-outer-meld = meld-law (λ m. endRun m || setOf isTerminalOrHonor m) tt
-
-terminal-meld : Stays (λ m. endRun m || setOf isTerminal m)
-terminal-meld = meld-law (λ m. endRun m || setOf isTerminal m) tt
-
--- a triplet or kan of a tile
-pub ren-setOf : (ρ : Renaming) (t : ℕ) → t < 34 → (m : Meld) → T (isMeld m) → setOf (eqb (ren ρ t)) (renMeld ρ m) ≡ setOf (eqb t) m
-ren-setOf ρ t h m v = and-cong (isTripletOrKan m) (set-eqb ρ t h m v)
-
--- ---- where a renamed sequence starts
-abbrev renStart : Renaming → ℕ → ℕ
-renStart ρ t = renMeld ρ (meld t 0) .tile
-
-start-test : T (onMelds isSequence (λ ρ m t. not (isStart t) || Bool·beq (eqb (renStart ρ t) (renMeld ρ m .tile)) (eqb t (m .tile))))
-start-test = tt
-
-start-lt : (t : ℕ) → T (isStart t) → t < 34
-start-lt t s = let h = ltb→lt t 27 (and-left (isSuited t) _ s) in omega arith
-
-ren-runFrom : (ρ : Renaming) (t : ℕ) → T (isStart t) → (m : Meld) → T (isMeld m) → runFrom (renStart ρ t) (renMeld ρ m) ≡ runFrom t m
-ren-runFrom ρ t s m v =
-    and-cong (isSequence m)
-    (λ i. beq→eq _ _
-    (or-skip (isStart t) _ s
-    (meld-tile-at isSequence (λ ρ m t. not (isStart t) || Bool·beq (eqb (renStart ρ t) (renMeld ρ m .tile)) (eqb t (m .tile))) start-test ρ m v i t
-    (start-lt t s))))
-
--- ---- starts and lines, in another order
-starts-over : (ρ : Renaming) → Shuffled (renStart ρ) isStart starts
-starts-over ρ = record { each = tt; same = isPerm-perm _ _ (ren-at (λ ρ. isPerm (map (renStart ρ) starts) starts) tt ρ) }
-
-abbrev runLines : List (List ℕ)
-runLines = map threeSuits (0 ∷ 1 ∷ 2 ∷ 3 ∷ 4 ∷ 5 ∷ 6 ∷ [])
-
-abbrev setLines : List (List ℕ)
-setLines = map threeSuits (0 ∷ 1 ∷ 2 ∷ 3 ∷ 4 ∷ 5 ∷ 6 ∷ 7 ∷ 8 ∷ [])
-
-straights-same : (ρ : Renaming) → T (sameLines (renStart ρ) straights)
-straights-same = ren-at (λ ρ. sameLines (renStart ρ) straights) tt
-
-runLines-same : (ρ : Renaming) → T (sameLines (renStart ρ) runLines)
-runLines-same = ren-at (λ ρ. sameLines (renStart ρ) runLines) tt
-
-setLines-same : (ρ : Renaming) → T (sameLines (ren ρ) setLines)
-setLines-same = ren-at (λ ρ. sameLines (ren ρ) setLines) tt
 
 -- ---- the melds ns are the melds ms, renamed, in any order
 module _ (ρ : Renaming) (ms ns : List Meld) (mv : Moved ρ ms ns) where

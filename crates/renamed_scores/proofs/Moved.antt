@@ -1,14 +1,12 @@
--- The pairs and the melds of a renamed reading are those of the reading, renamed, in another order; and the tile of a renamed triplet.
+-- The pairs and the melds of a renamed reading are those of the reading, renamed, in another order.
 -- Assumes nothing.
-use mathlib.Core.Path.{_≡_, refl, subst, ap, _∙_}
-use mathlib.Core.Bool.{Bool, true, false, _&&_}
+use mathlib.Core.Path.{_≡_, subst, ap, _∙_}
+use mathlib.Core.Bool.{Bool}
 use mathlib.Core.List.{List, map, List·Permᴰ, Memᴰ·of-map}
 use Prim.Native.Nat.{ℕ, _<_}
-use lib.Dec.{T, eqb, ltb, leb, eqb→eq, ltb→lt, leb→le, eqb-refl}
-use borrow.Author.Tests.{le-ltb}
+use lib.Dec.{T, eqb, ltb, eqb→eq, ltb→lt, eqb-refl}
 use Rattle.lists.specs.Fold.{all, any, some}
 use Rattle.lists.specs.Order.{arrange}
-use Rattle.lists.proofs.Finite.{and-left}
 use Rattle.lists.proofs.Permuted.{some-perm, map-perm, map-moved}
 use Rattle.lists.proofs.Members.{all-mem, all-intro}
 use Rattle.lists.proofs.Arranged.{arrange-perm}
@@ -16,11 +14,10 @@ use Rattle.tile.specs.Tile.{tiles}
 use Rattle.tile.specs.declared.Renaming.{Renaming}
 use Rattle.tile.specs.Renaming.{ren}
 use Rattle.tile.proofs.Tiles.{in-tiles, tiles-nodup}
-use Rattle.tile.proofs.Renamings.{ren-lt, ren-eqb}
+use Rattle.tile.proofs.Renamings.{ren-lt}
 use Rattle.meld.specs.declared.Meld.{Meld}
-use Rattle.meld.specs.Meld.{isMeld, isSequence, isTripletOrKan, sorted}
+use Rattle.meld.specs.Meld.{isMeld, sorted}
 use Rattle.meld.specs.Renamed.{renMeld}
-use Rattle.meld.proofs.Melds.{meld-tile}
 use Rattle.meld.proofs.Renamed.{Moved, ren-isMeld}
 use Rattle.renamed.proofs.Readings.{sorted-perm}
 
@@ -49,21 +46,3 @@ pub pairs-any :
 pairs-any ρ ps v p q law =
     some-perm (map-perm q (pairs-perm ρ ps v))
     ∙ ap some (map-moved (λ t. ltb t 34) (ren ρ) p q (λ t h. law t (ltb→lt t 34 h)) ps v)
-
--- ---- one meld
--- a part asked only where the condition holds
-pub and-cong : (b : Bool) {x y : Bool} → (T b → x ≡ y) → (b && x) ≡ (b && y)
-and-cong true f = f tt
-and-cong false f = refl
-
-pub not-sequence : (m : Meld) → T (isTripletOrKan m) → isSequence m ≡ false
-not-sequence m i = le-ltb (m .kind) 2 (leb→le 2 (m .kind) (and-left (leb 2 (m .kind)) (ltb (m .kind) 7) i))
-
--- the tile of a renamed triplet or kan
-pub set-tile : (ρ : Renaming) (m : Meld) → isSequence m ≡ false → renMeld ρ m .tile ≡ ren ρ (m .tile)
-set-tile ρ m e = rw e
-
-pub set-eqb :
-    (ρ : Renaming) (t : ℕ) → t < 34 → (m : Meld) → T (isMeld m) → T (isTripletOrKan m)
-    → eqb (ren ρ t) (renMeld ρ m .tile) ≡ eqb t (m .tile)
-set-eqb ρ t h m v i = ap (eqb (ren ρ t)) (set-tile ρ m (not-sequence m i)) ∙ ren-eqb ρ t (m .tile) h (meld-tile m v)

@@ -1,61 +1,30 @@
 -- What the winning tile completed stays when it and the reading are renamed: waits, the pair's weight, Pinfu, and what is concealed.
 -- Assumes nothing.
-use mathlib.Core.Path.{_≡_, refl, sym, subst, ap, ap₂, _∙_}
-use mathlib.Core.Bool.{Bool, _&&_, _||_, not, Bool·beq}
+use mathlib.Core.Path.{_≡_, refl, sym, ap, ap₂, _∙_}
+use mathlib.Core.Bool.{Bool, _&&_, _||_, not}
 use mathlib.Core.List.{List, [], _∷_}
 use Prim.Native.Nat.{ℕ, _+_, _<_}
 use native.Mathlib.Omega.{arith}
-use lib.Dec.{T, eqb, ltb, leb, eqb→eq, ltb→lt}
+use lib.Dec.{T, eqb, ltb, leb, ltb→lt}
 use Rattle.lists.specs.Fold.{all, one}
-use Rattle.lists.proofs.Finite.{beq→eq, and-left, and-right}
+use Rattle.lists.proofs.Finite.{and-left, and-right, and-cong}
 use Rattle.tile.specs.Tile.{isWind}
 use Rattle.tile.specs.declared.Renaming.{Renaming}
 use Rattle.tile.specs.Renaming.{ren}
 use Rattle.tile.proofs.Renamings.{ren-eqb, ren-isDragon, wind-stays}
 use Rattle.meld.specs.declared.Meld.{Meld}
-use Rattle.meld.specs.Meld.{isMeld, isSequence, isTripletOrKan}
+use Rattle.meld.specs.Meld.{isMeld, isSequence}
 use Rattle.meld.specs.Renamed.{renMeld}
-use Rattle.meld.proofs.Renamed.{meld-tile-at, onMelds, Moved, all-moved, any-moved, count-moved}
+use Rattle.meld.proofs.Renamed.{set-eqb, Moved, all-moved, any-moved, count-moved}
 use Rattle.context.specs.declared.GameContext.{GameContext}
 use Rattle.context.specs.Context.{inRange, isDealer, isTsumo, renWin}
 use Rattle.hand.specs.Reading.{Reading, pairs, orphans, standard}
 use Rattle.renamed.specs.Renamed.{renReading}
 use Rattle.renamed.proofs.Records.{isReading}
-use Rattle.wait.specs.Wait.{within, twoSided, edge, middle, closedRun, closedTriplet, waits, weight, pinfu}
+use Rattle.wait.specs.Wait.{twoSided, edge, middle, closedRun, closedTriplet, waits, weight, pinfu}
 use Rattle.wait.specs.Concealed.{spared, concealed}
-use Rattle.renamed_scores.proofs.Moved.{sorted-moved, pairs-any, and-cong, set-eqb}
-
--- ---- a tile and a closed sequence, each law by a test
-closed-law :
-    (p : ℕ → ℕ → Bool) → T (onMelds (λ m. eqb (m .kind) 0) (λ ρ m t. Bool·beq (p (ren ρ t) (renMeld ρ m .tile)) (p t (m .tile))))
-    → (ρ : Renaming) (t : ℕ) → t < 34 → (m : Meld) → T (isMeld m) → closedRun p (ren ρ t) (renMeld ρ m) ≡ closedRun p t m
-closed-law p ok ρ t h m v =
-    and-cong (eqb (m .kind) 0)
-    (λ i. beq→eq _ _
-    (meld-tile-at (λ m. eqb (m .kind) 0) (λ ρ m t. Bool·beq (p (ren ρ t) (renMeld ρ m .tile)) (p t (m .tile))) ok ρ m v i t h))
-
--- how a question of a tile and a meld moves
-abbrev TileStays : (ℕ → Meld → Bool) → Type 0
-TileStays q = (ρ : Renaming) (t : ℕ) → t < 34 → (m : Meld) → T (isMeld m) → q (ren ρ t) (renMeld ρ m) ≡ q t m
-
-pub ren-within : TileStays (closedRun within)
-ren-within = closed-law within tt
-
-pub ren-twoSided : TileStays (closedRun twoSided)
-ren-twoSided = closed-law twoSided tt
-
-pub ren-edge : TileStays (closedRun edge)
-ren-edge = closed-law edge tt
-
-pub ren-middle : TileStays (closedRun middle)
-ren-middle = closed-law middle tt
-
--- ---- a tile and a closed triplet
-closed-set : (m : Meld) → T (eqb (m .kind) 2) → T (isTripletOrKan m)
-closed-set m i = subst (λ (k : ℕ). T (leb 2 k && ltb k 7)) (sym (eqb→eq (m .kind) 2 i)) tt
-
-ren-triplet : TileStays closedTriplet
-ren-triplet ρ t h m v = and-cong (eqb (m .kind) 2) (λ i. set-eqb ρ t h m v (closed-set m i))
+use Rattle.wait.proofs.Renamed.{closed-set, ren-within, ren-twoSided, ren-edge, ren-middle, ren-triplet}
+use Rattle.renamed_scores.proofs.Moved.{sorted-moved, pairs-any}
 
 -- ---- how often an honor counts: a tile is the round wind or the seat wind where the renamed tile is the renamed win's
 wind-lt : (t : ℕ) → T (isWind t) → t < 34

@@ -22,7 +22,7 @@ use Rattle.meld_yaku.specs.Melds.{setOf, yakuhai}
 use Rattle.meld_yaku.specs.Standard.{yakuhaiOf}
 use Rattle.renamed_scores.proofs.Moved.{sorted-moved}
 use Rattle.renamed_scores.proofs.Waits.{ren-weight}
-use Rattle.renamed_scores.proofs.Melds.{ren-setOf}
+use Rattle.meld_yaku.proofs.Renamed.{ren-setOf}
 
 -- the seven honors, and them in another order
 abbrev pub honors : List ℕ
