@@ -27,10 +27,14 @@ use Rattle.renamed_scores.proofs.Waits.{ren-isDealer, pinfu-renamed}
 use Rattle.renamed_scores.proofs.Melds.{ren-toitoi, ren-kans, ren-suuKantsu, ren-daisangen, ren-daisuushii, ren-ittsu, ren-sanshokuDoujun, ren-sanshokuDoukou, ren-peikou, ren-sanAnkou, ren-suuankou, ren-chanta, ren-junchan, ren-shousangen, ren-shousuushii}
 use Rattle.renamed_scores.proofs.Yakuhai.{honors, yakuhai-renamed}
 
--- ---- each honor counts one han, so of their tallies the sum alone matters
-honors-apart :
-    (opened : Bool) (a b c d e h : ℕ) (f g : ℕ → ℕ) (l : List ℕ) → sum f honors ≡ sum g honors
-    → dot (hanOf opened) (a ∷ b ∷ c ∷ d ∷ e ∷ h ∷ (map f honors ++ l)) ≡ dot (hanOf opened) (a ∷ b ∷ c ∷ d ∷ e ∷ h ∷ (map g honors ++ l))
+-- ---- the tallies of the honors stand after six others, and of them the sum alone matters to F
+abbrev pub HonorsApart : (List ℕ → ℕ) → Type 0
+HonorsApart F =
+    (a b c d e h : ℕ) (f g : ℕ → ℕ) (l : List ℕ) → sum f honors ≡ sum g honors
+    → F (a ∷ b ∷ c ∷ d ∷ e ∷ h ∷ (map f honors ++ l)) ≡ F (a ∷ b ∷ c ∷ d ∷ e ∷ h ∷ (map g honors ++ l))
+
+-- each honor counts one han
+honors-apart : (opened : Bool) → HonorsApart (dot (hanOf opened))
 unfolding hanOf
 honors-apart true a b c d e h f g l s = omega arith
 honors-apart false a b c d e h f g l s = omega arith
@@ -150,36 +154,39 @@ module _
         ∷ one (ren-unlessOrphans ρ (s .chinitsu) r i)
         ∷ []
 
-    -- the tallies l come after the ordinary ones
-    ordinary-stays :
-        (l : List ℕ)
-        → dot (hanOf opened) (ordinary (renWin ρ w) opened s (renReading ρ r) ++ l) ≡ dot (hanOf opened) (ordinary w opened s r ++ l)
-    unfolding ordinary oneHan
-    ordinary-stays l =
-        let f = yakuhaiOf (renWin ρ w) (renReading ρ r) in
-        (λ i.
-        dot (hanOf opened)
-        (one (riichi w opened && not (w .«is_double_riichi»))
-        ∷ one (riichi w opened && (w .«is_ippatsu» && not (rinshan w)))
-        ∷ one (isTsumo w && not opened)
-        ∷ one (ren-unlessOrphans ρ (s .tanyao) r i)
-        ∷ one (pinfu-renamed ρ w winds h opened r v i)
-        ∷ one (runs-alike (λ n. eqb n 1) i)
-        ∷ (map f honors ++ luck w (moreHan-stays i ++ l))))
-        ∙ honors-apart opened _ _ _ _ _ _ f (yakuhaiOf w r) (luck w (moreHan w opened s r ++ l)) (yakuhai-renamed ρ w winds r v)
+    -- a number F of the tallies to which the honors' tallies give their sum alone is the same; the tallies l come after the ordinary ones
+    module _ (F : List ℕ → ℕ) (apart : HonorsApart F) where
+      ordinary-stays : (l : List ℕ) → F (ordinary (renWin ρ w) opened s (renReading ρ r) ++ l) ≡ F (ordinary w opened s r ++ l)
+      unfolding ordinary oneHan
+      ordinary-stays l =
+          let f = yakuhaiOf (renWin ρ w) (renReading ρ r) in
+          (λ i.
+          F
+          (one (riichi w opened && not (w .«is_double_riichi»))
+          ∷ one (riichi w opened && (w .«is_ippatsu» && not (rinshan w)))
+          ∷ one (isTsumo w && not opened)
+          ∷ one (ren-unlessOrphans ρ (s .tanyao) r i)
+          ∷ one (pinfu-renamed ρ w winds h opened r v i)
+          ∷ one (runs-alike (λ n. eqb n 1) i)
+          ∷ (map f honors ++ luck w (moreHan-stays i ++ l))))
+          ∙ apart _ _ _ _ _ _ f (yakuhaiOf w r) (luck w (moreHan w opened s r ++ l)) (yakuhai-renamed ρ w winds r v)
 
-    cond-stays :
-        (y : Bool) (l : List ℕ)
-        → dot (hanOf opened) (cond y (replicate 32 0) (ordinary (renWin ρ w) opened s (renReading ρ r)) ++ l)
-        ≡ dot (hanOf opened) (cond y (replicate 32 0) (ordinary w opened s r) ++ l)
-    cond-stays true l = refl
-    cond-stays false l = ordinary-stays l
+      cond-stays :
+          (y : Bool) (l : List ℕ)
+          → F (cond y (replicate 32 0) (ordinary (renWin ρ w) opened s (renReading ρ r)) ++ l)
+          ≡ F (cond y (replicate 32 0) (ordinary w opened s r) ++ l)
+      cond-stays true l = refl
+      cond-stays false l = ordinary-stays l
+
+      pub tallies-stay : F (tallies (renWin ρ w) opened s (renReading ρ r)) ≡ F (tallies w opened s r)
+      unfolding tallies
+      tallies-stay =
+          ap₂
+          (λ (y : Bool) (bs : List Bool).
+          F (cond y (replicate 32 0) (ordinary (renWin ρ w) opened s (renReading ρ r)) ++ map one bs))
+          isYakuman-renamed yakuman-stays
+          ∙ cond-stays (isYakuman w opened s r) (map one (yakuman w opened s r))
 
     pub han-renamed : han (renWin ρ w) opened s (renReading ρ r) ≡ han w opened s r
-    unfolding han tallies
-    han-renamed =
-        ap₂
-        (λ (y : Bool) (bs : List Bool).
-        dot (hanOf opened) (cond y (replicate 32 0) (ordinary (renWin ρ w) opened s (renReading ρ r)) ++ map one bs))
-        isYakuman-renamed yakuman-stays
-        ∙ cond-stays (isYakuman w opened s r) (map one (yakuman w opened s r))
+    unfolding han
+    han-renamed = tallies-stay (dot (hanOf opened)) (honors-apart opened)

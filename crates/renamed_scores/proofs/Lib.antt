@@ -5,5 +5,6 @@ pub mod Melds
 pub mod Yakuhai
 pub mod Asked
 pub mod Han
+pub mod Yaku
 pub mod Fu
 pub mod Score

@@ -25,10 +25,10 @@ use Rattle.decompose.specs.Pairs.{foundWith, recordsOver}
 use Rattle.checks.specs.declared.Calls.{Calls}
 use Rattle.checks.specs.Checks.{called, handCheck}
 use Rattle.checks.proofs.Passed.{passed}
-use Rattle.unit.specs.declared.Found.{Found}
+use Rattle.unit.specs.declared.FoundSpecial.{FoundSpecial}
 use Rattle.unit.specs.Listing.{handReadings, handRecords}
-use Rattle.unit.specs.FirstPass.{Finds, readingsFound, bytesFound, sevenRecords, orphanRecords, specialRecords}
-use Rattle.unit.proofs.Standards.{standard-records, standard-count, over-length, slots-length}
+use Rattle.unit.specs.FirstPass.{FindsSpecial, specialReadings, specialBytes, sevenRecords, orphanRecords, specialRecords}
+use Rattle.unit.proofs.Standards.{standard-records, standard-count, over-length, slots-length, found-few}
 
 -- ---- seven pairs take 11 bytes, thirteen orphans 5
 pub seven-length : (c : ℕ → ℕ) → isPairs c ≡ true → length (records (sevenPairs c)) ≡ 11
@@ -56,7 +56,7 @@ orphans-not p h = ap (λ (b : Bool). cond b (recordOf (orphans p)) []) (le-ltb p
 pub orphans-size : (p : ℕ) → p < 34 → length (orphanRecords p) ≡ 5
 orphans-size p h = ap length (orphans-there p h) ∙ orphan-part p true
 
-pub special-length : (cs : List ℕ) (f : Found) → (f .seven ≡ true → isPairs (held cs) ≡ true) → length (specialRecords cs f) ≡ cond (f .seven) 11 0 + cond (ltb (f .orphan) 34) 5 0
+pub special-length : (cs : List ℕ) (f : FoundSpecial) → (f .seven ≡ true → isPairs (held cs) ≡ true) → length (specialRecords cs f) ≡ specialBytes f
 unfolding specialRecords
 special-length cs f e =
     let a = length-append (sevenRecords cs (f .seven)) (orphanRecords (f .orphan)) in
@@ -64,54 +64,62 @@ special-length cs f e =
     let d = orphan-part (f .orphan) (ltb (f .orphan) 34) in
     a ∙ ap₂ _+_ b d
 
--- ---- the whole
-module _ (cs : List ℕ) (k : Calls) (calls : T (all isMeld (called k))) (long : length (called k) ≡ k .count) (four : k .count ≤ 4) (f : Found) (finds : Finds cs k f) where
-  short : length (called k) ≤ 4
-  short = omega arith
-
-  needed : 4 - length (called k) ≡ 4 - k .count
-  needed = omega arith
-
-  -- the records, seven pairs and orphans first
-  pub records-found : handRecords cs k ≡ specialRecords cs f ++ recordsOver (4 - k .count) (held cs) (slotsOf (called k)) tiles
-  unfolding handRecords handReadings readings
-  records-found =
-      flat-append recordOf (uncalled (called k) (sevenPairs (held cs) ++ thirteenOrphans (held cs))) (flat (standardsAt (held cs) (called k)) tiles)
-      ∙ ap₂ _++_ (finds .special)
-      (standard-records (held cs) (called k) calls short tiles ∙ ap (λ (n : ℕ). recordsOver n (held cs) (slotsOf (called k)) tiles) needed)
-
-  pub readings-counted : length (handReadings cs k) ≡ readingsFound f
-  unfolding handReadings readings
-  readings-counted =
-      let a = length-append (uncalled (called k) (sevenPairs (held cs) ++ thirteenOrphans (held cs))) (flat (standardsAt (held cs) (called k)) tiles) in
-      let b = standard-count (held cs) (called k) calls short tiles ∙ ap (λ (n : ℕ). length (foundWith n (held cs) tiles)) needed in
-      let d = finds .counted in
-      let e = finds .standard in
-      omega arith
-
-  pub bytes-counted : length (handRecords cs k) ≡ bytesFound f
-  bytes-counted =
-      let a = ap length records-found ∙ length-append (specialRecords cs f) (recordsOver (4 - k .count) (held cs) (slotsOf (called k)) tiles) in
-      let b = over-length (4 - k .count) (held cs) (slotsOf (called k)) (slots-length (called k)) tiles in
-      let d = special-length cs f (finds .pairs) in
-      let e = finds .standard in
-      omega arith
-
 -- the calls of a hand that has passed the checks are melds
 pub melds-called : (cs : List ℕ) (k : Calls) → handCheck cs k ≡ 0 → T (all isMeld (called k))
 melds-called cs k ok = all-intro isMeld (called k) (λ m i. and-left (isMeld m) _ (all-mem isCall (passed cs k ok .calls) i))
 
--- ---- three runs of bytes written one after the other
-pub three-written :
-    (x y z out₀ out₁ out₂ out₃ : List ℕ) (a b : ℕ) → out₁ ≡ sets out₀ 0 x → a ≡ length x → out₂ ≡ sets out₁ a y → b ≡ a + length y → out₃ ≡ sets out₂ b z
-    → out₃ ≡ sets out₀ 0 ((x ++ y) ++ z)
-three-written x y z out₀ out₁ out₂ out₃ a b e f g h i =
-    let start : 0 + length x ≡ a = omega arith in
-    let next : 0 + length (x ++ y) ≡ b = omega (arith, length-append x y) in
-    let first : sets out₀ 0 (x ++ y) ≡ out₂ =
-    sets-append x y out₀ 0 ∙ ap (λ (n : ℕ). sets (sets out₀ 0 x) n y) start ∙ ap (λ (l : List ℕ). sets l a y) (sym e) ∙ sym g in
-    i ∙ ap (λ (l : List ℕ). sets l b z) (sym first) ∙ ap (λ (n : ℕ). sets (sets out₀ 0 (x ++ y)) n z) (sym next) ∙ sym (sets-append (x ++ y) z out₀ 0)
+-- ---- the whole
+module _ (cs : List ℕ) (k : Calls) (ok : handCheck cs k ≡ 0) (f : FoundSpecial) (finds : FindsSpecial cs k f) where
+  abbrev specials : List Reading
+  specials = uncalled (called k) (sevenPairs (held cs) ++ thirteenOrphans (held cs))
 
-pub special-is : (cs : List ℕ) (f : Found) → specialRecords cs f ≡ sevenRecords cs (f .seven) ++ orphanRecords (f .orphan)
+  abbrev pub standards : List ℕ
+  standards = recordsOver (4 - k .count) (held cs) (slotsOf (called k)) tiles
+
+  short : length (called k) ≤ 4
+  short = let few = passed cs k ok .few in let long = finds .calls in omega arith
+
+  needed : 4 - length (called k) ≡ 4 - k .count
+  needed = let long = finds .calls in omega arith
+
+  -- the records, seven pairs and orphans first
+  pub records-found : handRecords cs k ≡ specialRecords cs f ++ standards
+  unfolding handRecords handReadings readings
+  records-found =
+      flat-append recordOf specials (flat (standardsAt (held cs) (called k)) tiles)
+      ∙ ap₂ _++_ (finds .listed)
+      (standard-records (held cs) (called k) (melds-called cs k ok) short tiles ∙ ap (λ (n : ℕ). recordsOver n (held cs) (slotsOf (called k)) tiles) needed)
+
+  -- 13 bytes for each of the standard ones
+  pub standards-length : length standards ≡ 13 * length (foundWith (4 - k .count) (held cs) tiles)
+  standards-length = over-length (4 - k .count) (held cs) (slotsOf (called k)) (slots-length (called k)) tiles
+
+  pub readings-counted : length (handReadings cs k) ≡ length (foundWith (4 - k .count) (held cs) tiles) + specialReadings f
+  unfolding handReadings readings
+  readings-counted =
+      let a = length-append specials (flat (standardsAt (held cs) (called k)) tiles) in
+      let b = standard-count (held cs) (called k) (melds-called cs k ok) short tiles ∙ ap (λ (n : ℕ). length (foundWith n (held cs) tiles)) needed in
+      let d = finds .counted in
+      omega arith
+
+  pub bytes-counted : length (handRecords cs k) ≡ length (foundWith (4 - k .count) (held cs) tiles) * 13 + specialBytes f
+  bytes-counted =
+      let a = ap length records-found ∙ length-append (specialRecords cs f) standards in
+      let b = standards-length in
+      let d = special-length cs f (finds .pairs) in
+      omega arith
+
+  -- at most 16 lists of melds for each pair
+  pub standards-few : length (foundWith (4 - k .count) (held cs) tiles) ≤ 544
+  standards-few = found-few (4 - k .count) (held cs) (omega arith) (λ u h. passed cs k ok .four u) tiles
+
+-- ---- runs of bytes written one after the other
+pub both-written :
+    (x y out₀ out₁ out₂ : List ℕ) (a : ℕ) → out₁ ≡ sets out₀ 0 x → a ≡ length x → out₂ ≡ sets out₁ a y → out₂ ≡ sets out₀ 0 (x ++ y)
+both-written x y out₀ out₁ out₂ a e f g =
+    let start : a ≡ 0 + length x = omega arith in
+    g ∙ ap (λ (l : List ℕ). sets l a y) e ∙ ap (λ (n : ℕ). sets (sets out₀ 0 x) n y) start ∙ sym (sets-append x y out₀ 0)
+
+pub special-is : (cs : List ℕ) (f : FoundSpecial) → specialRecords cs f ≡ sevenRecords cs (f .seven) ++ orphanRecords (f .orphan)
 unfolding specialRecords
 special-is cs f = refl

@@ -2,9 +2,10 @@
 use mathlib.Core.Path.{_≡_, refl, sym, ap, ap₂, _∙_}
 use mathlib.Core.Bool.{Bool, true, false, cond}
 use mathlib.Core.List.{List, [], _∷_, _++_, map, List·Memᴰ, append-assoc}
-use Prim.Native.Nat.{ℕ, zero, suc, _+_, _-_, _*_, _≤_}
+use Prim.Native.Nat.{ℕ, zero, suc, _+_, _-_, _*_, _≤_, _<_}
+use native.Mathlib.Nat.{le-trans, pow-le-pow-right}
 use native.Mathlib.Omega.{arith}
-use lib.Dec.{T, leb}
+use lib.Dec.{T, leb, lit<}
 use lib.ListN.{length, length-append, length-map}
 use Rattle.lists.specs.Fold.{all, flat}
 use Rattle.lists.proofs.Finite.{and-left}
@@ -14,7 +15,7 @@ use Rattle.meld.specs.Meld.{isMeld, isHandMeld, key, sorted}
 use Rattle.hand.specs.Reading.{Reading, standard}
 use Rattle.hand.specs.Records.{recordOf, records}
 use Rattle.hand.specs.Readings.{lessPair, meldLists, standardsAt}
-use Rattle.hand.proofs.Lowest.{flat-append, lists-length, lists-melds}
+use Rattle.hand.proofs.Lowest.{flat-append, few, lists-length, lists-melds}
 use Rattle.search.specs.Slots.{put, putAll, slotsOf, slotBytes, slotRecord, recordsWith}
 use Rattle.search.proofs.Merged.{merged-all}
 use Rattle.decompose.specs.Pairs.{withPair, foundWith, recordsOver}
@@ -112,3 +113,24 @@ over-length n c slots e (p ∷ ps) =
 pub slots-length : (k : List Meld) → length (slotsOf k) ≡ 4
 unfolding slotsOf
 slots-length k = putAll-length (map key k) _
+
+-- ---- at most 16 for each pair
+less-few : (c : ℕ → ℕ) (p : ℕ) → ((u : ℕ) → u < 34 → c u ≤ 4) → (u : ℕ) → u < 34 → lessPair c p u ≤ 4
+less-few c p four u h = omega (arith, four u h)
+
+with-few : (n : ℕ) (c : ℕ → ℕ) → n ≤ 4 → ((u : ℕ) → u < 34 → c u ≤ 4) → (p : ℕ) → length (withPair n c p) ≤ 16
+unfolding withPair
+with-few n c h four p = go (leb 2 (c p))
+  where
+    go : (b : Bool) → length (cond b (meldLists n (lessPair c p)) []) ≤ 16
+    go true = le-trans (few n (lessPair c p) (less-few c p four)) (pow-le-pow-right {n = 2} (lit< tt) h)
+    go false = omega arith
+
+pub found-few : (n : ℕ) (c : ℕ → ℕ) → n ≤ 4 → ((u : ℕ) → u < 34 → c u ≤ 4) → (ps : List ℕ) → length (foundWith n c ps) ≤ 16 * length ps
+unfolding foundWith
+found-few n c h four [] = omega arith
+found-few n c h four (p ∷ ps) =
+    let a = length-append (withPair n c p) (flat (withPair n c) ps) in
+    let b = with-few n c h four p in
+    let d = found-few n c h four ps in
+    omega arith

@@ -15,13 +15,18 @@ use Rattle.decompose.specs.Pairs.{foundWith}
 use Rattle.checks.specs.declared.Calls.{Calls}
 use Rattle.checks.specs.Checks.{called}
 use Rattle.unit.specs.declared.Found.{Found}
+use Rattle.unit.specs.declared.FoundSpecial.{FoundSpecial}
 
--- how many readings were found, and how many bytes their records need
-abbrev pub readingsFound : Found → ℕ
-readingsFound f = f .standard + cond (f .seven) 1 0 + cond (ltb (f .orphan) 34) 1 0
+-- seven pairs and thirteen orphans: how many readings were found, and how many bytes their records need
+abbrev pub specialReadings : FoundSpecial → ℕ
+specialReadings f = cond (f .seven) 1 0 + cond (ltb (f .orphan) 34) 1 0
 
+abbrev pub specialBytes : FoundSpecial → ℕ
+specialBytes f = cond (f .seven) 11 0 + cond (ltb (f .orphan) 34) 5 0
+
+-- how many bytes the records of all readings need
 abbrev pub bytesFound : Found → ℕ
-bytesFound f = f .standard * 13 + cond (f .seven) 11 0 + cond (ltb (f .orphan) 34) 5 0
+bytesFound f = f .standard * 13 + specialBytes (f .special)
 
 -- the records of seven pairs and of thirteen orphans, where they were found
 abbrev pub sevenRecords : List ℕ → Bool → List ℕ
@@ -30,15 +35,19 @@ sevenRecords cs seven = cond seven (records (sevenPairs (held cs))) []
 abbrev pub orphanRecords : ℕ → List ℕ
 orphanRecords p = cond (ltb p 34) (recordOf (orphans p)) []
 
-unfoldable pub specialRecords : List ℕ → Found → List ℕ
+unfoldable pub specialRecords : List ℕ → FoundSpecial → List ℕ
 specialRecords cs f = sevenRecords cs (f .seven) ++ orphanRecords (f .orphan)
+
+-- what was found of seven pairs and thirteen orphans is what there is
+pub record FindsSpecial (cs : List ℕ) (k : Calls) (f : FoundSpecial) : Type 0 where
+  pub calls : length (called k) ≡ k .count
+  pub listed : records (uncalled (called k) (sevenPairs (held cs) ++ thirteenOrphans (held cs))) ≡ specialRecords cs f
+  pub counted : length (uncalled (called k) (sevenPairs (held cs) ++ thirteenOrphans (held cs))) ≡ specialReadings f
+  pub pairs : f .seven ≡ true → isPairs (held cs) ≡ true
 
 -- what was found is what there is
 pub record Finds (cs : List ℕ) (k : Calls) (f : Found) : Type 0 where
-  pub calls : length (called k) ≡ k .count
-  pub special : records (uncalled (called k) (sevenPairs (held cs) ++ thirteenOrphans (held cs))) ≡ specialRecords cs f
-  pub counted : length (uncalled (called k) (sevenPairs (held cs) ++ thirteenOrphans (held cs))) ≡ cond (f .seven) 1 0 + cond (ltb (f .orphan) 34) 1 0
-  pub pairs : f .seven ≡ true → isPairs (held cs) ≡ true
+  pub special : FindsSpecial cs k (f .special)
   pub standard : f .standard ≡ length (foundWith (4 - k .count) (held cs) tiles)
   pub few : f .standard ≤ 2176
 

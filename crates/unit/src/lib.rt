@@ -11,8 +11,8 @@ ghost use Rattle.search.specs.Slots.{slotsOf};
 ghost use Rattle.decompose.specs.Packed.{inWords, Fit};
 ghost use Rattle.decompose.specs.Pairs.{OnlyAt};
 ghost use Rattle.checks.specs.Checks.{called, handCheck};
-ghost use Rattle.unit.specs.Listing.{listing, written, handRecords};
-ghost use Rattle.unit.specs.FirstPass.{Finds, bytesFound, readingsFound, sevenRecords, orphanRecords, putCall};
+ghost use Rattle.unit.specs.Listing.{listing, written, handReadings, handRecords};
+ghost use Rattle.unit.specs.FirstPass.{Finds, FindsSpecial, bytesFound, specialReadings, specialBytes, specialRecords, sevenRecords, orphanRecords, putCall};
 
 // The answer to a listing: refused with a number, or listed, with the count of readings and the count of bytes written.
 pub enum Listing {
@@ -20,11 +20,16 @@ pub enum Listing {
     Listed(usize, usize),
 }
 
-// What the first pass finds: whether there are seven pairs, the tile doubled in thirteen orphans (34 for none), and how many
-// standard readings there are.
-pub struct Found {
+// What is found of seven pairs and thirteen orphans: whether there are seven pairs, and the tile doubled in thirteen orphans (34 for
+// none).
+pub struct FoundSpecial {
     pub seven: bool,
     pub orphan: usize,
+}
+
+// What the first pass finds: seven pairs and thirteen orphans, and how many standard readings there are.
+pub struct Found {
+    pub special: FoundSpecial,
     pub standard: usize,
 }
 
@@ -35,21 +40,49 @@ fn when(b: bool, n: usize) -> usize
     if b { n } else { 0 }
 }
 
-impl Found {
-    // How many readings it has.
+impl FoundSpecial {
+    // How many readings they are.
     fn readings(self) -> usize
-        requires { ⌜ self .standard ≤ 2176 ⌝ }
-        ensures { λ r. ⌜ r ≡ readingsFound self ⌝ }
+        ensures { λ r. ⌜ (r ≡ specialReadings self) × (r ≤ 2) ⌝ }
     {
-        self.standard + when(self.seven, 1) + when(self.orphan < 34, 1)
+        when(self.seven, 1) + when(self.orphan < 34, 1)
     }
 
     // How many bytes their records need.
     fn bytes(self) -> usize
+        ensures { λ r. ⌜ (r ≡ specialBytes self) × (r ≤ 16) ⌝ }
+    {
+        when(self.seven, 11) + when(self.orphan < 34, 5)
+    }
+}
+
+impl Found {
+    // How many bytes the records of all readings need.
+    fn bytes(self) -> usize
         requires { ⌜ self .standard ≤ 2176 ⌝ }
         ensures { λ r. ⌜ r ≡ bytesFound self ⌝ }
     {
-        self.standard * 13 + when(self.seven, 11) + when(self.orphan < 34, 5)
+        let special = self.special;
+        self.standard * 13 + special.bytes()
+    }
+}
+
+// Seven pairs and thirteen orphans of a hand that has passed the checks. There are none beside a call.
+fn find_special(counts: &[u8], k: checks::Calls) -> FoundSpecial
+    requires { ⌜ handCheck (now counts) k ≡ 0 ⌝ }
+    ensures { λ r. ⌜ FindsSpecial (now (counts .entry)) k r ⌝ }
+{
+    let count = k.count;
+    if count != 0 {
+        return FoundSpecial {
+            seven: false,
+            orphan: 34,
+        };
+    }
+    let kinds = special::kinds_present(counts);
+    FoundSpecial {
+        seven: special::is_chiitoitsu(counts, kinds),
+        orphan: special::check_kokushi(counts, kinds),
     }
 }
 
@@ -65,19 +98,9 @@ fn find_readings(
 {
     let count = k.count;
     let needed = 4 - (count % 256) as u32;
-    let standard = decompose::count_standard(counts, h, places, needed);
-    if count != 0 {
-        return Found {
-            seven: false,
-            orphan: 34,
-            standard: standard,
-        };
-    }
-    let kinds = special::kinds_present(counts);
     Found {
-        seven: special::is_chiitoitsu(counts, kinds),
-        orphan: special::check_kokushi(counts, kinds),
-        standard: standard,
+        special: find_special(counts, k),
+        standard: decompose::count_standard(counts, h, places, needed),
     }
 }
 
@@ -126,23 +149,43 @@ fn write_orphan(orphan: usize, out: &mut [u8], at: usize) -> usize
     at
 }
 
-// The second pass: writes all records, where the buffer has room for them.
+// Writes the records of seven pairs and of thirteen orphans where there are some. Answers the place behind them.
+fn write_special(counts: &[u8], special: FoundSpecial, out: &mut [u8]) -> usize
+    requires { ⌜ (length (now counts) ≡ 34) × ((special .seven ≡ true → isPairs (held (now counts)) ≡ true) × (length (specialRecords (now counts) special) ≤ length (now out))) ⌝ }
+    ensures { λ r. ⌜ (r ≡ length (specialRecords (now (counts .entry)) special)) × (now (out .exit) ≡ sets (now (out .entry)) 0 (specialRecords (now (counts .entry)) special)) ⌝ }
+{
+    let after_seven = write_seven(counts, special.seven, out);
+    write_orphan(special.orphan, out, after_seven)
+}
+
+// Writes all records, where the buffer has room for them. Answers how many readings they are of: each standard one has 13 bytes.
 fn write_readings(
     counts: &[u8],
     h: decompose::Packed,
     places: decompose::PairPlaces,
     k: checks::Calls,
-    found: Found,
+    special: FoundSpecial,
     out: &mut [u8],
-)
-    requires { ⌜ (handCheck (now counts) k ≡ 0) × ((inWords h ≡ held (now counts)) × (Fit h × (OnlyAt (held (now counts)) places × (Finds (now counts) k found × (length (handRecords (now counts) k) ≤ length (now out)))))) ⌝ }
-    ensures { λ _. ⌜ now (out .exit) ≡ sets (now (out .entry)) 0 (handRecords (now (counts .entry)) k) ⌝ }
+) -> usize
+    requires { ⌜ (handCheck (now counts) k ≡ 0) × ((inWords h ≡ held (now counts)) × (Fit h × (OnlyAt (held (now counts)) places × (FindsSpecial (now counts) k special × (length (handRecords (now counts) k) ≤ length (now out)))))) ⌝ }
+    ensures { λ r. ⌜ (r ≡ length (handReadings (now (counts .entry)) k)) × ((r ≤ 2178) × (now (out .exit) ≡ sets (now (out .entry)) 0 (handRecords (now (counts .entry)) k))) ⌝ }
 {
     let count = k.count;
     let needed = 4 - (count % 256) as u32;
-    let after_seven = write_seven(counts, found.seven, out);
-    let after_orphan = write_orphan(found.orphan, out, after_seven);
-    decompose::write_standards(counts, h, places, needed, slots_of(k), out, after_orphan);
+    let start = write_special(counts, special, out);
+    let end = decompose::write_standards(counts, h, places, needed, slots_of(k), out, start);
+    (end - start) / 13 + special.readings()
+}
+
+// Writes the records of all readings of a hand that has passed the checks, where the buffer has room for them. Answers how many they are.
+pub fn write_all(counts: &[u8], k: checks::Calls, out: &mut [u8]) -> usize
+    requires { ⌜ (handCheck (now counts) k ≡ 0) × (length (handRecords (now counts) k) ≤ length (now out)) ⌝ }
+    ensures { λ r. ⌜ (r ≡ length (handReadings (now (counts .entry)) k)) × ((r ≤ 2178) × (now (out .exit) ≡ sets (now (out .entry)) 0 (handRecords (now (counts .entry)) k))) ⌝ }
+{
+    let h = decompose::pack(counts);
+    let places = decompose::pair_places(counts);
+    let special = find_special(counts, k);
+    write_readings(counts, h, places, k, special, out)
 }
 
 // Lists the readings of a finished hand. A refusal answers its number and leaves the buffer as it was.
@@ -161,6 +204,7 @@ pub fn list_readings(counts: &[u8], k: checks::Calls, out: &mut [u8]) -> Listing
     if out.len() < bytes {
         return Listing::Refused(7);
     }
-    write_readings(counts, h, places, k, found, out);
-    Listing::Listed(found.readings(), bytes)
+    let special = found.special;
+    let readings = write_readings(counts, h, places, k, special, out);
+    Listing::Listed(readings, bytes)
 }

@@ -1,3 +1,4 @@
 pub mod Loops
 pub mod Laws
 pub mod Found
+pub mod NameTable

@@ -12,6 +12,8 @@ ghost use Rattle.meld_yaku.specs.Standard.{ofStandard};
 ghost use Rattle.yaku.specs.Tally.{isChiitoitsu, unlessOrphans, orphansWon, oneHan, moreHan, yakuman, isYakuman, ordinary, tallies};
 ghost use Rattle.yaku.specs.Han.{hanOf, dot, han};
 
+pub mod names;
+
 // What is found of a reading: a tally for each yaku, their han, and whether there is a yakuman among them.
 pub struct YakuResult {
     pub tallies: [u8; 47],

@@ -1,13 +1,25 @@
 -- `unit::list_readings` meets its contract: the answer and the whole buffer, for every input. Assumes nothing.
-use mathlib.Core.Path.{sym, _∙_}
+use mathlib.Core.Path.{_≡_, sym, ap, _∙_}
+use mathlib.Core.List.{List}
+use Prim.Native.Nat.{ℕ, _+_, _*_}
 use native.Mathlib.Omega.{arith}
 use lib.ListN.{length}
+use Rattle.checks.specs.declared.Calls.{Calls}
+use Rattle.checks.specs.Checks.{handCheck}
 use Rattle.checks.proofs.Passed.{passed}
+use Rattle.unit.specs.declared.Found.{Found}
+use Rattle.unit.specs.Listing.{handRecords}
+use Rattle.unit.specs.FirstPass.{Finds, bytesFound, specialBytes}
 use Rattle.unit.proofs.Answers.{refused-answer, refused-buffer, short-answer, short-buffer, listed-answer, listed-buffer}
-use Rattle.unit.proofs.Listed.{bytes-counted, melds-called, readings-counted}
+use Rattle.unit.proofs.Listed.{bytes-counted}
 use borrow.Author.Needs.{needs}
 use Rattle.unit.proofs.list_readings.Statement.{statement}
 use Rattle.unit.proofs.list_readings.Tie as tie
+
+-- the bytes that the first pass counts are those of the records
+bytes-needed : (cs : List ℕ) (k : Calls) → handCheck cs k ≡ 0 → (f : Found) → Finds cs k f → (b : ℕ) → b ≡ bytesFound f → length (handRecords cs k) ≡ b
+bytes-needed cs k ok f finds b e =
+    bytes-counted cs k ok (f .special) (finds .special) ∙ ap (λ (n : ℕ). n * 13 + specialBytes (f .special)) (sym (finds .standard)) ∙ sym e
 
 check-hand-requires : tie.Need-check-hand-requires
 check-hand-requires c κs = search needs
@@ -43,10 +55,7 @@ returns-2 : tie.Need-returns-2
 returns-2 c =
     let a = c .before .before .before .before .before .before .before .before .before .args in
     let ok = sym (c .before .before .before .before .before .before .check-hand .ensures) ∙ c .before .before .before .before .before .if1 .left in
-    let f = c .before .before .find-readings .ensures in
-    let need =
-    bytes-counted (a .counts .now) (a .k) (melds-called (a .counts .now) (a .k) ok) (f .calls) (passed (a .counts .now) (a .k) ok .few) _ f
-    ∙ sym (c .before .bytes .ensures) in
+    let need = bytes-needed (a .counts .now) (a .k) ok _ (c .before .before .find-readings .ensures) _ (c .before .bytes .ensures) in
     let short = c .if2 .taken in (
       short-answer (a .counts .now) (a .k) ok (length (a .out .now)) (omega (arith, need, short)),
       short-buffer (a .counts .now) (a .k) ok (a .out .now) (omega (arith, need, short)),
@@ -54,17 +63,12 @@ returns-2 c =
 
 write-readings-requires : tie.Need-write-readings-requires
 write-readings-requires c κs =
-    let a = c .before .before .before .before .before .before .before .before .before .before .args in
-    let ok = sym (c .before .before .before .before .before .before .before .check-hand .ensures) ∙ c .before .before .before .before .before .before .if1 .left in
-    let f = c .before .before .before .find-readings .ensures in
-    let need =
-    bytes-counted (a .counts .now) (a .k) (melds-called (a .counts .now) (a .k) ok) (f .calls) (passed (a .counts .now) (a .k) ok .few) _ f
-    ∙ sym (c .before .before .bytes .ensures) in
-    let room = c .before .if2 .left in
-    (ok, (c .before .before .before .before .before .pack .ensures .0, (c .before .before .before .before .before .pack .ensures .1, (c .before .before .before .before .pair-places .ensures, (f, omega (arith, need, room))))))
-
-readings-requires : tie.Need-readings-requires
-readings-requires c κs = c .before .before .before .before .before .before .find-readings .ensures .few
+    let a = c .before .before .before .before .before .before .before .before .before .before .before .args in
+    let ok = sym (c .before .before .before .before .before .before .before .before .check-hand .ensures) ∙ c .before .before .before .before .before .before .before .if1 .left in
+    let f = c .before .before .before .before .find-readings .ensures in
+    let need = bytes-needed (a .counts .now) (a .k) ok _ f _ (c .before .before .before .bytes .ensures) in
+    let room = c .before .before .if2 .left in
+    (ok, (c .before .before .before .before .before .before .pack .ensures .0, (c .before .before .before .before .before .before .pack .ensures .1, (c .before .before .before .before .before .pair-places .ensures, (f .special, omega (arith, need, room))))))
 
 same-length : tie.Need-same-length
 same-length c = search needs
@@ -73,15 +77,12 @@ returns-3 : tie.Need-returns-3
 returns-3 c =
     let a = c .before .before .before .before .before .before .before .before .before .before .before .before .before .before .args in
     let ok = sym (c .before .before .before .before .before .before .before .before .before .before .before .check-hand .ensures) ∙ c .before .before .before .before .before .before .before .before .before .before .if1 .left in
-    let f = c .before .before .before .before .before .before .before .find-readings .ensures in
-    let few = passed (a .counts .now) (a .k) ok .few in
-    let melds = melds-called (a .counts .now) (a .k) ok in
-    let need = bytes-counted (a .counts .now) (a .k) melds (f .calls) few _ f ∙ sym (c .before .before .before .before .before .before .bytes .ensures) in
-    let count = readings-counted (a .counts .now) (a .k) melds (f .calls) few _ f ∙ sym (c .readings .ensures) in
-    let room = c .before .before .before .before .before .if2 .left in (
-      listed-answer (a .counts .now) (a .k) ok (length (a .out .now)) (c .readings .result) (c .before .before .before .before .before .before .bytes .result)
-          (omega (arith, need, room)) (sym count) (sym need),
-      listed-buffer (a .counts .now) (a .k) ok (a .out .now) _ (omega (arith, need, room)) (c .before .before .before .write-readings .ensures),
+    let need = bytes-needed (a .counts .now) (a .k) ok _ (c .before .before .before .before .before .before .before .find-readings .ensures) _ (c .before .before .before .before .before .before .bytes .ensures) in
+    let room = c .before .before .before .before .before .if2 .left in
+    let w = c .before .before .write-readings in (
+      listed-answer (a .counts .now) (a .k) ok (length (a .out .now)) (w .result) (c .before .before .before .before .before .before .bytes .result)
+          (omega (arith, need, room)) (w .ensures .0) (sym need),
+      listed-buffer (a .counts .now) (a .k) ok (a .out .now) _ (omega (arith, need, room)) (w .ensures .1 .1),
     )
 
 pub list-readings-spec : {M : Type 1} → statement M
@@ -96,6 +97,5 @@ list-readings-spec =
     bytes-requires
     returns-2
     write-readings-requires
-    readings-requires
     same-length
     returns-3)

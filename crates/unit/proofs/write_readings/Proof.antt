@@ -1,4 +1,4 @@
--- `unit::write_readings` meets its contract: seven pairs, thirteen orphans and the standard readings are written one after the other.
+-- `unit::write_readings` meets its contract: seven pairs and thirteen orphans are written, then the standard readings.
 -- Assumes nothing.
 use mathlib.Core.Path.{_≡_, refl, sym, ap, ap₂, _∙_}
 use mathlib.Core.List.{List, _++_}
@@ -13,34 +13,33 @@ use Rattle.decompose.specs.Pairs.{recordsOver}
 use Rattle.checks.specs.declared.Calls.{Calls}
 use Rattle.checks.specs.Checks.{called, handCheck}
 use Rattle.checks.proofs.Passed.{passed}
-use Rattle.unit.specs.declared.Found.{Found}
+use Rattle.unit.specs.declared.FoundSpecial.{FoundSpecial}
 use Rattle.unit.specs.Listing.{handRecords}
-use Rattle.unit.specs.FirstPass.{Finds, sevenRecords, orphanRecords}
-use Rattle.unit.proofs.Listed.{melds-called, records-found, special-is, three-written}
+use Rattle.unit.specs.FirstPass.{FindsSpecial, specialRecords}
+use Rattle.unit.proofs.Listed.{standards, records-found, readings-counted, standards-length, standards-few, both-written}
 use borrow.Author.Needs.{needs}
 use Rattle.unit.proofs.write_readings.Statement.{statement}
 use Rattle.unit.proofs.write_readings.Tie as tie
 
--- the records in their three parts, and their length
-module _ (cs : List ℕ) (k : Calls) (f : Found) (ok : handCheck cs k ≡ 0) (finds : Finds cs k f) where
-  parts : handRecords cs k ≡ (sevenRecords cs (f .seven) ++ orphanRecords (f .orphan)) ++ recordsOver (4 - k .count) (held cs) (slotsOf (called k)) tiles
-  parts = records-found cs k (melds-called cs k ok) (finds .calls) (passed cs k ok .few) f finds ∙ ap (λ (l : List ℕ). l ++ recordsOver (4 - k .count) (held cs) (slotsOf (called k)) tiles) (special-is cs f)
+module _ (cs : List ℕ) (k : Calls) (ok : handCheck cs k ≡ 0) (f : FoundSpecial) (finds : FindsSpecial cs k f) where
+  -- both parts
+  sizes : length (handRecords cs k) ≡ length (specialRecords cs f) + length (standards cs k ok f finds)
+  sizes = ap length (records-found cs k ok f finds) ∙ length-append (specialRecords cs f) (standards cs k ok f finds)
 
-  sizes : length (handRecords cs k)
-      ≡ length (sevenRecords cs (f .seven)) + length (orphanRecords (f .orphan)) + length (recordsOver (4 - k .count) (held cs) (slotsOf (called k)) tiles)
-  sizes =
-      let a = length-append (sevenRecords cs (f .seven) ++ orphanRecords (f .orphan)) (recordsOver (4 - k .count) (held cs) (slotsOf (called k)) tiles) in
-      let b = length-append (sevenRecords cs (f .seven)) (orphanRecords (f .orphan)) in
-      omega (arith, ap length parts)
-
-  -- as the code names them
-  standards-are :
-      (n : ℕ) (slots : List ℕ) → n ≡ 4 - k .count % 256 → slots ≡ slotsOf (called k)
-      → recordsOver n (held cs) slots tiles ≡ recordsOver (4 - k .count) (held cs) (slotsOf (called k)) tiles
-  standards-are n slots e g =
+  -- the standard ones as the code names them
+  standards-are : (slots : List ℕ) → slots ≡ slotsOf (called k) → recordsOver (4 - k .count % 256) (held cs) slots tiles ≡ standards cs k ok f finds
+  standards-are slots e =
       let few = passed cs k ok .few in
-      let h : n ≡ 4 - k .count = omega arith in
-      ap₂ (λ (m : ℕ) (l : List ℕ). recordsOver m (held cs) l tiles) h g
+      let h : 4 - k .count % 256 ≡ 4 - k .count = omega arith in
+      ap₂ (λ (m : ℕ) (l : List ℕ). recordsOver m (held cs) l tiles) h e
+
+  -- one part written after the other
+  all-written :
+      (out₀ out₁ out₂ slots : List ℕ) (start : ℕ) → out₁ ≡ sets out₀ 0 (specialRecords cs f) → start ≡ length (specialRecords cs f) → slots ≡ slotsOf (called k)
+      → out₂ ≡ sets out₁ start (recordsOver (4 - k .count % 256) (held cs) slots tiles) → out₂ ≡ sets out₀ 0 (handRecords cs k)
+  all-written out₀ out₁ out₂ slots start e g h i =
+      both-written (specialRecords cs f) (standards cs k ok f finds) out₀ out₁ out₂ start e g (i ∙ ap (sets out₁ start) (standards-are slots h))
+      ∙ ap (sets out₀ 0) (sym (records-found cs k ok f finds))
 
 cast-needed : tie.Need-cast-needed
 cast-needed c = search needs
@@ -51,39 +50,28 @@ sub-needed c =
     let few = passed (s .args .counts .now) (s .args .k) (s .pre .0) .few in
     omega arith
 
-write-seven-requires : tie.Need-write-seven-requires
-write-seven-requires c κs =
+write-special-requires : tie.Need-write-special-requires
+write-special-requires c κs =
     let s = c .before .before .before in
     let cs = s .args .counts .now in
     let f = s .pre .1 .1 .1 .1 .0 in
-    (passed cs (s .args .k) (s .pre .0) .long, (f .pairs, omega (arith, s .pre .1 .1 .1 .1 .1, sizes cs (s .args .k) (s .args .found) (s .pre .0) f)))
-
-write-orphan-requires : tie.Need-write-orphan-requires
-write-orphan-requires c κs =
-    let s = c .before .before .before .before .before .before .before in
-    let cs = s .args .counts .now in
-    let f = s .pre .1 .1 .1 .1 .0 in
-    let w = c .before .before .before .write-seven .ensures in
-    let long = ap length (w .1) ∙ length-sets (s .args .out .now) 0 (sevenRecords cs (s .args .found .seven)) in
-    omega (arith, s .pre .1 .1 .1 .1 .1, sizes cs (s .args .k) (s .args .found) (s .pre .0) f, w .0, long)
+    (passed cs (s .args .k) (s .pre .0) .long, (f .pairs, omega (arith, s .pre .1 .1 .1 .1 .1, sizes cs (s .args .k) (s .pre .0) (s .args .special) f)))
 
 slots-of-requires : tie.Need-slots-of-requires
 slots-of-requires c κs =
-    let s = c .before .before .before .before .before .before .before .before .before .before in
+    let s = c .before .before .before .before .before .before in
     passed (s .args .counts .now) (s .args .k) (s .pre .0) .few
 
 write-standards-requires : tie.Need-write-standards-requires
 write-standards-requires c κs =
-    let s = c .before .before .before .before .before .before .before .before .before .before .before .before in
+    let s = c .before .before .before .before .before .before .before .before in
     let cs = s .args .counts .now in
     let k = s .args .k in
     let f = s .pre .1 .1 .1 .1 .0 in
-    let w = c .before .before .before .before .before .before .before .before .write-seven .ensures in
-    let o = c .before .before .before .before .write-orphan .ensures in
-    let one = ap length (w .1) ∙ length-sets (s .args .out .now) 0 (sevenRecords cs (s .args .found .seven)) in
-    let two = ap length (o .1) ∙ length-sets _ _ (orphanRecords (s .args .found .orphan)) in
+    let w = c .before .before .before .before .write-special .ensures in
+    let long = ap length (w .1) ∙ length-sets (s .args .out .now) 0 (specialRecords cs (s .args .special)) in
     let few = passed cs k (s .pre .0) .few in
-    let same = ap length (standards-are cs k (s .args .found) (s .pre .0) f (4 - k .count % 256) (c .before .slots-of .result) refl (c .before .slots-of .ensures)) in (
+    let same = ap length (standards-are cs k (s .pre .0) (s .args .special) f (c .before .slots-of .result) (c .before .slots-of .ensures)) in (
       passed cs k (s .pre .0) .long,
       (
         omega arith,
@@ -91,29 +79,45 @@ write-standards-requires c κs =
           s .pre .1 .0,
           (
             s .pre .1 .1 .0,
-            (s .pre .1 .1 .1 .0, omega (arith, s .pre .1 .1 .1 .1 .1, sizes cs k (s .args .found) (s .pre .0) f, w .0, o .0, one, two, same)),
+            (s .pre .1 .1 .1 .0, omega (arith, s .pre .1 .1 .1 .1 .1, sizes cs k (s .pre .0) (s .args .special) f, w .0, long, same)),
           ),
         ),
       ),
     )
+
+sub-result : tie.Need-sub-result
+sub-result c = search needs
+
+readings-requires : tie.Need-readings-requires
+readings-requires c κs = search needs
+
+add-result : tie.Need-add-result
+add-result c = search needs
 
 same-length : tie.Need-same-length
 same-length c = search needs
 
 returns : tie.Need-returns
 returns c =
-    let s = c .before .before .before .before .before .before .before .before .before .before .before .before .before .before .before in
+    let s = c .before .before .before .before .before .before .before .before .before .before .before .before in
     let cs = s .args .counts .now in
     let k = s .args .k in
-    let g = s .args .found in
+    let g = s .args .special in
     let f = s .pre .1 .1 .1 .1 .0 in
-    let w = c .before .before .before .before .before .before .before .before .before .before .before .write-seven .ensures in
-    let o = c .before .before .before .before .before .before .before .write-orphan .ensures in
-    let d = c .before .before .write-standards .ensures in
-    let same = standards-are cs k g (s .pre .0) f (4 - k .count % 256) (c .before .before .before .before .slots-of .result) refl (c .before .before .before .before .slots-of .ensures) in
-    three-written (sevenRecords cs (g .seven)) (orphanRecords (g .orphan)) (recordsOver (4 - k .count) (held cs) (slotsOf (called k)) tiles) (s .args .out .now) _ _ _ _ _
-    (w .1) (w .0) (o .1) (o .0) (d .1 ∙ ap (sets _ _) same)
-    ∙ ap (sets (s .args .out .now) 0) (sym (parts cs k g (s .pre .0) f))
+    let w = c .before .before .before .before .before .before .before .before .write-special .ensures in
+    let d = c .before .before .before .write-standards .ensures in
+    let o = c .before .before .before .before .before .slots-of in
+    let r = c .readings .ensures in
+    let same = standards-are cs k (s .pre .0) g f (o .result) (o .ensures) in
+    let count = readings-counted cs k (s .pre .0) g f in
+    let bytes = standards-length cs k (s .pre .0) g f in
+    let few = standards-few cs k (s .pre .0) g f in (
+      omega (arith, d .0, ap length same, bytes, count, r .0),
+      (
+        omega (arith, d .0, ap length same, bytes, few, r .1),
+        all-written cs k (s .pre .0) g f (s .args .out .now) _ _ (o .result) _ (w .1) (w .0) (o .ensures) (d .1),
+      ),
+    )
 
 pub write-readings-spec : {M : Type 1} → statement M
 write-readings-spec =
@@ -121,9 +125,11 @@ write-readings-spec =
     (tie.spec
     cast-needed
     sub-needed
-    write-seven-requires
-    write-orphan-requires
+    write-special-requires
     slots-of-requires
     write-standards-requires
+    sub-result
+    readings-requires
+    add-result
     same-length
     returns)

@@ -1,0 +1,70 @@
+-- The choice among scores: two lists of scores with the same ranks, in any order, get answers that agree. Assumes nothing.
+use mathlib.Core.Path.{_≡_, refl, sym, ap, subst₂, _∙_}
+use mathlib.Core.Bool.{Bool}
+use mathlib.Core.List.{List, [], _∷_, map, List·Memᴰ, List·Permᴰ}
+use Prim.Native.Nat.{ℕ, _<_}
+use native.Mathlib.Omega.{arith}
+use Rattle.lists.proofs.Members.{length-perm}
+use Rattle.scoring.specs.Level.{level, basicPoints}
+use Rattle.scoring.specs.Payment.{payment}
+use Rattle.score.specs.declared.ScoringResult.{ScoringResult}
+use Rattle.score.specs.Score.{rank}
+use Rattle.score.proofs.Ranks.{Small, Priced, rank-same}
+use Rattle.choice.specs.Choice.{refused, scored, chooseBy, answerOf, choice}
+use Rattle.choice.proofs.Choosing.{greatest-perm, ChosenOrNone, none-there, one-there, chosen-or-none}
+use Rattle.agreement.specs.Agreement.{SameAnswer}
+
+-- han and fu are bytes, and the rest of the score follows from them, from the yakuman and from who won how
+pub record Valued (tsumo dealer : Bool) (x : ScoringResult) : Type 0 where
+  pub small : Small x
+  pub priced : Priced tsumo dealer x
+
+pub same-refusal : (n : ℕ) → SameAnswer (refused n) (refused n)
+same-refusal n =
+    record { same-number = refl; same-han = refl; same-fu = refl; same-level = refl; same-basic = refl; same-payment = refl }
+
+module _ (tsumo dealer : Bool) where
+  -- two scores of one rank above 0
+  same-rank-agree :
+      (x y : ScoringResult) → Valued tsumo dealer x → Valued tsumo dealer y → 0 < rank x → rank x ≡ rank y
+      → (i j : ℕ) → SameAnswer (scored i x) (scored j y)
+  same-rank-agree x y a b h e i j =
+      let s = rank-same x y (a .small) (b .small) h e in
+      let han = s .same-han in
+      let fu = s .same-fu in
+      let yakuman = s .same-yakuman in
+      let p = a .priced in
+      let q = b .priced in
+      let basic : x .«basic_points» ≡ y .«basic_points» =
+      p .basic-points-are ∙ (λ t. basicPoints (han t) (fu t) (yakuman t)) ∙ sym (q .basic-points-are) in
+      record {
+        same-number = refl;
+        same-han = han;
+        same-fu = fu;
+        same-level = p .level-is ∙ (λ t. level (han t) (fu t) (yakuman t)) ∙ sym (q .level-is);
+        same-basic = basic;
+        same-payment = p .payment-is ∙ ap (payment tsumo dealer) basic ∙ sym (q .payment-is);
+      }
+
+  module _
+      (xs ys : List ScoringResult) (d : List·Permᴰ (map rank xs) (map rank ys))
+      (f : (x : ScoringResult) → List·Memᴰ x xs → Valued tsumo dealer x)
+      (g : (y : ScoringResult) → List·Memᴰ y ys → Valued tsumo dealer y)
+    where
+      chosen-agree : ChosenOrNone rank xs → ChosenOrNone rank ys → SameAnswer (answerOf (chooseBy rank xs)) (answerOf (chooseBy rank ys))
+      chosen-agree (none-there a c) (none-there b e) = subst₂ SameAnswer (sym (ap answerOf c)) (sym (ap answerOf e)) (same-refusal 11)
+      chosen-agree (none-there a c) (one-there j y e m q h n) = absurd (omega (arith, greatest-perm d))
+      chosen-agree (one-there i x c m p h n) (none-there b e) = absurd (omega (arith, greatest-perm d))
+      chosen-agree (one-there i x c m p h n) (one-there j y e o q l r) =
+          subst₂ SameAnswer (sym (ap answerOf c)) (sym (ap answerOf e))
+          (same-rank-agree x y (f x m) (g y o) h (p ∙ greatest-perm d ∙ sym q) i j)
+
+  pub choice-agrees :
+      (xs ys : List ScoringResult) → List·Permᴰ (map rank xs) (map rank ys)
+      → ((x : ScoringResult) → List·Memᴰ x xs → Valued tsumo dealer x) → ((y : ScoringResult) → List·Memᴰ y ys → Valued tsumo dealer y)
+      → SameAnswer (choice xs) (choice ys)
+  unfolding choice
+  choice-agrees [] [] d f g = same-refusal 10
+  choice-agrees [] (y ∷ ys) d f g = absurd (omega (arith, length-perm d))
+  choice-agrees (x ∷ xs) [] d f g = absurd (omega (arith, length-perm d))
+  choice-agrees (x ∷ xs) (y ∷ ys) d f g = chosen-agree (x ∷ xs) (y ∷ ys) d f g (chosen-or-none rank (x ∷ xs)) (chosen-or-none rank (y ∷ ys))

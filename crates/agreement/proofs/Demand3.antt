@@ -1,0 +1,87 @@
+-- Two tables agree: a win and the same win renamed pass the same checks, have the same readings, renamed, and score alike, where neither
+-- hand is all green. Assumes nothing.
+use mathlib.Core.Path.{_≡_, sym, ap, subst, subst₂, _∙_}
+use mathlib.Core.Bool.{cond}
+use mathlib.Core.List.{List, map}
+use Prim.Native.Nat.{ℕ, _≤_}
+use lib.Dec.{eqb}
+use lib.ListN.{length, length-map}
+use Rattle.lists.proofs.Members.{length-perm}
+use Rattle.tile.specs.declared.Renaming.{Renaming}
+use Rattle.meld.specs.declared.Meld.{Meld}
+use Rattle.meld.specs.Renamed.{renMeld}
+use Rattle.context.specs.declared.GameContext.{GameContext}
+use Rattle.context.specs.Context.{isDealer, isTsumo, renWin}
+use Rattle.hand.specs.Counts.{held}
+use Rattle.hand.specs.Records.{records}
+use Rattle.hand.specs.Readings.{readings}
+use Rattle.renamed.specs.Renamed.{renReading, renCounts}
+use Rattle.renamed.proofs.Counts.{held-renamed}
+use Rattle.renamed.proofs.Records.{records-renamed}
+use Rattle.checks.specs.declared.Calls.{Calls}
+use Rattle.checks.specs.Checks.{called}
+use Rattle.unit.specs.Listing.{handReadings, handRecords}
+use Rattle.unit.proofs.Listed.{melds-called}
+use Rattle.promises.proofs.Listing.{once}
+use Rattle.choice.specs.Choice.{refused, choice}
+use Rattle.win.specs.Win.{winCheck, scores, scoreWin}
+use Rattle.agreement.specs.Agreement.{SameAnswer, NotGreen, Alike, renCalls}
+use Rattle.agreement.proofs.Checked.{Checked, checked, checks}
+use Rattle.agreement.proofs.Twin.{renamed-twin, checked-renamed}
+use Rattle.agreement.proofs.Listed.{same-listing, listing-writes}
+use Rattle.agreement.proofs.Scored.{readings-renamed, ranks-renamed}
+use Rattle.agreement.proofs.Numbered.{same-reading}
+use Rattle.agreement.proofs.Chosen.{choice-agrees}
+use Rattle.agreement.proofs.Valued.{scores-valued}
+
+-- a win that passes the checks gets the choice among its scores
+scored-win : (cs : List ℕ) (k : Calls) (w : GameContext) → winCheck cs k w ≡ 0 → scoreWin cs k w ≡ choice (scores cs k w)
+unfolding scoreWin
+scored-win cs k w e = ap (λ (n : ℕ). cond (eqb n 0) (choice (scores cs k w)) (refused n)) e
+
+module _ (ρ : Renaming) (cs : List ℕ) (k : Calls) (w : GameContext) (p : Checked cs k w) where
+  -- as many readings, and as many bytes of records
+  many-renamed : length (handReadings (renCounts ρ cs) (renCalls ρ k)) ≡ length (handReadings cs k)
+  many-renamed = length-perm (readings-renamed ρ cs k w p) ∙ length-map (handReadings cs k) (renReading ρ)
+
+  bytes-renamed : length (handRecords (renCounts ρ cs) (renCalls ρ k)) ≡ length (handRecords cs k)
+  unfolding handRecords handReadings
+  bytes-renamed =
+      ap (λ (l : List Meld). length (records (readings (held (renCounts ρ cs)) l))) (renamed-twin ρ cs k .calls)
+      ∙ records-renamed ρ (held cs) (held (renCounts ρ cs)) (held-renamed ρ cs) (called k) (melds-called cs k (p .hand))
+
+  module _ (four : length (k .melds) ≡ 4) where
+    four-renamed : length (renCalls ρ k .melds) ≡ 4
+    four-renamed = length-map (k .melds) (renMeld ρ) ∙ four
+
+    won-renamed :
+        NotGreen cs k → NotGreen (renCounts ρ cs) (renCalls ρ k)
+        → SameAnswer (scoreWin (renCounts ρ cs) (renCalls ρ k) (renWin ρ w)) (scoreWin cs k w)
+    won-renamed plain plain′ =
+        let q = checked-renamed ρ cs k w p in
+        subst₂ SameAnswer (sym (scored-win (renCounts ρ cs) (renCalls ρ k) (renWin ρ w) (checks (renCounts ρ cs) (renCalls ρ k) (renWin ρ w) q)))
+        (sym (scored-win cs k w (checks cs k w p)))
+        (choice-agrees (isTsumo w) (isDealer w) (scores (renCounts ρ cs) (renCalls ρ k) (renWin ρ w)) (scores cs k w)
+        (ranks-renamed ρ cs k w p plain plain′)
+        (scores-valued (renCounts ρ cs) (renCalls ρ k) four-renamed (q .hand) (renWin ρ w)) (scores-valued cs k four (p .hand) w))
+
+pub demand3 :
+    (ρ : Renaming) (cs : List ℕ) (k : Calls) (w : GameContext) → length (k .melds) ≡ 4 → winCheck cs k w ≡ 0
+    → NotGreen cs k → NotGreen (renCounts ρ cs) (renCalls ρ k)
+    → Alike ρ cs k w
+demand3 ρ cs k w four passes plain plain′ =
+    let p = checked cs k w passes in
+    let q = checked-renamed ρ cs k w p in
+    let four′ = four-renamed ρ cs k w p four in
+    let bytes = bytes-renamed ρ cs k w p in
+    record {
+      passes = checks (renCounts ρ cs) (renCalls ρ k) (renWin ρ w) q;
+      readings = readings-renamed ρ cs k w p;
+      once = once (renCounts ρ cs) (renCalls ρ k) four′ (q .hand);
+      listings = same-listing cs (renCounts ρ cs) k (renCalls ρ k) (q .hand ∙ sym (p .hand)) (many-renamed ρ cs k w p) bytes;
+      writes = λ buffer h.
+          listing-writes (renCounts ρ cs) (renCalls ρ k) four′ (q .hand) (map (renReading ρ) (handReadings cs k)) (readings-renamed ρ cs k w p) buffer
+          (subst (λ (n : ℕ). n ≤ length buffer) (sym bytes) h);
+      numbered = same-reading ρ cs k w p plain plain′;
+      won = won-renamed ρ cs k w p four plain plain′;
+    }

@@ -1,0 +1,10 @@
+pub mod Checked
+pub mod Twin
+pub mod Listed
+pub mod Places
+pub mod Scored
+pub mod Numbered
+pub mod Chosen
+pub mod Valued
+pub mod Demand3
+pub mod Green

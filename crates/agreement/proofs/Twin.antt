@@ -1,0 +1,112 @@
+-- A hand and its twin under a renaming of tiles and melds: the twin passes the same checks and has the same readings, renamed.
+-- Assumes nothing.
+use mathlib.Core.Path.{_≡_, refl, sym, ap, ap₂, subst, _∙_}
+use mathlib.Core.List.{List, [], _∷_, map, List·Permᴰ, Memᴰ·of-map}
+use Prim.Native.Nat.{ℕ, zero, suc, _+_, _*_, _<_, _≤_}
+use lib.Dec.{T}
+use lib.ListN.{length, take}
+use Rattle.lists.specs.Fold.{all, sum}
+use Rattle.lists.proofs.Finite.{and-left, and-right, and-both}
+use Rattle.lists.proofs.Members.{all-mem, all-intro}
+use Rattle.tile.specs.Tile.{tiles}
+use Rattle.tile.specs.declared.Renaming.{Renaming}
+use Rattle.tile.specs.Renaming.{ren}
+use Rattle.meld.specs.declared.Meld.{Meld}
+use Rattle.meld.specs.Meld.{isCall, isMeld, uses}
+use Rattle.meld.specs.Renamed.{renMeld}
+use Rattle.meld.proofs.Renamed.{ren-isMeld}
+use Rattle.context.specs.declared.GameContext.{GameContext}
+use Rattle.context.specs.Context.{inRange, renWin}
+use Rattle.hand.specs.Counts.{held}
+use Rattle.hand.specs.Readings.{readings}
+use Rattle.renamed.specs.Renamed.{changed, renCounts}
+use Rattle.renamed.proofs.Keeps.{Keeps, SameCounts, uses-moved, counts-back, sum-stays, keeps}
+use Rattle.renamed.proofs.Readings.{readings-moved}
+use Rattle.renamed.proofs.Counts.{held-renamed, counts-length}
+use Rattle.checks.specs.declared.Calls.{Calls}
+use Rattle.checks.specs.Checks.{called, together, handCheck}
+use Rattle.checks.proofs.Passed.{Passed, passed, passes, four-each}
+use Rattle.unit.specs.Listing.{handReadings}
+use Rattle.unit.proofs.Listed.{melds-called}
+use Rattle.agreement.specs.Agreement.{renCalls}
+use Rattle.agreement.proofs.Checked.{Checked}
+
+-- the hand ds with the calls j is the hand cs with the calls k, with f at each tile and g at each call
+pub record Twin (f : ℕ → ℕ) (g : Meld → Meld) (cs : List ℕ) (k : Calls) (ds : List ℕ) (j : Calls) : Type 0 where
+  pub long : length ds ≡ 34
+  pub counts : SameCounts f (held cs) (held ds)
+  pub many : j .count ≡ k .count
+  pub calls : called j ≡ map g (called k)
+  pub call : (m : Meld) → T (isCall m) → T (isCall (g m))
+
+module _
+    {f f′ : ℕ → ℕ} {g g′ : Meld → Meld} (s : Keeps f f′ g g′) {cs ds : List ℕ} {k j : Calls} (q : Twin f g cs k ds j)
+    (hand : handCheck cs k ≡ 0)
+  where
+    -- hand and calls together
+    pub together-twin : SameCounts f (together cs (called k)) (together ds (called j))
+    together-twin t h =
+        ap₂ _+_ (q .counts t h)
+        (ap (λ (l : List Meld). sum (λ m. uses m (f t)) l) (q .calls) ∙ uses-moved (s .forth) t h (called k) (melds-called cs k hand))
+
+    at-most : (c d : ℕ → ℕ) → SameCounts f c d → ((t : ℕ) → t < 34 → c t ≤ 4) → (t : ℕ) → t < 34 → d t ≤ 4
+    at-most c d e four t h = subst (λ (n : ℕ). n ≤ 4) (counts-back s c d e t h) (four (f′ t) (s .back .tile t h))
+
+    calls-twin : T (all isCall (map g (called k)))
+    calls-twin =
+        all-intro isCall (map g (called k))
+        (λ x i.
+        let r = Memᴰ·of-map g (called k) i in
+        subst (λ (m : Meld). T (isCall m)) (r .2) (q .call (r .0) (all-mem isCall (passed cs k hand .calls) (r .1))))
+
+    pub passed-twin : Passed ds j
+    passed-twin =
+        let p = passed cs k hand in
+        let e = sum-stays s (held cs) (held ds) (q .counts) in
+        record {
+          long = q .long;
+          few = subst (λ (n : ℕ). n ≤ 4) (sym (q .many)) (p .few);
+          calls = subst (λ (l : List Meld). T (all isCall l)) (sym (q .calls)) calls-twin;
+          four = four-each ds (q .long) (at-most (held cs) (held ds) (q .counts) (λ t h. p .four t));
+          whole = at-most (together cs (called k)) (together ds (called j)) together-twin (p .whole);
+          tiles = ap₂ (λ (a b : ℕ). a + 3 * b) e (q .many) ∙ p .tiles;
+        }
+
+    pub readings-twin : List·Permᴰ (handReadings ds j) (map (changed f g) (handReadings cs k))
+    unfolding handReadings
+    readings-twin =
+        subst (λ (l : List Meld). List·Permᴰ (readings (held ds) l) (map (changed f g) (readings (held cs) (called k)))) (sym (q .calls))
+        (readings-moved s (held cs) (held ds) (q .counts) (called k) (melds-called cs k hand))
+
+-- the twin's win passes the checks 8 and 9 too
+pub checked-twin :
+    {f f′ : ℕ → ℕ} {g g′ : Meld → Meld} → Keeps f f′ g g′ → {cs ds : List ℕ} {k j : Calls} → Twin f g cs k ds j → {w v : GameContext}
+    → T (inRange v) → v .«winning_tile» ≡ f (w .«winning_tile») → Checked cs k w → Checked ds j v
+checked-twin s {cs} {ds} {k} {j} q {w} {v} range e p =
+    record {
+      hand = passes ds j (passed-twin s q (p .hand));
+      range = range;
+      tile = subst (λ (t : ℕ). t < 34) (sym e) (s .forth .tile (w .«winning_tile») (p .tile));
+      there = subst (λ (n : ℕ). 0 < n) (sym (ap (held ds) e ∙ q .counts (w .«winning_tile») (p .tile))) (p .there);
+    }
+
+-- ---- the 24 renamings
+take-map : {A B : Type 0} (h : A → B) (n : ℕ) (l : List A) → take n (map h l) ≡ map h (take n l)
+take-map h zero l = refl
+take-map h (suc n) [] = refl
+take-map h (suc n) (a ∷ l) = ap (λ (r : List _). h a ∷ r) (take-map h n l)
+
+pub renamed-twin : (ρ : Renaming) (cs : List ℕ) (k : Calls) → Twin (ren ρ) (renMeld ρ) cs k (renCounts ρ cs) (renCalls ρ k)
+renamed-twin ρ cs k =
+    record {
+      long = counts-length ρ cs;
+      counts = held-renamed ρ cs;
+      many = refl;
+      calls = take-map (renMeld ρ) (k .count) (k .melds);
+      call = λ m v. and-both (isMeld (renMeld ρ m)) _ (ren-isMeld ρ m (and-left (isMeld m) _ v)) (and-right (isMeld m) _ v);
+    }
+
+-- the same win renamed passes the same checks
+pub checked-renamed :
+    (ρ : Renaming) (cs : List ℕ) (k : Calls) (w : GameContext) → Checked cs k w → Checked (renCounts ρ cs) (renCalls ρ k) (renWin ρ w)
+checked-renamed ρ cs k w p = checked-twin (keeps ρ) (renamed-twin ρ cs k) (p .range) refl p

@@ -1,0 +1,71 @@
+-- Two units score one win each: a win, and the same win renamed. What it means that they agree. These are definitions; the theorem is
+-- `demand3` in proofs/Demand3.antt.
+use mathlib.Core.Path.{_≡_}
+use mathlib.Core.Bool.{not}
+use mathlib.Core.List.{List, _++_, map, List·Permᴰ}
+use Prim.Native.Nat.{ℕ, _≤_}
+use lib.Dec.{T}
+use lib.ListN.{length, drop}
+use Rattle.lists.specs.Order.{Nodup, Pairwise}
+use Rattle.tile.specs.declared.Renaming.{Renaming}
+use Rattle.meld.specs.Renamed.{renMeld}
+use Rattle.context.specs.declared.GameContext.{GameContext}
+use Rattle.context.specs.Context.{renWin}
+use Rattle.hand.specs.Reading.{Reading}
+use Rattle.hand.specs.Records.{records, Before}
+use Rattle.renamed.specs.Renamed.{renReading, renCounts, allGreen}
+use Rattle.checks.specs.declared.Calls.{Calls}
+use Rattle.checks.specs.Checks.{called, together}
+use Rattle.unit.specs.Listing.{handReadings, handRecords, listing, written}
+use Rattle.choice.specs.declared.ScoreAnswer.{ScoreAnswer}
+use Rattle.choice.specs.Standing.{StandsAt}
+use Rattle.win.specs.Win.{winCheck, scoreWin, scoreReading, nameWaits}
+
+-- calls keep their order and kinds; each meld is renamed
+abbrev pub renCalls : Renaming → Calls → Calls
+renCalls ρ k = record { count = k .count; melds = map (renMeld ρ) (k .melds) }
+
+-- hand and calls together are not all green
+abbrev pub NotGreen : List ℕ → Calls → Type 0
+NotGreen cs k = T (not (allGreen (together cs (called k))))
+
+-- two answers agree: the same number, 0 or a refusal's, and the same han, fu, level, basic points and payments
+pub record SameAnswer (a b : ScoreAnswer) : Type 0 where
+  pub same-number : a .number ≡ b .number
+  pub same-han : a .score .han ≡ b .score .han
+  pub same-fu : a .score .fu ≡ b .score .fu
+  pub same-level : a .score .«score_level» ≡ b .score .«score_level»
+  pub same-basic : a .score .«basic_points» ≡ b .score .«basic_points»
+  pub same-payment : a .score .payment ≡ b .score .payment
+
+-- what a listing leaves in a lent buffer: the records of these readings in their order, each once, and behind them its old bytes
+pub record Writes (rs : List Reading) (buffer left : List ℕ) : Type 0 where
+  pub listed : List Reading
+  pub these : List·Permᴰ listed rs
+  pub once : Nodup listed
+  pub ascending : Pairwise Before listed
+  pub bytes : left ≡ records listed ++ drop (length (records listed)) buffer
+
+-- reading n of the first hand and its renamed one, at the number j where that stands, score alike and have the same waits
+pub record SameReading (ρ : Renaming) (cs : List ℕ) (k : Calls) (w : GameContext) (n : ℕ) (r : Reading) : Type 0 where
+  pub number : ℕ
+  pub stands : StandsAt (renReading ρ r) number (handReadings (renCounts ρ cs) (renCalls ρ k))
+  pub score : SameAnswer (scoreReading (renCounts ρ cs) (renCalls ρ k) (renWin ρ w) number) (scoreReading cs k w n)
+  pub waits : nameWaits (renCounts ρ cs) (renCalls ρ k) (renWin ρ w) number ≡ nameWaits cs k w n
+
+-- the win of the hand cs with the calls k, and the same win renamed by ρ
+pub record Alike (ρ : Renaming) (cs : List ℕ) (k : Calls) (w : GameContext) : Type 0 where
+  -- the second passes the same checks
+  pub passes : winCheck (renCounts ρ cs) (renCalls ρ k) (renWin ρ w) ≡ 0
+  -- its readings are the first's renamed, each once
+  pub readings : List·Permᴰ (handReadings (renCounts ρ cs) (renCalls ρ k)) (map (renReading ρ) (handReadings cs k))
+  pub once : Nodup (handReadings (renCounts ρ cs) (renCalls ρ k))
+  -- with equally many bytes lent both listings answer the same number and the same counts; accepted, the second writes these readings' records
+  pub listings : (lent : ℕ) → listing (renCounts ρ cs) (renCalls ρ k) lent ≡ listing cs k lent
+  pub writes :
+      (buffer : List ℕ) → length (handRecords cs k) ≤ length buffer
+      → Writes (map (renReading ρ) (handReadings cs k)) buffer (written (renCounts ρ cs) (renCalls ρ k) buffer)
+  -- reading n and its renamed one, scored by number
+  pub numbered : (n : ℕ) (r : Reading) → StandsAt r n (handReadings cs k) → SameReading ρ cs k w n r
+  -- the two scored wins
+  pub won : SameAnswer (scoreWin (renCounts ρ cs) (renCalls ρ k) (renWin ρ w)) (scoreWin cs k w)

@@ -1,0 +1,36 @@
+-- What stands at a number of a list: a member, what is picked there, and of a mapped list the value of what stands there. Assumes nothing.
+use mathlib.Core.Path.{_≡_, refl, sym, ap}
+use mathlib.Core.List.{List, [], _∷_, map, List·Memᴰ, List·Memᴰ·head, List·Memᴰ·tail}
+use Prim.Native.Nat.{ℕ, zero, suc, _<_}
+use native.Mathlib.Omega.{arith}
+use lib.ListN.{length}
+use Rattle.records.specs.Pick.{pickAt}
+use Rattle.choice.specs.Standing.{StandsAt}
+
+module _ {A : Type 0} where
+  pub stands-mem : (x : A) (i : ℕ) (l : List A) → StandsAt x i l → List·Memᴰ x l
+  stands-mem x i [] s = absurd s
+  stands-mem x zero (a ∷ l) s = List·Memᴰ·head s
+  stands-mem x (suc i) (a ∷ l) s = List·Memᴰ·tail (stands-mem x i l s)
+
+  pub stands-below : (x : A) (i : ℕ) (l : List A) → StandsAt x i l → i < length l
+  stands-below x i [] s = absurd s
+  stands-below x zero (a ∷ l) s = omega arith
+  stands-below x (suc i) (a ∷ l) s = let h = stands-below x i l s in omega arith
+
+module _ {A B : Type 0} where
+  pub stands-picked : (z : B) (f : A → B) (x : A) (i : ℕ) (l : List A) → StandsAt x i l → pickAt z f l i ≡ f x
+  stands-picked z f x i [] s = absurd s
+  stands-picked z f x zero (a ∷ l) s = ap f (sym s)
+  stands-picked z f x (suc i) (a ∷ l) s = stands-picked z f x i l s
+
+  -- what stands in a mapped list is the value of what stands at that number in the list
+  pub stands-of-map : (f : A → B) (y : B) (i : ℕ) (l : List A) → StandsAt y i (map f l) → (x : A) × StandsAt x i l × (y ≡ f x)
+  stands-of-map f y i [] s = absurd s
+  stands-of-map f y zero (a ∷ l) s = (a, refl, s)
+  stands-of-map f y (suc i) (a ∷ l) s = stands-of-map f y i l s
+
+  pub stands-map : (f : A → B) (x : A) (i : ℕ) (l : List A) → StandsAt x i l → StandsAt (f x) i (map f l)
+  stands-map f x i [] s = s
+  stands-map f x zero (a ∷ l) s = ap f s
+  stands-map f x (suc i) (a ∷ l) s = stands-map f x i l s

@@ -1,0 +1,63 @@
+-- The choice among scored readings, and the score of the reading with a number. These are definitions.
+use mathlib.Core.Bool.{Bool, false, cond}
+use mathlib.Core.List.{List, [], _∷_, map}
+use Prim.Native.Nat.{ℕ, suc, max}
+use lib.Dec.{eqb}
+use lib.ListN.{replicate}
+use Rattle.scoring.specs.declared.ScoreLevel.the-variants.{Normal}
+use Rattle.scoring.specs.declared.Payment.the-variants.{Ron}
+use Rattle.records.specs.Pick.{pickAt}
+use Rattle.score.specs.declared.ScoringResult.{ScoringResult}
+use Rattle.score.specs.Score.{rank}
+use Rattle.choice.specs.declared.ScoreAnswer.{ScoreAnswer}
+
+-- ---- what is answered: a number alone, or the number of a reading, counted from 0, and its score
+abbrev pub noScore : ScoringResult
+noScore =
+    record {
+      tallies = replicate 47 0;
+      han = 0;
+      fu = 0;
+      «is_yakuman» = false;
+      «score_level» = Normal;
+      «basic_points» = 0;
+      payment = Ron 0;
+    }
+
+abbrev pub refused : ℕ → ScoreAnswer
+refused n = record { number = n; reading = 0; score = noScore }
+
+abbrev pub scored : ℕ → ScoringResult → ScoreAnswer
+scored i x = record { number = 0; reading = i; score = x }
+
+-- ---- the choice: the first of the scores with the greatest rank
+abbrev pub greatest : List ℕ → ℕ
+greatest [] = 0
+greatest (n ∷ ns) = max n (greatest ns)
+
+pub data Choice : Type 0 where
+  none : Choice
+  chosen : ℕ → ScoringResult → Choice
+
+-- the first score of the rank b by f, with its number, counted from i
+abbrev pub first : (ScoringResult → ℕ) → ℕ → ℕ → List ScoringResult → Choice
+first f b i [] = none
+first f b i (x ∷ xs) = cond (eqb (f x) b) (chosen i x) (first f b (suc i) xs)
+
+-- a score of rank 0 is never chosen
+unfoldable pub chooseBy : (ScoringResult → ℕ) → List ScoringResult → Choice
+chooseBy f xs = cond (eqb (greatest (map f xs)) 0) none (first f (greatest (map f xs)) 0 xs)
+
+-- 11 where no reading has a yaku
+abbrev pub answerOf : Choice → ScoreAnswer
+answerOf none = refused 11
+answerOf (chosen i x) = scored i x
+
+-- 10 where there is no reading
+unfoldable pub choice : List ScoringResult → ScoreAnswer
+choice [] = refused 10
+choice (x ∷ xs) = answerOf (chooseBy rank (x ∷ xs))
+
+-- ---- the score at the number n, counted from 0; 12 where there are not more than n
+unfoldable pub numbered : List ScoringResult → ℕ → ScoreAnswer
+numbered xs n = pickAt (refused 12) (scored n) xs n

@@ -1,0 +1,174 @@
+-- Laws of the rank and of the score of a reading. The rank is 0 exactly without a yaku; equal ranks are of equal totals, yakuman, han and fu; and the
+-- order of ranks is that of totals, then of a yakuman before none, then of han, then of fu. The han and fu of a reading's score are bytes, and its
+-- level, basic points and payment follow from them. Assumes nothing.
+use mathlib.Core.Path.{_≡_, refl, sym, ap, subst, _∙_}
+use mathlib.Core.Logic.{_⊎_, inl, inr}
+use mathlib.Core.Bool.{Bool, true, false, cond}
+use Prim.Native.Nat.{ℕ, suc, _+_, _*_, _<_, _≤_}
+use native.Mathlib.Omega.{arith}
+use native.Mathlib.Decide.{decLe}
+use lib.Dec.{T}
+use Rattle.lists.specs.Fold.{one}
+use Rattle.lists.proofs.Finite.{T→true}
+use Rattle.context.specs.declared.GameContext.{GameContext}
+use Rattle.context.specs.Context.{isDealer, isTsumo}
+use Rattle.hand.specs.Reading.{Reading, pairs, orphans, standard}
+use Rattle.wait.proofs.Waits.{one-le}
+use Rattle.tile_yaku.specs.declared.TileYaku.{TileYaku}
+use Rattle.yaku.proofs.Laws.{Short, han-small}
+use Rattle.scoring.specs.Level.{level, basicPoints}
+use Rattle.scoring.specs.Payment.{payment, totalAt}
+use Rattle.scoring.proofs.Laws as scoring
+use Rattle.score.specs.declared.ScoringResult.{ScoringResult}
+use Rattle.score.specs.Score.{result, scoreOf, hasYaku, rank}
+
+-- han and fu are bytes
+pub record Small (x : ScoringResult) : Type 0 where
+  pub han : x .han < 256
+  pub fu : x .fu < 256
+
+-- ---- a rank above 0 is of a yaku
+above-zero : (b : Bool) (n : ℕ) → 0 < cond b (suc n) 0 → T b
+above-zero true n h = tt
+above-zero false n h = absurd (omega arith)
+
+pub rank-yaku : (x : ScoringResult) → 0 < rank x → T (hasYaku x)
+unfolding rank
+rank-yaku x = above-zero (hasYaku x) _
+
+-- the four digits of a score
+abbrev digits : ScoringResult → ℕ
+digits x = ((totalAt 4 (x .payment) * 2 + one (x .«is_yakuman»)) * 256 + x .han) * 256 + x .fu
+
+yaku-digits : (x : ScoringResult) → T (hasYaku x) → rank x ≡ suc (digits x)
+unfolding rank
+yaku-digits x t = ap (λ (b : Bool). cond b (suc (digits x)) 0) (T→true (hasYaku x) t)
+
+pub yaku-rank : (x : ScoringResult) → T (hasYaku x) → 0 < rank x
+yaku-rank x t = let e = yaku-digits x t in omega arith
+
+-- ---- equal ranks
+pub record SameRank (x y : ScoringResult) : Type 0 where
+  pub same-total : totalAt 4 (x .payment) ≡ totalAt 4 (y .payment)
+  pub same-yakuman : x .«is_yakuman» ≡ y .«is_yakuman»
+  pub same-han : x .han ≡ y .han
+  pub same-fu : x .fu ≡ y .fu
+
+one-same : (a b : Bool) → one a ≡ one b → a ≡ b
+one-same true true e = refl
+one-same true false e = absurd (omega arith)
+one-same false true e = absurd (omega arith)
+one-same false false e = refl
+
+-- ---- the order of ranks
+-- y is preferred to x: the greater total; then a yakuman before none, more han, more fu
+pub data Preferred (x y : ScoringResult) : Type 0 where
+  by-total : totalAt 4 (x .payment) < totalAt 4 (y .payment) → Preferred x y
+  by-yakuman :
+      totalAt 4 (x .payment) ≡ totalAt 4 (y .payment)
+      → x .«is_yakuman» ≡ false → y .«is_yakuman» ≡ true → Preferred x y
+  by-han :
+      totalAt 4 (x .payment) ≡ totalAt 4 (y .payment)
+      → x .«is_yakuman» ≡ y .«is_yakuman»
+      → x .han < y .han → Preferred x y
+  by-fu :
+      totalAt 4 (x .payment) ≡ totalAt 4 (y .payment)
+      → x .«is_yakuman» ≡ y .«is_yakuman»
+      → x .han ≡ y .han
+      → x .fu < y .fu → Preferred x y
+
+-- a number is below, equal to or above another
+compare : (a b : ℕ) → (a < b) ⊎ ((a ≡ b) ⊎ (b < a))
+compare a b = go (decLe b a) (decLe a b)
+  where
+    go : Dec (b ≤ a) → Dec (a ≤ b) → (a < b) ⊎ ((a ≡ b) ⊎ (b < a))
+    go (no above) below = inl (omega arith)
+    go (yes above) (yes below) = inr (inl (omega arith))
+    go (yes above) (no below) = inr (inr (omega arith))
+
+module _ (x y : ScoringResult) (i : Small x) (j : Small y) where
+  same-digits : digits x ≡ digits y → SameRank x y
+  same-digits e =
+      let k = one-le (x .«is_yakuman») in
+      let l = one-le (y .«is_yakuman») in
+      record {
+        same-total = omega arith;
+        same-yakuman = one-same (x .«is_yakuman») (y .«is_yakuman») (omega arith);
+        same-han = omega arith;
+        same-fu = omega arith;
+      }
+
+  pub rank-same : 0 < rank x → rank x ≡ rank y → SameRank x y
+  rank-same h e =
+      let p = yaku-digits x (rank-yaku x h) in
+      let q = yaku-digits y (rank-yaku y (subst (λ (n : ℕ). 0 < n) e h)) in
+      same-digits (omega arith)
+
+  pub rank-total : T (hasYaku x) → rank x ≤ rank y → totalAt 4 (x .payment) ≤ totalAt 4 (y .payment)
+  rank-total t h =
+      let k = one-le (x .«is_yakuman») in
+      let l = one-le (y .«is_yakuman») in
+      let p = yaku-digits x t in
+      let q = yaku-digits y (rank-yaku y (omega arith)) in
+      omega arith
+
+  -- the digits decide from the first to the last
+  decide-han :
+      totalAt 4 (x .payment) ≡ totalAt 4 (y .payment) → x .«is_yakuman» ≡ y .«is_yakuman» → digits x < digits y
+      → (x .han < y .han) ⊎ ((x .han ≡ y .han) ⊎ (y .han < x .han)) → Preferred x y
+  decide-han e f h (inl l) = by-han e f l
+  decide-han e f h (inr (inl g)) = let k = ap one f in by-fu e f g (omega arith)
+  decide-han e f h (inr (inr l)) = let k = ap one f in absurd (omega arith)
+
+  decide-yakuman :
+      (p q : Bool) → x .«is_yakuman» ≡ p → y .«is_yakuman» ≡ q → totalAt 4 (x .payment) ≡ totalAt 4 (y .payment)
+      → digits x < digits y → Preferred x y
+  decide-yakuman true true f g e h = decide-han e (f ∙ sym g) h (compare (x .han) (y .han))
+  decide-yakuman true false f g e h = let k = ap one f in let l = ap one g in absurd (omega arith)
+  decide-yakuman false true f g e h = by-yakuman e f g
+  decide-yakuman false false f g e h = decide-han e (f ∙ sym g) h (compare (x .han) (y .han))
+
+  decide-total :
+      digits x < digits y
+      → (totalAt 4 (x .payment) < totalAt 4 (y .payment))
+      ⊎ ((totalAt 4 (x .payment) ≡ totalAt 4 (y .payment)) ⊎ (totalAt 4 (y .payment) < totalAt 4 (x .payment)))
+      → Preferred x y
+  decide-total h (inl l) = by-total l
+  decide-total h (inr (inl e)) = decide-yakuman (x .«is_yakuman») (y .«is_yakuman») refl refl e h
+  decide-total h (inr (inr l)) = let k = one-le (x .«is_yakuman») in let m = one-le (y .«is_yakuman») in absurd (omega arith)
+
+  preferred-digits : Preferred x y → digits x < digits y
+  preferred-digits (by-total l) = let k = one-le (x .«is_yakuman») in let m = one-le (y .«is_yakuman») in omega arith
+  preferred-digits (by-yakuman e f g) = let k = ap one f in let m = ap one g in omega arith
+  preferred-digits (by-han e f l) = let k = ap one f in omega arith
+  preferred-digits (by-fu e f g l) = let k = ap one f in omega arith
+
+  pub rank-order : T (hasYaku x) → T (hasYaku y) → (rank x < rank y → Preferred x y) × (Preferred x y → rank x < rank y)
+  rank-order t u =
+      let p = yaku-digits x t in
+      let q = yaku-digits y u in (
+        λ h. decide-total (omega arith) (compare (totalAt 4 (x .payment)) (totalAt 4 (y .payment))),
+        λ h. let l = preferred-digits h in omega arith,
+      )
+
+-- ---- the scores of readings
+-- a reading with at most four melds
+short : (r : Reading) → Short r → scoring.Short r
+short (pairs ps) h = tt
+short (orphans p) h = tt
+short (standard p ms) h = h
+
+-- level, basic points and payment follow from han, fu and yakuman, and from who won how
+pub record Priced (tsumo dealer : Bool) (x : ScoringResult) : Type 0 where
+  pub level-is : x .«score_level» ≡ level (x .han) (x .fu) (x .«is_yakuman»)
+  pub basic-points-are : x .«basic_points» ≡ basicPoints (x .han) (x .fu) (x .«is_yakuman»)
+  pub payment-is : x .payment ≡ payment tsumo dealer (x .«basic_points»)
+
+module _ (w : GameContext) (opened : Bool) (s : TileYaku) (r : Reading) where
+  pub score-small : Short r → Small (scoreOf w opened s r)
+  unfolding scoreOf result
+  score-small h = record { han = han-small w opened s r h; fu = scoring.fu-small w opened r (short r h) }
+
+  pub score-priced : Priced (isTsumo w) (isDealer w) (scoreOf w opened s r)
+  unfolding scoreOf result
+  score-priced = record { level-is = refl; basic-points-are = refl; payment-is = refl }

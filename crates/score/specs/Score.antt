@@ -1,0 +1,44 @@
+-- The score of a reading: all that is answered of it. w is the win, `opened` whether something was called from another player, s what all
+-- tiles together are, calls included, r the reading. These are definitions.
+use mathlib.Core.Bool.{Bool, cond, not}
+use mathlib.Core.List.{List, [], _∷_}
+use Prim.Native.Nat.{ℕ, suc, _+_, _*_}
+use lib.Dec.{eqb}
+use Rattle.lists.specs.Fold.{any, one}
+use Rattle.context.specs.declared.GameContext.{GameContext}
+use Rattle.context.specs.Context.{isDealer, isTsumo}
+use Rattle.hand.specs.Reading.{Reading}
+use Rattle.tile_yaku.specs.declared.TileYaku.{TileYaku}
+use Rattle.yaku.specs.Tally.{tallies, isYakuman}
+use Rattle.yaku.specs.Han.{han}
+use Rattle.scoring.specs.Fu.{fu}
+use Rattle.scoring.specs.Level.{level, basicPoints}
+use Rattle.scoring.specs.Payment.{payment, totalAt}
+use Rattle.score.specs.declared.ScoringResult.{ScoringResult}
+
+-- what yaku, han and fu come to
+unfoldable pub result : GameContext → List ℕ → ℕ → ℕ → Bool → ScoringResult
+result w ts han fu yakuman =
+    record {
+      tallies = ts;
+      han = han;
+      fu = fu;
+      «is_yakuman» = yakuman;
+      «score_level» = level han fu yakuman;
+      «basic_points» = basicPoints han fu yakuman;
+      payment = payment (isTsumo w) (isDealer w) (basicPoints han fu yakuman);
+    }
+
+unfoldable pub scoreOf : GameContext → Bool → TileYaku → Reading → ScoringResult
+scoreOf w opened s r = result w (tallies w opened s r) (han w opened s r) (fu w opened r) (isYakuman w opened s r)
+
+-- at least one yaku
+abbrev pub hasYaku : ScoringResult → Bool
+hasYaku x = any (λ n. not (eqb n 0)) (x .tallies)
+
+-- the rank in the choice: the greatest total; then a yakuman before none, more han, more fu. They are the digits of one number, 0 without a yaku.
+unfoldable pub rank : ScoringResult → ℕ
+rank x =
+    cond (hasYaku x)
+    (suc (((totalAt 4 (x .payment) * 2 + one (x .«is_yakuman»)) * 256 + x .han) * 256 + x .fu))
+    0

@@ -1,0 +1,84 @@
+-- The answers of the three operations, by the ways they end. Assumes nothing.
+use mathlib.Core.Path.{_≡_, refl, sym, ap, _∙_}
+use mathlib.Core.Bool.{Bool, true, false, cond}
+use mathlib.Core.List.{List, [], _∷_, map}
+use Prim.Native.Nat.{ℕ, zero, suc, _≤_, _<_}
+use lib.Dec.{eqb}
+use borrow.Author.Tests.{eq-eqb, ne-eqb}
+use Rattle.context.specs.declared.GameContext.{GameContext}
+use Rattle.hand.specs.Reading.{Reading}
+use Rattle.wait.specs.Wait.{waits}
+use Rattle.tile_yaku.specs.declared.TileYaku.{TileYaku}
+use Rattle.checks.specs.declared.Calls.{Calls}
+use Rattle.unit.specs.Listing.{handReadings}
+use Rattle.records.specs.Buffer.{readingAt, readingsIn, placeOf}
+use Rattle.records.specs.Pick.{pickAt}
+use Rattle.score.specs.declared.ScoringResult.{ScoringResult}
+use Rattle.score.specs.Score.{scoreOf}
+use Rattle.choice.specs.declared.ScoreAnswer.{ScoreAnswer}
+use Rattle.choice.specs.Choice.{refused, scored, choice, numbered}
+use Rattle.win.specs.Win.{isOpened, tilesTogether, winCheck, scoreIn, scores, scoreWin, scoreReading, refusedWaits, namedWaits, nameWaits}
+use Rattle.win.proofs.Readings.{pick-there, pick-none}
+
+pick-map : {A B C : Type 0} (z : C) (f : B → C) (g : A → B) (l : List A) (n : ℕ) → pickAt z f (map g l) n ≡ pickAt z (λ a. f (g a)) l n
+pick-map z f g [] n = refl
+pick-map z f g (a ∷ l) zero = refl
+pick-map z f g (a ∷ l) (suc n) = pick-map z f g l n
+
+module _ (cs : List ℕ) (k : Calls) (w : GameContext) where
+  -- ---- refused by a check
+  module _ (number : ℕ) (is : number ≡ winCheck cs k w) (some : number ≡ 0 → ⊥) where
+    fails : eqb (winCheck cs k w) 0 ≡ false
+    fails = ne-eqb (winCheck cs k w) 0 (λ e. some (is ∙ e))
+
+    pub win-refused : refused number ≡ scoreWin cs k w
+    unfolding scoreWin
+    win-refused = sym (rw (fails, ← is))
+
+    pub reading-refused : (n : ℕ) → refused number ≡ scoreReading cs k w n
+    unfolding scoreReading
+    reading-refused n = sym (rw (fails, ← is))
+
+    pub waits-refused : (n : ℕ) → refusedWaits number ≡ nameWaits cs k w n
+    unfolding nameWaits
+    waits-refused n = sym (rw (fails, ← is))
+
+  -- ---- passed, with a buffer b that holds the m readings
+  module _ (passes : winCheck cs k w ≡ 0) (b : List ℕ) (m : ℕ) (holds : readingsIn b m 0 ≡ handReadings cs k) where
+    ok : eqb (winCheck cs k w) 0 ≡ true
+    ok = eq-eqb (winCheck cs k w) 0 passes
+
+    -- the choice among all readings; s is what all tiles together are
+    pub win-chosen :
+        (s : TileYaku) (opened : Bool) → s ≡ tilesTogether cs k w → opened ≡ isOpened k
+        → choice (map (scoreOf w opened s) (readingsIn b m 0)) ≡ scoreWin cs k w
+    unfolding scoreWin scores scoreIn
+    win-chosen s opened e f = sym (rw (ok, e, f, holds))
+
+    -- reading number n, or none
+    by-number : (n : ℕ) → scoreReading cs k w n ≡ pickAt (refused 12) (λ r. scored n (scoreIn cs k w r)) (handReadings cs k) n
+    unfolding scoreReading numbered scores
+    by-number n = rw ok (pick-map (refused 12) (scored n) (scoreIn cs k w) (handReadings cs k) n)
+
+    pub reading-none : (n : ℕ) → m ≤ n → refused 12 ≡ scoreReading cs k w n
+    reading-none n h = sym (by-number n ∙ pick-none cs k b m holds (refused 12) (λ r. scored n (scoreIn cs k w r)) n h)
+
+    pub reading-scored :
+        (n : ℕ) → n < m → (s : TileYaku) (opened : Bool) → s ≡ tilesTogether cs k w → opened ≡ isOpened k → (r : Reading) → r ≡ readingAt b (placeOf b n 0)
+        → scored n (scoreOf w opened s r) ≡ scoreReading cs k w n
+    unfolding scoreIn
+    reading-scored n h s opened e f r g =
+        rw (e, f, g) (sym (by-number n ∙ pick-there cs k b m holds (refused 12) (λ q. scored n (scoreIn cs k w q)) n h))
+
+    waits-by-number :
+        (n : ℕ) → nameWaits cs k w n ≡ pickAt (refusedWaits 12) (λ r. namedWaits (waits (w .«winning_tile») r)) (handReadings cs k) n
+    unfolding nameWaits
+    waits-by-number n = rw ok
+
+    pub waits-none : (n : ℕ) → m ≤ n → refusedWaits 12 ≡ nameWaits cs k w n
+    waits-none n h = sym (waits-by-number n ∙ pick-none cs k b m holds (refusedWaits 12) (λ r. namedWaits (waits (w .«winning_tile») r)) n h)
+
+    pub waits-named :
+        (n : ℕ) → n < m → (r : Reading) → r ≡ readingAt b (placeOf b n 0) → namedWaits (waits (w .«winning_tile») r) ≡ nameWaits cs k w n
+    waits-named n h r g =
+        rw g (sym (waits-by-number n ∙ pick-there cs k b m holds (refusedWaits 12) (λ q. namedWaits (waits (w .«winning_tile») q)) n h))

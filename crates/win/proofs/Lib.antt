@@ -1,0 +1,4 @@
+pub mod Checked
+pub mod Opened
+pub mod Readings
+pub mod Answers

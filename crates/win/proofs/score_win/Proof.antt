@@ -1,0 +1,89 @@
+-- `score_win` meets its contract: a refusal, or the choice among all readings that the buffer holds. Assumes nothing.
+use mathlib.Core.Path.{sym, _∙_}
+use lib.ListN.{length-map}
+use Rattle.checks.proofs.Passed.{passed}
+use Rattle.promises.proofs.Listing.{room}
+use Rattle.win.proofs.Checked.{win-passes}
+use Rattle.win.proofs.Readings.{held-readings}
+use Rattle.win.proofs.Answers.{win-refused, win-chosen}
+use borrow.Author.Needs.{needs}
+use Rattle.win.proofs.score_win.Statement.{statement}
+use Rattle.win.proofs.score_win.Tie as tie
+
+check-win-requires : tie.Need-check-win-requires
+check-win-requires c κs = search needs
+
+refused-requires : tie.Need-refused-requires
+refused-requires c κs = search needs
+
+returns : tie.Need-returns
+returns c =
+    let s = c .before .before .before .before in
+    let e = c .before .before .check-win in
+    c .refused .ensures ∙ win-refused (s .args .counts .now) (s .args .k) (s .args .w) (e .result) (e .ensures) (c .before .if1 .taken)
+
+slice-aggregate-write-all : tie.Need-slice-aggregate-write-all
+slice-aggregate-write-all c = search needs
+
+write-all-requires : tie.Need-write-all-requires
+write-all-requires c κs =
+    let s = c .before .before .before .before in
+    let cs = s .args .counts .now in
+    let k = s .args .k in
+    let passes = sym (c .before .before .check-win .ensures) ∙ c .before .if1 .left in
+    let ok = win-passes cs k (s .args .w) passes .hand in
+    let four = sym (length-map (k .melds) _) ∙ s .good .1 .0 .1 .1 .1 .0 .1 .0 .1 in
+    (ok, room cs k four ok)
+
+slice-aggregate-choose : tie.Need-slice-aggregate-choose
+slice-aggregate-choose c = search needs
+
+tiles-together-requires : tie.Need-tiles-together-requires
+tiles-together-requires c κs =
+    let s = c .before .before .before .before .before .before .before in
+    let cs = s .args .counts .now in
+    let k = s .args .k in
+    let passes = sym (c .before .before .before .before .before .check-win .ensures) ∙ c .before .before .before .before .if1 .left in
+    let ok = win-passes cs k (s .args .w) passes .hand in
+    ok
+
+is-opened-requires : tie.Need-is-opened-requires
+is-opened-requires c κs =
+    let s = c .before .before .before .before .before .before .before .before in
+    let cs = s .args .counts .now in
+    let k = s .args .k in
+    let passes = sym (c .before .before .before .before .before .before .check-win .ensures) ∙ c .before .before .before .before .before .if1 .left in
+    let ok = win-passes cs k (s .args .w) passes .hand in
+    passed cs k ok .few
+
+choose-requires : tie.Need-choose-requires
+choose-requires c κs = search needs
+
+returns-2 : tie.Need-returns-2
+returns-2 c =
+    let s = c .before .before .before .before .before .before .before .before .before .before in
+    let cs = s .args .counts .now in
+    let k = s .args .k in
+    let passes = sym (c .before .before .before .before .before .before .before .before .check-win .ensures) ∙ c .before .before .before .before .before .before .before .if1 .left in
+    let ok = win-passes cs k (s .args .w) passes .hand in
+    let four = sym (length-map (k .melds) _) ∙ s .good .1 .0 .1 .1 .1 .0 .1 .0 .1 in
+    let b = c .before .before .before .before .before .write-all in
+    let holds = held-readings cs k four ok _ _ (b .result) (b .ensures .1 .1) (room cs k four ok) (b .ensures .0) in
+    c .choose .ensures
+    ∙ win-chosen cs k (s .args .w) passes _ (b .result) holds (c .before .before .tiles-together .result) (c .before .is-opened .result)
+    (c .before .before .tiles-together .ensures) (c .before .is-opened .ensures)
+
+pub score-win-spec : {M : Type 1} → statement M
+score-win-spec =
+    tie.close
+    (tie.spec
+    check-win-requires
+    refused-requires
+    returns
+    slice-aggregate-write-all
+    write-all-requires
+    slice-aggregate-choose
+    tiles-together-requires
+    is-opened-requires
+    choose-requires
+    returns-2)

@@ -1,0 +1,73 @@
+-- What scoring a win, scoring a reading by its number and naming its waits answer. cs are the counts, k the calls, w is the win.
+-- These are definitions.
+use mathlib.Core.Bool.{Bool, _&&_, cond}
+use mathlib.Core.List.{List, map}
+use Prim.Native.Nat.{ℕ, zero, suc}
+use lib.Dec.{eqb, ltb}
+use lib.ListN.{replicate}
+use Rattle.lists.specs.Fold.{any}
+use Rattle.meld.specs.Meld.{isOpen}
+use Rattle.context.specs.declared.GameContext.{GameContext}
+use Rattle.context.specs.Context.{inRange}
+use Rattle.hand.specs.Counts.{held}
+use Rattle.hand.specs.Reading.{Reading}
+use Rattle.wait.specs.Wait.{waits}
+use Rattle.tile_yaku.specs.declared.TileYaku.{TileYaku}
+use Rattle.tile_yaku.specs.Tiles.{tileYaku}
+use Rattle.checks.specs.declared.Calls.{Calls}
+use Rattle.checks.specs.Checks.{called, together, check, handCheck}
+use Rattle.unit.specs.Listing.{handReadings}
+use Rattle.records.specs.Pick.{pickAt}
+use Rattle.score.specs.declared.ScoringResult.{ScoringResult}
+use Rattle.score.specs.Score.{scoreOf}
+use Rattle.choice.specs.declared.ScoreAnswer.{ScoreAnswer}
+use Rattle.choice.specs.Choice.{refused, choice, numbered}
+use Rattle.win.specs.declared.WaitsAnswer.{WaitsAnswer}
+
+-- the hand is open if some call was made from another player
+abbrev pub isOpened : Calls → Bool
+isOpened k = any isOpen (called k)
+
+-- what all tiles together are, calls included
+abbrev pub tilesTogether : List ℕ → Calls → GameContext → TileYaku
+tilesTogether cs k w = tileYaku (together cs (called k)) (w .«winning_tile»)
+
+-- ---- the checks: 1 to 6; 8 the win type or a wind is out of range; 9 the winning tile is above 33 or not in the hand
+-- the first of two numbers, or the second where the first is 0
+unfoldable pub orThen : ℕ → ℕ → ℕ
+orThen zero m = m
+orThen (suc n) m = suc n
+
+abbrev pub inHand : List ℕ → ℕ → Bool
+inHand cs t = ltb t 34 && ltb 0 (held cs t)
+
+unfoldable pub winCheck : List ℕ → Calls → GameContext → ℕ
+winCheck cs k w = orThen (handCheck cs k) (check (inRange w) 8 (check (inHand cs (w .«winning_tile»)) 9 0))
+
+-- ---- the score of a reading of the win, and the scores of all readings in their order
+unfoldable pub scoreIn : List ℕ → Calls → GameContext → Reading → ScoringResult
+scoreIn cs k w r = scoreOf w (isOpened k) (tilesTogether cs k w) r
+
+unfoldable pub scores : List ℕ → Calls → GameContext → List ScoringResult
+scores cs k w = map (scoreIn cs k w) (handReadings cs k)
+
+-- ---- scoring a win: a check's number, 10, 11, or the chosen reading
+unfoldable pub scoreWin : List ℕ → Calls → GameContext → ScoreAnswer
+scoreWin cs k w = cond (eqb (winCheck cs k w) 0) (choice (scores cs k w)) (refused (winCheck cs k w))
+
+-- ---- scoring reading number n: a check's number, 12, or the reading
+unfoldable pub scoreReading : List ℕ → Calls → GameContext → ℕ → ScoreAnswer
+scoreReading cs k w n = cond (eqb (winCheck cs k w) 0) (numbered (scores cs k w) n) (refused (winCheck cs k w))
+
+-- ---- naming the waits of reading number n, a tally for each
+abbrev pub refusedWaits : ℕ → WaitsAnswer
+refusedWaits m = record { number = m; waits = replicate 6 0 }
+
+abbrev pub namedWaits : List ℕ → WaitsAnswer
+namedWaits ws = record { number = 0; waits = ws }
+
+unfoldable pub nameWaits : List ℕ → Calls → GameContext → ℕ → WaitsAnswer
+nameWaits cs k w n =
+    cond (eqb (winCheck cs k w) 0)
+    (pickAt (refusedWaits 12) (λ r. namedWaits (waits (w .«winning_tile») r)) (handReadings cs k) n)
+    (refusedWaits (winCheck cs k w))

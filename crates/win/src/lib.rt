@@ -1,0 +1,140 @@
+// Scoring a win, scoring a reading by its number, and naming its waits. Each operation has no `requires`, and its `ensures` says for every
+// input what is answered.
+ghost use mathlib.Core.Path.{_≡_};
+ghost use mathlib.Core.Bool.{_&&_};
+ghost use Prim.Native.Nat.{_≤_};
+ghost use lib.ListN.{length};
+ghost use Rattle.lists.specs.Fold.{any};
+ghost use Rattle.meld.specs.Meld.{isOpen};
+ghost use Rattle.checks.specs.Checks.{called, handCheck};
+ghost use Rattle.win.specs.Win.{isOpened, tilesTogether, inHand, winCheck, scoreWin, scoreReading, refusedWaits, namedWaits, nameWaits};
+
+// The answer to naming waits: number 0 and a tally for each wait, Ryanmen, Kanchan, Penchan, Shanpon, Tanki, Kokushi13; or a refusal's number alone.
+pub struct WaitsAnswer {
+    pub number: u8,
+    pub waits: [u8; 6],
+}
+
+// Is the call there, and open?
+fn is_open_call(m: meld::Meld, there: bool) -> bool
+    ensures { λ r. ⌜ r ≡ (there && isOpen m) ⌝ }
+{
+    there & m.is_open()
+}
+
+// Is some call made from another player?
+fn is_opened(k: checks::Calls) -> bool
+    requires { ⌜ k .count ≤ 4 ⌝ }
+    ensures { λ r. ⌜ r ≡ isOpened k ⌝ }
+{
+    let melds = k.melds;
+    let count = k.count;
+    is_open_call(melds[0], 0 < count)
+        | (is_open_call(melds[1], 1 < count)
+            | (is_open_call(melds[2], 2 < count) | is_open_call(melds[3], 3 < count)))
+}
+
+// Is the tile in the hand?
+fn in_hand(counts: &[u8], t: u8) -> bool
+    requires { ⌜ length (now counts) ≡ 34 ⌝ }
+    ensures { λ r. ⌜ r ≡ inHand (now (counts .entry)) t ⌝ }
+{
+    if 34 <= t {
+        return false;
+    }
+    0 < counts[t as usize]
+}
+
+// The number of the first check that fails, or 0.
+fn check_win(counts: &[u8], k: checks::Calls, w: context::GameContext) -> u8
+    ensures { λ r. ⌜ r ≡ winCheck (now (counts .entry)) k w ⌝ }
+{
+    let number = checks::check_hand(counts, k);
+    if number != 0 {
+        return number;
+    }
+    if !w.is_in_range() {
+        return 8;
+    }
+    if !in_hand(counts, w.winning_tile) {
+        return 9;
+    }
+    0
+}
+
+// What all tiles together are, of a hand that has passed the checks.
+fn tiles_together(counts: &[u8], k: checks::Calls, w: context::GameContext) -> tile_yaku::TileYaku
+    requires { ⌜ handCheck (now counts) k ≡ 0 ⌝ }
+    ensures { λ r. ⌜ r ≡ tilesTogether (now (counts .entry)) k w ⌝ }
+{
+    let all = checks::with_calls(counts, k);
+    tile_yaku::tile_yaku(&all, w.winning_tile)
+}
+
+// Scores a win: the reading with a yaku that pays most.
+pub fn score_win(counts: &[u8], k: checks::Calls, w: context::GameContext) -> choice::ScoreAnswer
+    ensures { λ r. ⌜ r ≡ scoreWin (now (counts .entry)) k w ⌝ }
+{
+    let number = check_win(counts, k, w);
+    if number != 0 {
+        return choice::refused(number);
+    }
+    let mut buffer = [0u8; 1467];
+    let n = unit::write_all(counts, k, &mut buffer);
+    choice::choose(&buffer, n, tiles_together(counts, k, w), w, is_opened(k))
+}
+
+// Scores reading number n, counted from 0.
+pub fn score_reading(
+    counts: &[u8],
+    k: checks::Calls,
+    w: context::GameContext,
+    n: usize,
+) -> choice::ScoreAnswer
+    ensures { λ r. ⌜ r ≡ scoreReading (now (counts .entry)) k w n ⌝ }
+{
+    let number = check_win(counts, k, w);
+    if number != 0 {
+        return choice::refused(number);
+    }
+    let mut buffer = [0u8; 1467];
+    let readings = unit::write_all(counts, k, &mut buffer);
+    if readings <= n {
+        return choice::refused(12);
+    }
+    let h = records::reading_at(&buffer, records::place_of(&buffer, n));
+    choice::scored(
+        n,
+        score::calculate_score(h, tiles_together(counts, k, w), w, is_opened(k)),
+    )
+}
+
+// A refusal to name waits.
+fn refused_waits(number: u8) -> WaitsAnswer
+    ensures { λ r. ⌜ r ≡ refusedWaits number ⌝ }
+{
+    WaitsAnswer {
+        number: number,
+        waits: [0, 0, 0, 0, 0, 0],
+    }
+}
+
+// Names the waits of reading number n, counted from 0.
+pub fn name_waits(counts: &[u8], k: checks::Calls, w: context::GameContext, n: usize) -> WaitsAnswer
+    ensures { λ r. ⌜ r ≡ nameWaits (now (counts .entry)) k w n ⌝ }
+{
+    let number = check_win(counts, k, w);
+    if number != 0 {
+        return refused_waits(number);
+    }
+    let mut buffer = [0u8; 1467];
+    let count = unit::write_all(counts, k, &mut buffer);
+    if count <= n {
+        return refused_waits(12);
+    }
+    let reading = records::reading_at(&buffer, records::place_of(&buffer, n));
+    WaitsAnswer {
+        number: 0,
+        waits: wait::detect_wait_types(reading, tile::Tile(w.winning_tile)),
+    }
+}
