@@ -7,9 +7,9 @@ use native.Mathlib.Omega.{arith}
 use Rattle.lists.proofs.Members.{length-perm}
 use Rattle.scoring.specs.Level.{level, basicPoints}
 use Rattle.scoring.specs.Payment.{payment}
-use Rattle.score.specs.declared.ScoringResult.{ScoringResult}
-use Rattle.score.specs.Score.{rank}
-use Rattle.score.proofs.Ranks.{Small, Priced, rank-same}
+use Rattle.reading_score.specs.declared.ScoringResult.{ScoringResult}
+use Rattle.reading_score.specs.Score.{rank}
+use Rattle.reading_score.proofs.Ranks.{Small, Priced, rank-same}
 use Rattle.choice.specs.Choice.{refused, scored, chooseBy, answerOf, choice}
 use Rattle.choice.proofs.Choosing.{greatest-perm, ChosenOrNone, none-there, one-there, chosen-or-none}
 use Rattle.agreement.specs.Agreement.{SameAnswer}

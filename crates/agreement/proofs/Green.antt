@@ -24,7 +24,7 @@ use Rattle.renamed.specs.Renamed.{renCounts}
 use Rattle.checks.specs.declared.Calls.{Calls}
 use Rattle.checks.specs.Checks.{check, handCheck}
 use Rattle.unit.specs.Listing.{handReadings}
-use Rattle.score.specs.Score.{result, scoreOf, rank}
+use Rattle.reading_score.specs.Score.{result, scoreOf, rank}
 use Rattle.choice.specs.Choice.{chooseBy, choice}
 use Rattle.win.specs.Win.{orThen, winCheck, scoreIn, scores, scoreWin}
 use Rattle.agreement.specs.Agreement.{renCalls, NotGreen}

@@ -27,8 +27,8 @@ use Rattle.renamed_scores.proofs.Score.{score-alike}
 use Rattle.checks.specs.declared.Calls.{Calls}
 use Rattle.checks.specs.Checks.{called, together}
 use Rattle.unit.specs.Listing.{handReadings}
-use Rattle.score.specs.declared.ScoringResult.{ScoringResult}
-use Rattle.score.specs.Score.{result, scoreOf, hasYaku, rank}
+use Rattle.reading_score.specs.declared.ScoringResult.{ScoringResult}
+use Rattle.reading_score.specs.Score.{result, scoreOf, hasYaku, rank}
 use Rattle.choice.specs.Choice.{scored}
 use Rattle.win.specs.Win.{isOpened, tilesTogether, scoreIn, scores}
 use Rattle.agreement.specs.Agreement.{NotGreen, SameAnswer, renCalls}

@@ -22,8 +22,8 @@ use Rattle.checks.specs.Checks.{called, handCheck}
 use Rattle.unit.specs.Listing.{handReadings}
 use Rattle.unit.proofs.Listed.{melds-called}
 use Rattle.promises.proofs.Listing.{admitted}
-use Rattle.score.specs.declared.ScoringResult.{ScoringResult}
-use Rattle.score.proofs.Ranks.{score-small, score-priced}
+use Rattle.reading_score.specs.declared.ScoringResult.{ScoringResult}
+use Rattle.reading_score.proofs.Ranks.{score-small, score-priced}
 use Rattle.win.specs.Win.{isOpened, tilesTogether, scoreIn, scores}
 use Rattle.agreement.proofs.Chosen.{Valued}
 

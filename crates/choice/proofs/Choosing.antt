@@ -9,7 +9,7 @@ use native.Mathlib.Decide.{decLe}
 use native.Mathlib.Nat.{add-zero}
 use lib.Dec.{eqb, eqb·suc-zero}
 use borrow.Author.Tests.{eqb-true, eqb-false}
-use Rattle.score.specs.declared.ScoringResult.{ScoringResult}
+use Rattle.reading_score.specs.declared.ScoringResult.{ScoringResult}
 use Rattle.choice.specs.Choice.{greatest, Choice, none, chosen, first, chooseBy}
 use Rattle.choice.specs.Standing.{StandsAt}
 use Rattle.choice.proofs.Standing.{stands-mem}

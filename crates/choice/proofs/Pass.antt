@@ -10,8 +10,8 @@ use lib.Dec.{eqb, ltb, eqb·suc-zero}
 use borrow.Author.Tests.{eq-eqb, ne-eqb, lt-ltb, le-ltb}
 use Rattle.hand.specs.Reading.{Reading}
 use Rattle.records.specs.Buffer.{byteAt, readingAt, readingsIn}
-use Rattle.score.specs.declared.ScoringResult.{ScoringResult}
-use Rattle.score.specs.Score.{rank}
+use Rattle.reading_score.specs.declared.ScoringResult.{ScoringResult}
+use Rattle.reading_score.specs.Score.{rank}
 use Rattle.choice.specs.declared.ScoreAnswer.{ScoreAnswer}
 use Rattle.choice.specs.Choice.{refused, scored, greatest, none, chosen, first, chooseBy, answerOf, choice}
 

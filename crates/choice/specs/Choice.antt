@@ -7,8 +7,8 @@ use lib.ListN.{replicate}
 use Rattle.scoring.specs.declared.ScoreLevel.the-variants.{Normal}
 use Rattle.scoring.specs.declared.Payment.the-variants.{Ron}
 use Rattle.records.specs.Pick.{pickAt}
-use Rattle.score.specs.declared.ScoringResult.{ScoringResult}
-use Rattle.score.specs.Score.{rank}
+use Rattle.reading_score.specs.declared.ScoringResult.{ScoringResult}
+use Rattle.reading_score.specs.Score.{rank}
 use Rattle.choice.specs.declared.ScoreAnswer.{ScoreAnswer}
 
 -- ---- what is answered: a number alone, or the number of a reading, counted from 0, and its score

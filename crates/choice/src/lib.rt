@@ -3,14 +3,14 @@ ghost use mathlib.Core.Path.{_≡_};
 ghost use mathlib.Core.List.{map};
 ghost use Prim.Native.Nat.{_≤_};
 ghost use Rattle.records.specs.Buffer.{readingsIn};
-ghost use Rattle.score.specs.Score.{scoreOf};
+ghost use Rattle.reading_score.specs.Score.{scoreOf};
 ghost use Rattle.choice.specs.Choice.{refused, scored, choice};
 
 // The answer to a scored win or reading: number 0, the number of the reading and its score; or a refusal's number alone.
 pub struct ScoreAnswer {
     pub number: u8,
     pub reading: usize,
-    pub score: score::ScoringResult,
+    pub score: reading_score::ScoringResult,
 }
 
 // A refusal.
@@ -20,7 +20,7 @@ pub fn refused(number: u8) -> ScoreAnswer
     ScoreAnswer {
         number: number,
         reading: 0,
-        score: score::ScoringResult {
+        score: reading_score::ScoringResult {
             tallies: [0; 47],
             han: 0,
             fu: 0,
@@ -33,7 +33,7 @@ pub fn refused(number: u8) -> ScoreAnswer
 }
 
 // A scored reading.
-pub fn scored(reading: usize, x: score::ScoringResult) -> ScoreAnswer
+pub fn scored(reading: usize, x: reading_score::ScoringResult) -> ScoreAnswer
     ensures { λ r. ⌜ r ≡ scored reading x ⌝ }
 {
     ScoreAnswer {
@@ -62,8 +62,8 @@ pub fn choose(
     let mut at = 0;
     let mut i = 0;
     while i < n {
-        let x = score::calculate_score(records::reading_at(b, at), s, w, opened);
-        let rank = score::rank(x);
+        let x = reading_score::calculate_score(records::reading_at(b, at), s, w, opened);
+        let rank = reading_score::rank(x);
         if best < rank {
             best = rank;
             found = scored(i, x);

@@ -13,8 +13,8 @@ use Rattle.checks.specs.declared.Calls.{Calls}
 use Rattle.unit.specs.Listing.{handReadings}
 use Rattle.records.specs.Buffer.{readingAt, readingsIn, placeOf}
 use Rattle.records.specs.Pick.{pickAt}
-use Rattle.score.specs.declared.ScoringResult.{ScoringResult}
-use Rattle.score.specs.Score.{scoreOf}
+use Rattle.reading_score.specs.declared.ScoringResult.{ScoringResult}
+use Rattle.reading_score.specs.Score.{scoreOf}
 use Rattle.choice.specs.declared.ScoreAnswer.{ScoreAnswer}
 use Rattle.choice.specs.Choice.{refused, scored, choice, numbered}
 use Rattle.win.specs.Win.{isOpened, tilesTogether, winCheck, scoreIn, scores, scoreWin, scoreReading, refusedWaits, namedWaits, nameWaits}

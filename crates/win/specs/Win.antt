@@ -18,8 +18,8 @@ use Rattle.checks.specs.declared.Calls.{Calls}
 use Rattle.checks.specs.Checks.{called, together, check, handCheck}
 use Rattle.unit.specs.Listing.{handReadings}
 use Rattle.records.specs.Pick.{pickAt}
-use Rattle.score.specs.declared.ScoringResult.{ScoringResult}
-use Rattle.score.specs.Score.{scoreOf}
+use Rattle.reading_score.specs.declared.ScoringResult.{ScoringResult}
+use Rattle.reading_score.specs.Score.{scoreOf}
 use Rattle.choice.specs.declared.ScoreAnswer.{ScoreAnswer}
 use Rattle.choice.specs.Choice.{refused, choice, numbered}
 use Rattle.win.specs.declared.WaitsAnswer.{WaitsAnswer}

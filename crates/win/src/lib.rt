@@ -105,7 +105,7 @@ pub fn score_reading(
     let h = records::reading_at(&buffer, records::place_of(&buffer, n));
     choice::scored(
         n,
-        score::calculate_score(h, tiles_together(counts, k, w), w, is_opened(k)),
+        reading_score::calculate_score(h, tiles_together(counts, k, w), w, is_opened(k)),
     )
 }
 

@@ -6,7 +6,7 @@ use Prim.Native.Nat.{_-_, _*_, _≤_}
 use native.Mathlib.Omega.{arith}
 use borrow.Author.Needs.{needs}
 use Rattle.hand.specs.Reading.{Reading}
-use Rattle.score.specs.Score.{scoreOf}
+use Rattle.reading_score.specs.Score.{scoreOf}
 use Rattle.choice.specs.Choice.{refused}
 use Rattle.choice.proofs.Pass.{Rest, turn-take, turn-skip, rest-end, rest-all, choice-none, choice-some}
 use Rattle.choice.proofs.choose.Statement.{statement}

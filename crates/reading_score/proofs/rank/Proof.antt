@@ -4,13 +4,13 @@ use mathlib.Core.Logic.{⊎-elim}
 use Prim.Native.Nat.{_*_, _≤_}
 use native.Mathlib.Omega.{arith}
 use Rattle.lists.specs.Fold.{one}
-use Rattle.score.proofs.Fits.{total-fits, rank-none, rank-some}
+use Rattle.reading_score.proofs.Fits.{total-fits, rank-none, rank-some}
 use borrow.Author.Needs.{needs}
-use Rattle.score.proofs.rank.Statement.{statement}
-use Rattle.score.proofs.rank.Tie as tie
-use Rattle.score.proofs.rank.Reads as reads
-use Rattle.score.proofs.rank.Lts as lts
-use Rattle.score.proofs.has_yaku.Reads as has-yaku-reads
+use Rattle.reading_score.proofs.rank.Statement.{statement}
+use Rattle.reading_score.proofs.rank.Tie as tie
+use Rattle.reading_score.proofs.rank.Reads as reads
+use Rattle.reading_score.proofs.rank.Lts as lts
+use Rattle.reading_score.proofs.has_yaku.Reads as has-yaku-reads
 use Rattle.scoring.proofs.Payment.total.Reads as total-reads
 
 has-yaku-requires : tie.Need-has-yaku-requires

@@ -8,8 +8,8 @@ use Rattle.lists.specs.Fold.{any}
 use Rattle.yaku.proofs.Loops.{any-turn, any-end}
 use Rattle.yaku.proofs.Found.{there}
 use borrow.Author.Needs.{needs}
-use Rattle.score.proofs.has_yaku.Statement.{statement}
-use Rattle.score.proofs.has_yaku.Tie as tie
+use Rattle.reading_score.proofs.has_yaku.Statement.{statement}
+use Rattle.reading_score.proofs.has_yaku.Tie as tie
 
 abbrev Inv-loop : tie.InvT-loop
 Inv-loop tallies found₀ i₀ found i = (i ≤ 47) × ((found || any there (drop i tallies)) ≡ any there tallies)

@@ -19,8 +19,8 @@ use Rattle.yaku.proofs.Laws.{Short, han-small}
 use Rattle.scoring.specs.Level.{level, basicPoints}
 use Rattle.scoring.specs.Payment.{payment, totalAt}
 use Rattle.scoring.proofs.Laws as scoring
-use Rattle.score.specs.declared.ScoringResult.{ScoringResult}
-use Rattle.score.specs.Score.{result, scoreOf, hasYaku, rank}
+use Rattle.reading_score.specs.declared.ScoringResult.{ScoringResult}
+use Rattle.reading_score.specs.Score.{result, scoreOf, hasYaku, rank}
 
 -- han and fu are bytes
 pub record Small (x : ScoringResult) : Type 0 where

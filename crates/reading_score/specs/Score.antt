@@ -14,7 +14,7 @@ use Rattle.yaku.specs.Han.{han}
 use Rattle.scoring.specs.Fu.{fu}
 use Rattle.scoring.specs.Level.{level, basicPoints}
 use Rattle.scoring.specs.Payment.{payment, totalAt}
-use Rattle.score.specs.declared.ScoringResult.{ScoringResult}
+use Rattle.reading_score.specs.declared.ScoringResult.{ScoringResult}
 
 -- what yaku, han and fu come to
 unfoldable pub result : GameContext → List ℕ → ℕ → ℕ → Bool → ScoringResult

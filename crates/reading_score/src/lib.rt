@@ -4,7 +4,7 @@ ghost use mathlib.Core.Bool.{not};
 ghost use lib.Dec.{eqb};
 ghost use Rattle.lists.specs.Fold.{any};
 ghost use Rattle.structure.specs.Structure.{readingOf};
-ghost use Rattle.score.specs.Score.{scoreOf, rank};
+ghost use Rattle.reading_score.specs.Score.{scoreOf, rank};
 
 // All that is answered of a reading.
 pub struct ScoringResult {

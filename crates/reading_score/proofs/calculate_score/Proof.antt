@@ -2,10 +2,10 @@
 -- Assumes nothing.
 use Prim.Native.Nat.{_≤_}
 use Rattle.scoring.proofs.Laws.{basic-le}
-use Rattle.score.specs.Score.{result, scoreOf}
+use Rattle.reading_score.specs.Score.{result, scoreOf}
 use borrow.Author.Needs.{needs}
-use Rattle.score.proofs.calculate_score.Statement.{statement}
-use Rattle.score.proofs.calculate_score.Tie as tie
+use Rattle.reading_score.proofs.calculate_score.Statement.{statement}
+use Rattle.reading_score.proofs.calculate_score.Tie as tie
 
 detect-yaku-with-context-requires : tie.Need-detect-yaku-with-context-requires
 detect-yaku-with-context-requires c κs = search needs

@@ -16,8 +16,8 @@ use Rattle.scoring.specs.declared.Payment.the-variants.{Ron, DealerTsumo, Tsumo
 use Rattle.scoring.specs.Payment.{totalAt}
 use Rattle.scoring.proofs.Payment as P
 use Rattle.scoring.proofs.Payment.Laws as L
-use Rattle.score.specs.declared.ScoringResult.{ScoringResult}
-use Rattle.score.specs.Score.{hasYaku, rank}
+use Rattle.reading_score.specs.declared.ScoringResult.{ScoringResult}
+use Rattle.reading_score.specs.Score.{hasYaku, rank}
 
 -- three payers at most
 pub total-fits : (p : Payment) (vs : List Val) → Is P.the-row p vs → totalAt 4 p ≤ 3 * 4294967295
