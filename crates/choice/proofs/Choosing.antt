@@ -1,7 +1,7 @@
 -- The choice among scores by a rank f: it is one of the scores, none has a greater rank, none before it has an equal one. Assumes nothing.
 use mathlib.Core.Path.{_≡_, refl, sym, ap, ap₂, subst, _∙_}
-use mathlib.Core.Logic.{_⊎_, inl, inr, ⊎-elim}
-use mathlib.Core.Bool.{Bool, true, false, cond}
+use mathlib.Core.Logic.{_⊎_, inl, inr}
+use mathlib.Core.Bool.{Bool, true, false}
 use mathlib.Core.List.{List, [], _∷_, map, List·Memᴰ, List·Memᴰ·head, List·Memᴰ·tail, List·Memᴰ·not-nil, List·Memᴰ·cases-cons, List·Permᴰ, List·Permᴰ·nil, List·Permᴰ·cons, List·Permᴰ·swap, List·Permᴰ·trans}
 use Prim.Native.Nat.{ℕ, zero, suc, _+_, _<_, _≤_, max}
 use native.Mathlib.Omega.{arith}
@@ -10,7 +10,7 @@ use native.Mathlib.Nat.{add-zero}
 use lib.Dec.{eqb, eqb·suc-zero}
 use borrow.Author.Tests.{eqb-true, eqb-false}
 use Rattle.reading_score.specs.declared.ScoringResult.{ScoringResult}
-use Rattle.choice.specs.Choice.{greatest, Choice, none, chosen, first, chooseBy}
+use Rattle.choice.specs.Choice.{greatest, none, chosen, first, chooseBy}
 use Rattle.choice.specs.Standing.{StandsAt}
 use Rattle.choice.proofs.Standing.{stands-mem}
 

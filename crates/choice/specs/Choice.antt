@@ -1,5 +1,5 @@
 -- The choice among scored readings, and the score of the reading with a number. These are definitions.
-use mathlib.Core.Bool.{Bool, false, cond}
+use mathlib.Core.Bool.{false, cond}
 use mathlib.Core.List.{List, [], _∷_, map}
 use Prim.Native.Nat.{ℕ, suc, max}
 use lib.Dec.{eqb}

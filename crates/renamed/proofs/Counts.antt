@@ -37,16 +37,17 @@ tiles-test = tt
 tile-at : (t : ℕ) → t < 34 → getD tiles t 0 ≡ t
 tile-at t h = eqb→eq (getD tiles t 0) t (at 34 (λ t. eqb (getD tiles t 0) t) tiles-test t h)
 
+-- what stands at a tile in a list of a number for each tile
+pub at-tile : (f : ℕ → ℕ) (t : ℕ) → t < 34 → getD (map f tiles) t 0 ≡ f t
+at-tile f t h = at-map f tiles t h ∙ ap f (tile-at t h)
+
 -- how many of the tile t hand and calls hold together
 abbrev pub withCalls : List ℕ → List Meld → ℕ → ℕ
 withCalls cs k t = held cs t + sum (λ m. uses m t) k
 
 module _ (ρ : Renaming) (cs : List ℕ) where
   pub held-renamed : (t : ℕ) → t < 34 → held (renCounts ρ cs) (ren ρ t) ≡ held cs t
-  held-renamed t h =
-      at-map (λ t. held cs (ren (back ρ) t)) tiles (ren ρ t) (ren-lt ρ t h)
-      ∙ ap (λ (u : ℕ). held cs (ren (back ρ) u)) (tile-at (ren ρ t) (ren-lt ρ t h))
-      ∙ ap (held cs) (back-ren ρ t h)
+  held-renamed t h = at-tile (λ t. held cs (ren (back ρ) t)) (ren ρ t) (ren-lt ρ t h) ∙ ap (held cs) (back-ren ρ t h)
 
   pub counts-length : length (renCounts ρ cs) ≡ 34
   counts-length = refl

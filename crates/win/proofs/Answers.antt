@@ -1,6 +1,6 @@
 -- The answers of the three operations, by the ways they end. Assumes nothing.
-use mathlib.Core.Path.{_≡_, refl, sym, ap, _∙_}
-use mathlib.Core.Bool.{Bool, true, false, cond}
+use mathlib.Core.Path.{_≡_, refl, sym, _∙_}
+use mathlib.Core.Bool.{Bool, true, false}
 use mathlib.Core.List.{List, [], _∷_, map}
 use Prim.Native.Nat.{ℕ, zero, suc, _≤_, _<_}
 use lib.Dec.{eqb}
@@ -13,7 +13,6 @@ use Rattle.checks.specs.declared.Calls.{Calls}
 use Rattle.unit.specs.Listing.{handReadings}
 use Rattle.records.specs.Buffer.{readingAt, readingsIn, placeOf}
 use Rattle.records.specs.Pick.{pickAt}
-use Rattle.reading_score.specs.declared.ScoringResult.{ScoringResult}
 use Rattle.reading_score.specs.Score.{scoreOf}
 use Rattle.choice.specs.declared.ScoreAnswer.{ScoreAnswer}
 use Rattle.choice.specs.Choice.{refused, scored, choice, numbered}
@@ -50,10 +49,10 @@ module _ (cs : List ℕ) (k : Calls) (w : GameContext) where
 
     -- the choice among all readings; s is what all tiles together are
     pub win-chosen :
-        (s : TileYaku) (opened : Bool) → s ≡ tilesTogether cs k w → opened ≡ isOpened k
-        → choice (map (scoreOf w opened s) (readingsIn b m 0)) ≡ scoreWin cs k w
+        (s : TileYaku) (opened : Bool) → s ≡ tilesTogether cs k w → opened ≡ isOpened k → (a : ScoreAnswer)
+        → a ≡ choice (map (scoreOf w opened s) (readingsIn b m 0)) → a ≡ scoreWin cs k w
     unfolding scoreWin scores scoreIn
-    win-chosen s opened e f = sym (rw (ok, e, f, holds))
+    win-chosen s opened e f a is = is ∙ sym (rw (ok, e, f, holds))
 
     -- reading number n, or none
     by-number : (n : ℕ) → scoreReading cs k w n ≡ pickAt (refused 12) (λ r. scored n (scoreIn cs k w r)) (handReadings cs k) n

@@ -1,6 +1,6 @@
 -- The checks of a win, by the ways they end: refused by one of the six of the hand, with 8, with 9, or passed. Assumes nothing.
-use mathlib.Core.Path.{_≡_, refl, sym, ap, _∙_}
-use mathlib.Core.Bool.{Bool, true, false}
+use mathlib.Core.Path.{_≡_, refl, sym, _∙_}
+use mathlib.Core.Bool.{true, false}
 use mathlib.Core.List.{List}
 use Prim.Native.Nat.{ℕ, zero, suc}
 use native.Mathlib.Omega.{arith}
@@ -8,7 +8,7 @@ use lib.Dec.{T}
 use Rattle.context.specs.declared.GameContext.{GameContext}
 use Rattle.context.specs.Context.{inRange}
 use Rattle.checks.specs.declared.Calls.{Calls}
-use Rattle.checks.specs.Checks.{check, handCheck}
+use Rattle.checks.specs.Checks.{handCheck}
 use Rattle.checks.proofs.Checked.{pass, refuse, through}
 use Rattle.win.specs.Win.{orThen, inHand, winCheck}
 

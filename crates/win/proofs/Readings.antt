@@ -1,6 +1,6 @@
 -- The buffer that all records were written into holds all readings of the hand, in their order; and picking one of them by its number
 -- is reading the record at its place. Assumes nothing.
-use mathlib.Core.Path.{_≡_, sym, ap, _∙_}
+use mathlib.Core.Path.{_≡_, ap, _∙_}
 use mathlib.Core.List.{List, _++_}
 use Prim.Native.Nat.{ℕ, _+_, _≤_, _<_}
 use native.Mathlib.Omega.{arith}

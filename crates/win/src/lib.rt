@@ -4,10 +4,9 @@ ghost use mathlib.Core.Path.{_≡_};
 ghost use mathlib.Core.Bool.{_&&_};
 ghost use Prim.Native.Nat.{_≤_};
 ghost use lib.ListN.{length};
-ghost use Rattle.lists.specs.Fold.{any};
 ghost use Rattle.meld.specs.Meld.{isOpen};
-ghost use Rattle.checks.specs.Checks.{called, handCheck};
-ghost use Rattle.win.specs.Win.{isOpened, tilesTogether, inHand, winCheck, scoreWin, scoreReading, refusedWaits, namedWaits, nameWaits};
+ghost use Rattle.checks.specs.Checks.{handCheck};
+ghost use Rattle.win.specs.Win.{isOpened, tilesTogether, inHand, winCheck, scoreWin, scoreReading, refusedWaits, nameWaits};
 
 // The answer to naming waits: number 0 and a tally for each wait, Ryanmen, Kanchan, Penchan, Shanpon, Tanki, Kokushi13; or a refusal's number alone.
 pub struct WaitsAnswer {

@@ -1,11 +1,10 @@
 -- `choose` meets its contract. The loop's invariant: the pass over what is left, from the best so far, answers what the whole pass answers.
 -- Assumes nothing.
-use mathlib.Core.Path.{_≡_, refl, sym, ap, _∙_}
+use mathlib.Core.Path.{_≡_, sym, ap, _∙_}
 use mathlib.Core.Logic.{⊎-elim}
 use Prim.Native.Nat.{_-_, _*_, _≤_}
 use native.Mathlib.Omega.{arith}
 use borrow.Author.Needs.{needs}
-use Rattle.hand.specs.Reading.{Reading}
 use Rattle.reading_score.specs.Score.{scoreOf}
 use Rattle.choice.specs.Choice.{refused}
 use Rattle.choice.proofs.Pass.{Rest, turn-take, turn-skip, rest-end, rest-all, choice-none, choice-some}

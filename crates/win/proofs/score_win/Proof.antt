@@ -69,9 +69,8 @@ returns-2 c =
     let four = sym (length-map (k .melds) _) ∙ s .good .1 .0 .1 .1 .1 .0 .1 .0 .1 in
     let b = c .before .before .before .before .before .write-all in
     let holds = held-readings cs k four ok _ _ (b .result) (b .ensures .1 .1) (room cs k four ok) (b .ensures .0) in
-    c .choose .ensures
-    ∙ win-chosen cs k (s .args .w) passes _ (b .result) holds (c .before .before .tiles-together .result) (c .before .is-opened .result)
-    (c .before .before .tiles-together .ensures) (c .before .is-opened .ensures)
+    win-chosen cs k (s .args .w) passes _ (b .result) holds (c .before .before .tiles-together .result) (c .before .is-opened .result)
+    (c .before .before .tiles-together .ensures) (c .before .is-opened .ensures) (c .choose .result) (c .choose .ensures)
 
 pub score-win-spec : {M : Type 1} → statement M
 score-win-spec =

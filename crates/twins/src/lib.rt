@@ -1,0 +1,172 @@
+// Two tables at once: a win, and the same win renamed, each scored by the unit; and whether the two answers agree.
+ghost use mathlib.Core.Path.{_≡_};
+ghost use mathlib.Core.Bool.{true};
+ghost use Prim.Native.Nat.{_<_};
+ghost use Rattle.tile.specs.Renaming.{ren, suitsBack, back};
+ghost use Rattle.context.specs.Context.{renWin};
+ghost use Rattle.hand.specs.Counts.{held};
+ghost use Rattle.renamed.specs.Renamed.{renCounts};
+ghost use Rattle.win.specs.Win.{winCheck, scoreWin};
+ghost use Rattle.agreement.specs.Agreement.{renCalls, NotGreen};
+ghost use Rattle.twins.specs.Twins.{levelNumber, kindOf, firstAmount, secondAmount, agrees};
+
+// The suits that undo a change of suits.
+fn suits_back(s: tile::Suits) -> tile::Suits
+    ensures { λ r. ⌜ r ≡ suitsBack s ⌝ }
+{
+    match s {
+        tile::Suits::ManPinSou => tile::Suits::ManPinSou,
+        tile::Suits::ManSouPin => tile::Suits::ManSouPin,
+        tile::Suits::PinManSou => tile::Suits::PinManSou,
+        tile::Suits::PinSouMan => tile::Suits::SouManPin,
+        tile::Suits::SouManPin => tile::Suits::PinSouMan,
+        tile::Suits::SouPinMan => tile::Suits::SouPinMan,
+    }
+}
+
+// The renaming that undoes a renaming.
+fn back(by: tile::Renaming) -> tile::Renaming
+    ensures { λ r. ⌜ r ≡ back by ⌝ }
+{
+    let numbers = by.numbers;
+    let suits = numbers.suits;
+    let honors = by.honors;
+    tile::Renaming {
+        numbers: tile::Numbers {
+            suits: suits_back(suits),
+            mirror: numbers.mirror,
+        },
+        honors: honors,
+    }
+}
+
+// How many of the renamed tile there are, 0 past the counts.
+fn count_of(counts: &[u8], t: usize, by: tile::Renaming) -> u8
+    requires { ⌜ t < 34 ⌝ }
+    ensures { λ r. ⌜ r ≡ held (now (counts .entry)) (ren by t) ⌝ }
+{
+    let tile = tile::Tile((t % 256) as u8);
+    let to = tile.renamed(by);
+    let i = to.0 as usize;
+    if i < counts.len() {
+        return counts[i];
+    }
+    0
+}
+
+// The counts renamed: the count of a tile becomes the count of its renamed tile.
+pub fn renamed_counts(counts: &[u8], by: tile::Renaming) -> [u8; 34]
+    ensures { λ r. ⌜ r ≡ renCounts by (now (counts .entry)) ⌝ }
+{
+    let undo = back(by);
+    let mut renamed = [0u8; 34];
+    let mut t = 0;
+    while t < 34 {
+        renamed[t] = count_of(counts, t, undo);
+        t += 1;
+    }
+    renamed
+}
+
+// The calls renamed, in their order.
+pub fn renamed_calls(k: checks::Calls, by: tile::Renaming) -> checks::Calls
+    ensures { λ r. ⌜ r ≡ renCalls by k ⌝ }
+{
+    let melds = k.melds;
+    let a = melds[0];
+    let b = melds[1];
+    let c = melds[2];
+    let d = melds[3];
+    checks::Calls {
+        count: k.count,
+        melds: [a.renamed(by), b.renamed(by), c.renamed(by), d.renamed(by)],
+    }
+}
+
+// A level as a number, different for each.
+fn level_number(level: scoring::ScoreLevel) -> u16
+    ensures { λ r. ⌜ r ≡ levelNumber level ⌝ }
+{
+    match level {
+        scoring::ScoreLevel::Normal => 0,
+        scoring::ScoreLevel::Mangan => 1,
+        scoring::ScoreLevel::Haneman => 2,
+        scoring::ScoreLevel::Baiman => 3,
+        scoring::ScoreLevel::Sanbaiman => 4,
+        scoring::ScoreLevel::Yakuman(n) => 5 + (n as u16),
+    }
+}
+
+// Which kind of settlement it is: a ron, a dealer's tsumo, another's.
+fn kind_of(p: scoring::Payment) -> u8
+    ensures { λ r. ⌜ r ≡ kindOf p ⌝ }
+{
+    match p {
+        scoring::Payment::Ron { from_discarder: _ } => 0,
+        scoring::Payment::DealerTsumo { from_each: _ } => 1,
+        scoring::Payment::Tsumo {
+            from_dealer: _,
+            from_non_dealer: _,
+        } => 2,
+    }
+}
+
+// What the discarder, each player, or the dealer pays.
+fn first_amount(p: scoring::Payment) -> u32
+    ensures { λ r. ⌜ r ≡ firstAmount p ⌝ }
+{
+    match p {
+        scoring::Payment::Ron { from_discarder } => from_discarder,
+        scoring::Payment::DealerTsumo { from_each } => from_each,
+        scoring::Payment::Tsumo {
+            from_dealer,
+            from_non_dealer: _,
+        } => from_dealer,
+    }
+}
+
+// What each non-dealer pays beside the dealer, else 0.
+fn second_amount(p: scoring::Payment) -> u32
+    ensures { λ r. ⌜ r ≡ secondAmount p ⌝ }
+{
+    match p {
+        scoring::Payment::Ron { from_discarder: _ } => 0,
+        scoring::Payment::DealerTsumo { from_each: _ } => 0,
+        scoring::Payment::Tsumo {
+            from_dealer: _,
+            from_non_dealer,
+        } => from_non_dealer,
+    }
+}
+
+// Do two answers agree: the same number, han, fu, level, basic points and payments?
+fn same_answer(a: choice::ScoreAnswer, b: choice::ScoreAnswer) -> bool
+    ensures { λ r. ⌜ r ≡ agrees a b ⌝ }
+{
+    let x = a.score;
+    let y = b.score;
+    let xl = x.score_level;
+    let yl = y.score_level;
+    let xp = x.payment;
+    let yp = y.payment;
+    (a.number == b.number)
+        & ((x.han == y.han)
+            & ((x.fu == y.fu)
+                & ((level_number(xl) == level_number(yl))
+                    & ((x.basic_points == y.basic_points)
+                        & ((kind_of(xp) == kind_of(yp))
+                            & ((first_amount(xp) == first_amount(yp))
+                                & (second_amount(xp) == second_amount(yp))))))))
+}
+
+// Scores a win and the same win renamed, and says whether the two answers agree. Where the first passes the checks and neither hand is all
+// green, they do.
+pub fn agree(counts: &[u8], k: checks::Calls, w: context::GameContext, by: tile::Renaming) -> bool
+    ensures answer { λ r. ⌜ r ≡ agrees (scoreWin (renCounts by (now (counts .entry))) (renCalls by k) (renWin by w)) (scoreWin (now (counts .entry)) k w) ⌝ }
+    ensures agreement { λ r. ⌜ (winCheck (now (counts .entry)) k w ≡ 0 → NotGreen (now (counts .entry)) k → NotGreen (renCounts by (now (counts .entry))) (renCalls by k) → r ≡ true) ⌝ }
+{
+    let first = win::score_win(counts, k, w);
+    let renamed = renamed_counts(counts, by);
+    let second = win::score_win(&renamed, renamed_calls(k, by), w.renamed(by));
+    same_answer(second, first)
+}

@@ -1,0 +1,259 @@
+-- Scoring a win: what the answer is of a win that passes the checks. Assumes nothing.
+use mathlib.Core.Path.{_≡_, refl, sym, ap, subst, _∙_}
+use mathlib.Core.List.{List, [], _∷_, map, List·Memᴰ, List·Memᴰ·not-nil, Memᴰ·map}
+use Prim.Native.Nat.{ℕ, zero, suc, _<_, _≤_}
+use native.Mathlib.Omega.{arith}
+use lib.Dec.{T}
+use lib.ListN.{length, length-map}
+use borrow.Author.Tests.{eq-eqb}
+use Rattle.context.specs.declared.GameContext.{GameContext}
+use Rattle.hand.specs.Counts.{held}
+use Rattle.hand.specs.Reading.{Reading, pairs, orphans, standard}
+use Rattle.wait.specs.Wait.{waits}
+use Rattle.yaku.proofs.Laws.{Short}
+use Rattle.scoring.specs.Payment.{totalAt}
+use Rattle.checks.specs.declared.Calls.{Calls}
+use Rattle.checks.specs.Checks.{called}
+use Rattle.checks.proofs.Passed.{passed, called-length}
+use Rattle.unit.specs.Listing.{handReadings}
+use Rattle.unit.proofs.Listed.{melds-called}
+use Rattle.records.specs.Pick.{pickAt}
+use Rattle.records.proofs.Back.{Sized}
+use Rattle.records.proofs.Sized.{listed-sized}
+use Rattle.reading_score.specs.declared.ScoringResult.{ScoringResult}
+use Rattle.reading_score.specs.Score.{hasYaku, rank}
+use Rattle.reading_score.proofs.Ranks.{Small, Preferred, rank-yaku, yaku-rank, rank-total, rank-order, score-small}
+use Rattle.choice.specs.declared.ScoreAnswer.{ScoreAnswer}
+use Rattle.choice.specs.Choice.{refused, scored, choice, numbered}
+use Rattle.choice.specs.Standing.{StandsAt}
+use Rattle.choice.proofs.Standing.{stands-mem, stands-map, stands-of-map, stands-picked}
+use Rattle.win.specs.declared.WaitsAnswer.{WaitsAnswer}
+use Rattle.win.specs.Win.{winCheck, isOpened, tilesTogether, scoreIn, scores, scoreWin, scoreReading, refusedWaits, namedWaits, nameWaits}
+use Rattle.win.proofs.Checked.{win-passes}
+use Rattle.win_promises.proofs.Outcomes.{IsChosen, Outcome, without-score, without-yaku, with-score, outcome}
+
+-- ---- the readings of a hand have at most four melds, so han and fu of their scores are bytes
+short : (r : Reading) → Sized r → Short r
+short (pairs ps) h = tt
+short (orphans p) h = tt
+short (standard p ms) h = omega arith
+
+empty-map : {A B : Type 0} (f : A → B) (l : List A) → map f l ≡ [] → l ≡ []
+empty-map f [] e = refl
+empty-map f (a ∷ l) e = absurd (let z : _≡_ {A = ℕ} 0 1 = cc in omega arith)
+
+-- ---- picking by a number: past the end of the list, and only there, none is found
+module _ {A B : Type 0} (z : B) (f : A → B) where
+  pick-past : (l : List A) (n : ℕ) → length l ≤ n → pickAt z f l n ≡ z
+  pick-past [] n h = refl
+  pick-past (a ∷ l) zero h = absurd (omega arith)
+  pick-past (a ∷ l) (suc n) h = pick-past l n (omega arith)
+
+  past-end : (l : List A) (n : ℕ) → ((a : A) → pickAt z f l n ≡ f a → ⊥) → length l ≤ n
+  past-end [] n h = omega arith
+  past-end (a ∷ l) zero h = absurd (h a refl)
+  past-end (a ∷ l) (suc n) h = let m = past-end l n h in omega arith
+
+abbrev answer : ℕ → ℕ → ScoringResult → ScoreAnswer
+answer n i x = record { number = n; reading = i; score = x }
+
+-- ---- a win that passes the checks
+module _ (cs : List ℕ) (k : Calls) (w : GameContext) (passes : winCheck cs k w ≡ 0) where
+  by-choice : scoreWin cs k w ≡ choice (scores cs k w)
+  unfolding scoreWin
+  by-choice = rw (eq-eqb (winCheck cs k w) 0 passes)
+
+  -- the number answered, by what the choice answers
+  number-is : (a : ScoreAnswer) → choice (scores cs k w) ≡ a → scoreWin cs k w .number ≡ a .number
+  number-is a e = ap (λ (b : ScoreAnswer). b .number) (by-choice ∙ e)
+
+  -- a reading of the hand and its score
+  score-listed : (r : Reading) → List·Memᴰ r (handReadings cs k) → List·Memᴰ (scoreIn cs k w r) (scores cs k w)
+  unfolding scores
+  score-listed r i = Memᴰ·map (scoreIn cs k w) i
+
+  score-stands : (r : Reading) (j : ℕ) → StandsAt r j (handReadings cs k) → StandsAt (scoreIn cs k w r) j (scores cs k w)
+  unfolding scores
+  score-stands r j s = stands-map (scoreIn cs k w) r j (handReadings cs k) s
+
+  reading-of : (x : ScoringResult) (i : ℕ) → StandsAt x i (scores cs k w) → (r : Reading) × StandsAt r i (handReadings cs k) × (x ≡ scoreIn cs k w r)
+  unfolding scores
+  reading-of x i s = stands-of-map (scoreIn cs k w) x i (handReadings cs k) s
+
+  no-scores : handReadings cs k ≡ [] → scores cs k w ≡ []
+  unfolding scores
+  no-scores e = rw e
+
+  no-readings : scores cs k w ≡ [] → handReadings cs k ≡ []
+  unfolding scores
+  no-readings e = empty-map (scoreIn cs k w) (handReadings cs k) e
+
+  -- ---- 10 exactly where there is no reading
+  pub no-reading : handReadings cs k ≡ [] → scoreWin cs k w .number ≡ 10
+  no-reading e = go (outcome (scores cs k w))
+    where
+      go : Outcome (scores cs k w) → scoreWin cs k w .number ≡ 10
+      go (without-score f a) = number-is (refused 10) a
+      go (without-yaku f g a) = absurd (f (no-scores e))
+      go (with-score i x c a) = absurd (subst (λ (l : List ScoringResult). StandsAt x i l) (no-scores e) (c .stands))
+
+  pub ten-no-reading : scoreWin cs k w .number ≡ 10 → handReadings cs k ≡ []
+  ten-no-reading n = go (outcome (scores cs k w))
+    where
+      go : Outcome (scores cs k w) → handReadings cs k ≡ []
+      go (without-score f a) = no-readings f
+      go (without-yaku f g a) = absurd (let e = number-is (refused 11) a in omega arith)
+      go (with-score i x c a) = absurd (let e = number-is (scored i x) a in omega arith)
+
+  -- ---- 11 exactly where there is a reading and none has a yaku
+  pub record NoYaku : Type 0 where
+    pub some : handReadings cs k ≡ [] → ⊥
+    pub none : (r : Reading) → List·Memᴰ r (handReadings cs k) → T (hasYaku (scoreIn cs k w r)) → ⊥
+
+  pub no-yaku : NoYaku → scoreWin cs k w .number ≡ 11
+  no-yaku h = go (outcome (scores cs k w))
+    where
+      yaku : (x : ScoringResult) (r : Reading) → x ≡ scoreIn cs k w r → 0 < rank x → T (hasYaku (scoreIn cs k w r))
+      yaku x r e p = subst (λ (y : ScoringResult). T (hasYaku y)) e (rank-yaku x p)
+
+      go : Outcome (scores cs k w) → scoreWin cs k w .number ≡ 11
+      go (without-score f a) = absurd (h .some (no-readings f))
+      go (without-yaku f g a) = number-is (refused 11) a
+      go (with-score i x c a) =
+          let r = reading-of x i (c .stands) in
+          absurd (h .none (r .0) (stands-mem (r .0) i (handReadings cs k) (r .1)) (yaku x (r .0) (r .2) (c .some)))
+
+  pub eleven-no-yaku : scoreWin cs k w .number ≡ 11 → NoYaku
+  eleven-no-yaku n = go (outcome (scores cs k w))
+    where
+      go : Outcome (scores cs k w) → NoYaku
+      go (without-score f a) = absurd (let e = number-is (refused 10) a in omega arith)
+      go (without-yaku f g a) =
+          record {
+            some = λ e. f (no-scores e);
+            none = λ r i t. let p = yaku-rank (scoreIn cs k w r) t in let q = g (scoreIn cs k w r) (score-listed r i) in omega arith;
+          }
+      go (with-score i x c a) = absurd (let e = number-is (scored i x) a in omega arith)
+
+  -- ---- 0: a reading is chosen
+  -- where some reading has a yaku, the win is scored
+  pub yaku-scored : (r : Reading) → List·Memᴰ r (handReadings cs k) → T (hasYaku (scoreIn cs k w r)) → scoreWin cs k w .number ≡ 0
+  yaku-scored r i t = go (outcome (scores cs k w))
+    where
+      go : Outcome (scores cs k w) → scoreWin cs k w .number ≡ 0
+      go (without-score f a) = absurd (List·Memᴰ·not-nil (subst (λ (l : List ScoringResult). List·Memᴰ (scoreIn cs k w r) l) f (score-listed r i)))
+      go (without-yaku f g a) = absurd (let p = yaku-rank (scoreIn cs k w r) t in let q = g (scoreIn cs k w r) (score-listed r i) in omega arith)
+      go (with-score j x c a) = number-is (scored j x) a
+
+  module _ (scored-win : scoreWin cs k w .number ≡ 0) where
+    -- the score answered is chosen at the number answered
+    is-chosen : IsChosen (scores cs k w) (scoreWin cs k w .reading) (scoreWin cs k w .score)
+    is-chosen = go (outcome (scores cs k w))
+      where
+        go : Outcome (scores cs k w) → IsChosen (scores cs k w) (scoreWin cs k w .reading) (scoreWin cs k w .score)
+        go (without-score f a) = absurd (let e = number-is (refused 10) a in omega arith)
+        go (without-yaku f g a) = absurd (let e = number-is (refused 11) a in omega arith)
+        go (with-score i x c a) = subst (λ (b : ScoreAnswer). IsChosen (scores cs k w) (b .reading) (b .score)) (sym (by-choice ∙ a)) c
+
+    -- the score answered has a yaku, and it is the score of the reading at the number answered
+    pub record ChosenReading : Type 0 where
+      pub reading : Reading
+      pub stands : StandsAt reading (scoreWin cs k w .reading) (handReadings cs k)
+      pub score : scoreWin cs k w .score ≡ scoreIn cs k w reading
+      pub yaku : T (hasYaku (scoreWin cs k w .score))
+
+    pub chosen-has-yaku : ChosenReading
+    chosen-has-yaku =
+        let r = reading-of (scoreWin cs k w .score) (scoreWin cs k w .reading) (is-chosen .stands) in
+        record { reading = r .0; stands = r .1; score = r .2; yaku = rank-yaku (scoreWin cs k w .score) (is-chosen .some) }
+
+    -- ---- the four melds of the calls are four (an array of four in the code)
+    module _ (four : length (k .melds) ≡ 4) where
+      small : (r : Reading) → List·Memᴰ r (handReadings cs k) → Small (scoreIn cs k w r)
+      unfolding handReadings scoreIn
+      small r i =
+          let ok = win-passes cs k w passes .hand in
+          let count = passed cs k ok .few in
+          let few = called-length k count four in
+          score-small w (isOpened k) (tilesTogether cs k w) r
+          (short r (listed-sized (held cs) (called k) (melds-called cs k ok) (omega arith) r i))
+
+      small-chosen : Small (scoreWin cs k w .score)
+      small-chosen =
+          let r = chosen-has-yaku in
+          subst Small (sym (r .score)) (small (r .reading) (stands-mem (r .reading) (scoreWin cs k w .reading) (handReadings cs k) (r .stands)))
+
+      -- no reading of the hand with a yaku pays more in total
+      pub none-pays-more :
+          (r : Reading) → List·Memᴰ r (handReadings cs k) → T (hasYaku (scoreIn cs k w r))
+          → totalAt 4 (scoreIn cs k w r .payment) ≤ totalAt 4 (scoreWin cs k w .score .payment)
+      none-pays-more r i t =
+          rank-total (scoreIn cs k w r) (scoreWin cs k w .score) (small r i) small-chosen t (is-chosen .most (scoreIn cs k w r) (score-listed r i))
+
+      -- none is preferred to it: by the total, then by a yakuman before none, then by han, then by fu
+      pub preferred-none :
+          (r : Reading) → List·Memᴰ r (handReadings cs k) → T (hasYaku (scoreIn cs k w r)) → Preferred (scoreWin cs k w .score) (scoreIn cs k w r) → ⊥
+      preferred-none r i t p =
+          let l = rank-order (scoreWin cs k w .score) (scoreIn cs k w r) small-chosen (small r i) (chosen-has-yaku .yaku) t .1 p in
+          let m = is-chosen .most (scoreIn cs k w r) (score-listed r i) in
+          omega arith
+
+      -- and it is preferred to each earlier one: of equals it is the first
+      pub then-earlier :
+          (j : ℕ) (r : Reading) → j < scoreWin cs k w .reading → StandsAt r j (handReadings cs k) → T (hasYaku (scoreIn cs k w r))
+          → Preferred (scoreIn cs k w r) (scoreWin cs k w .score)
+      then-earlier j r l s t =
+          rank-order (scoreIn cs k w r) (scoreWin cs k w .score) (small r (stands-mem r j (handReadings cs k) s)) small-chosen t (chosen-has-yaku .yaku) .0
+          (is-chosen .first j (scoreIn cs k w r) l (score-stands r j s))
+
+  -- ---- scoring by number: 12 exactly where there are not more than n readings
+  numbered-by : (n : ℕ) → scoreReading cs k w n ≡ numbered (scores cs k w) n
+  unfolding scoreReading
+  numbered-by n = rw (eq-eqb (winCheck cs k w) 0 passes)
+
+  as-many : length (scores cs k w) ≡ length (handReadings cs k)
+  unfolding scores
+  as-many = length-map (handReadings cs k) (scoreIn cs k w)
+
+  pub by-number : (n : ℕ) → length (handReadings cs k) ≤ n → scoreReading cs k w n .number ≡ 12
+  unfolding numbered
+  by-number n h =
+      let e = as-many in
+      ap (λ (b : ScoreAnswer). b .number) (numbered-by n ∙ pick-past (refused 12) (scored n) (scores cs k w) n (omega arith))
+
+  pub twelve-by-number : (n : ℕ) → scoreReading cs k w n .number ≡ 12 → length (handReadings cs k) ≤ n
+  unfolding numbered
+  twelve-by-number n e =
+      let m = as-many in
+      let l =
+      past-end (refused 12) (scored n) (scores cs k w) n
+      (λ x q. let z = ap (λ (b : ScoreAnswer). b .number) (numbered-by n ∙ q) in omega arith) in
+      omega arith
+
+  -- the reading with the number n, where there is one
+  pub scored-by-number : (n : ℕ) (r : Reading) → StandsAt r n (handReadings cs k) → scoreReading cs k w n ≡ scored n (scoreIn cs k w r)
+  unfolding numbered
+  scored-by-number n r s = numbered-by n ∙ stands-picked (refused 12) (scored n) (scoreIn cs k w r) n (scores cs k w) (score-stands r n s)
+
+  -- the reading that scoring the win chooses, scored by its number, has the answer of scoring the win
+  pub same-by-number : scoreWin cs k w .number ≡ 0 → scoreReading cs k w (scoreWin cs k w .reading) ≡ scoreWin cs k w
+  same-by-number e =
+      let r = chosen-has-yaku e in
+      scored-by-number (scoreWin cs k w .reading) (r .reading) (r .stands)
+      ∙ ap (scored (scoreWin cs k w .reading)) (sym (r .score))
+      ∙ sym (ap (λ (n : ℕ). answer n (scoreWin cs k w .reading) (scoreWin cs k w .score)) e)
+
+  -- ---- naming waits by number: the same
+  named-by : (n : ℕ) → nameWaits cs k w n ≡ pickAt (refusedWaits 12) (λ r. namedWaits (waits (w .«winning_tile») r)) (handReadings cs k) n
+  unfolding nameWaits
+  named-by n = rw (eq-eqb (winCheck cs k w) 0 passes)
+
+  pub waits-by-number : (n : ℕ) → length (handReadings cs k) ≤ n → nameWaits cs k w n .number ≡ 12
+  waits-by-number n h =
+      ap (λ (b : WaitsAnswer). b .number)
+      (named-by n ∙ pick-past (refusedWaits 12) (λ r. namedWaits (waits (w .«winning_tile») r)) (handReadings cs k) n h)
+
+  pub twelve-waits-by-number : (n : ℕ) → nameWaits cs k w n .number ≡ 12 → length (handReadings cs k) ≤ n
+  twelve-waits-by-number n e =
+      past-end (refusedWaits 12) (λ r. namedWaits (waits (w .«winning_tile») r)) (handReadings cs k) n
+      (λ r q. let z = ap (λ (b : WaitsAnswer). b .number) (named-by n ∙ q) in omega arith)
