@@ -3,9 +3,9 @@
 use mathlib.Core.Path.{_≡_, refl, sym, ap, ap₂, subst, _∙_}
 use mathlib.Core.Bool.{Bool, not, cond}
 use mathlib.Core.List.{List, map, List·Memᴰ, List·Permᴰ, List·Permᴰ·trans}
-use Prim.Native.Nat.{ℕ, suc, _+_, _*_, _<_}
+use Prim.Native.Nat.{ℕ, suc, _+_, _<_}
 use lib.Dec.{T}
-use Rattle.lists.specs.Fold.{any, one, some}
+use Rattle.lists.specs.Fold.{any, some}
 use Rattle.lists.proofs.Permuted.{map-perm}
 use Rattle.lists.proofs.Members.{perm-eq, map-map, map-members}
 use Rattle.tile.specs.declared.Renaming.{Renaming}
@@ -28,7 +28,7 @@ use Rattle.checks.specs.declared.Calls.{Calls}
 use Rattle.checks.specs.Checks.{called, together}
 use Rattle.unit.specs.Listing.{handReadings}
 use Rattle.reading_score.specs.declared.ScoringResult.{ScoringResult}
-use Rattle.reading_score.specs.Score.{result, scoreOf, hasYaku, rank}
+use Rattle.reading_score.specs.Score.{result, scoreOf, hasYaku, rank, yakumanFirst, inDigits}
 use Rattle.choice.specs.Choice.{scored}
 use Rattle.win.specs.Win.{isOpened, tilesTogether, scoreIn, scores}
 use Rattle.agreement.specs.Agreement.{NotGreen, SameAnswer, renCalls}
@@ -52,7 +52,7 @@ module _ {x y : ScoringResult} (e : SameResult x y) where
   rank-alike =
       λ i.
       cond (e .same-yaku i)
-      (suc (((totalAt 4 (e .same-payment i) * 2 + one (e .same-yakuman i)) * 256 + e .same-han i) * 256 + e .same-fu i))
+      (suc (inDigits (totalAt 4 (e .same-payment i)) (yakumanFirst (e .same-yakuman i)) (e .same-han i) (e .same-fu i)))
       0
 
   pub answers-alike : (i j : ℕ) → SameAnswer (scored i x) (scored j y)

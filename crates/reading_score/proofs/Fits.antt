@@ -10,14 +10,13 @@ use lib.Dec.{T}
 use mir.Val.{Val}
 use denote.Laws.{Is}
 use denote.Enum.Laws.{owed}
-use Rattle.lists.specs.Fold.{one}
 use Rattle.scoring.specs.declared.Payment.{Payment}
 use Rattle.scoring.specs.declared.Payment.the-variants.{Ron, DealerTsumo, Tsumo}
 use Rattle.scoring.specs.Payment.{totalAt}
 use Rattle.scoring.proofs.Payment as P
 use Rattle.scoring.proofs.Payment.Laws as L
 use Rattle.reading_score.specs.declared.ScoringResult.{ScoringResult}
-use Rattle.reading_score.specs.Score.{hasYaku, rank}
+use Rattle.reading_score.specs.Score.{hasYaku, yakumanFirst, inDigits, rank}
 
 -- three payers at most
 pub total-fits : (p : Payment) (vs : List Val) → Is P.the-row p vs → totalAt 4 p ≤ 3 * 4294967295
@@ -32,8 +31,8 @@ rank-none x true e n = absurd (subst T (sym n) tt)
 rank-none x false e n = rw (sym e)
 
 pub rank-some :
-    (x : ScoringResult) (b : Bool) (total digit : ℕ) → b ≡ hasYaku x → not b ≡ false → total ≡ totalAt 4 (x .payment) → digit ≡ one (x .«is_yakuman»)
-    → ((total * 2 + digit) * 256 + x .han) * 256 + x .fu + 1 ≡ rank x
+    (x : ScoringResult) (b : Bool) (total digit : ℕ) → b ≡ hasYaku x → not b ≡ false → total ≡ totalAt 4 (x .payment) → digit ≡ yakumanFirst (x .«is_yakuman»)
+    → inDigits total digit (x .han) (x .fu) + 1 ≡ rank x
 unfolding rank
 rank-some x false total digit e n t d = absurd (subst T n tt)
 rank-some x true total digit e n t d = rw (sym e, t, d, add-one)

@@ -8,19 +8,17 @@ use Prim.Native.Nat.{ℕ, suc, _+_, _*_, _<_, _≤_}
 use native.Mathlib.Omega.{arith}
 use native.Mathlib.Decide.{decLe}
 use lib.Dec.{T}
-use Rattle.lists.specs.Fold.{one}
 use Rattle.lists.proofs.Finite.{T→true}
 use Rattle.context.specs.declared.GameContext.{GameContext}
 use Rattle.context.specs.Context.{isDealer, isTsumo}
 use Rattle.hand.specs.Reading.{Reading, pairs, orphans, standard}
-use Rattle.wait.proofs.Waits.{one-le}
 use Rattle.tile_yaku.specs.declared.TileYaku.{TileYaku}
 use Rattle.yaku.proofs.Laws.{Short, han-small}
 use Rattle.scoring.specs.Level.{level, basicPoints}
 use Rattle.scoring.specs.Payment.{payment, totalAt}
 use Rattle.scoring.proofs.Laws as scoring
 use Rattle.reading_score.specs.declared.ScoringResult.{ScoringResult}
-use Rattle.reading_score.specs.Score.{result, scoreOf, hasYaku, rank}
+use Rattle.reading_score.specs.Score.{result, scoreOf, hasYaku, yakumanFirst, inDigits, rank}
 
 -- han and fu are bytes
 pub record Small (x : ScoringResult) : Type 0 where
@@ -38,7 +36,7 @@ rank-yaku x = above-zero (hasYaku x) _
 
 -- the four digits of a score
 abbrev digits : ScoringResult → ℕ
-digits x = ((totalAt 4 (x .payment) * 2 + one (x .«is_yakuman»)) * 256 + x .han) * 256 + x .fu
+digits x = inDigits (totalAt 4 (x .payment)) (yakumanFirst (x .«is_yakuman»)) (x .han) (x .fu)
 
 yaku-digits : (x : ScoringResult) → T (hasYaku x) → rank x ≡ suc (digits x)
 unfolding rank
@@ -54,11 +52,15 @@ pub record SameRank (x y : ScoringResult) : Type 0 where
   pub same-han : x .han ≡ y .han
   pub same-fu : x .fu ≡ y .fu
 
-one-same : (a b : Bool) → one a ≡ one b → a ≡ b
-one-same true true e = refl
-one-same true false e = absurd (omega arith)
-one-same false true e = absurd (omega arith)
-one-same false false e = refl
+first-same : (a b : Bool) → yakumanFirst a ≡ yakumanFirst b → a ≡ b
+first-same true true e = refl
+first-same true false e = absurd (omega arith)
+first-same false true e = absurd (omega arith)
+first-same false false e = refl
+
+first-le : (a : Bool) → yakumanFirst a ≤ 1
+first-le true = omega arith
+first-le false = omega arith
 
 -- ---- the order of ranks
 -- y is preferred to x: the greater total; then a yakuman before none, more han, more fu
@@ -89,11 +91,11 @@ compare a b = go (decLe b a) (decLe a b)
 module _ (x y : ScoringResult) (i : Small x) (j : Small y) where
   same-digits : digits x ≡ digits y → SameRank x y
   same-digits e =
-      let k = one-le (x .«is_yakuman») in
-      let l = one-le (y .«is_yakuman») in
+      let k = first-le (x .«is_yakuman») in
+      let l = first-le (y .«is_yakuman») in
       record {
         same-total = omega arith;
-        same-yakuman = one-same (x .«is_yakuman») (y .«is_yakuman») (omega arith);
+        same-yakuman = first-same (x .«is_yakuman») (y .«is_yakuman») (omega arith);
         same-han = omega arith;
         same-fu = omega arith;
       }
@@ -106,8 +108,8 @@ module _ (x y : ScoringResult) (i : Small x) (j : Small y) where
 
   pub rank-total : T (hasYaku x) → rank x ≤ rank y → totalAt 4 (x .payment) ≤ totalAt 4 (y .payment)
   rank-total t h =
-      let k = one-le (x .«is_yakuman») in
-      let l = one-le (y .«is_yakuman») in
+      let k = first-le (x .«is_yakuman») in
+      let l = first-le (y .«is_yakuman») in
       let p = yaku-digits x t in
       let q = yaku-digits y (rank-yaku y (omega arith)) in
       omega arith
@@ -117,14 +119,14 @@ module _ (x y : ScoringResult) (i : Small x) (j : Small y) where
       totalAt 4 (x .payment) ≡ totalAt 4 (y .payment) → x .«is_yakuman» ≡ y .«is_yakuman» → digits x < digits y
       → (x .han < y .han) ⊎ ((x .han ≡ y .han) ⊎ (y .han < x .han)) → Preferred x y
   decide-han e f h (inl l) = by-han e f l
-  decide-han e f h (inr (inl g)) = let k = ap one f in by-fu e f g (omega arith)
-  decide-han e f h (inr (inr l)) = let k = ap one f in absurd (omega arith)
+  decide-han e f h (inr (inl g)) = let k = ap yakumanFirst f in by-fu e f g (omega arith)
+  decide-han e f h (inr (inr l)) = let k = ap yakumanFirst f in absurd (omega arith)
 
   decide-yakuman :
       (p q : Bool) → x .«is_yakuman» ≡ p → y .«is_yakuman» ≡ q → totalAt 4 (x .payment) ≡ totalAt 4 (y .payment)
       → digits x < digits y → Preferred x y
   decide-yakuman true true f g e h = decide-han e (f ∙ sym g) h (compare (x .han) (y .han))
-  decide-yakuman true false f g e h = let k = ap one f in let l = ap one g in absurd (omega arith)
+  decide-yakuman true false f g e h = let k = ap yakumanFirst f in let l = ap yakumanFirst g in absurd (omega arith)
   decide-yakuman false true f g e h = by-yakuman e f g
   decide-yakuman false false f g e h = decide-han e (f ∙ sym g) h (compare (x .han) (y .han))
 
@@ -135,13 +137,13 @@ module _ (x y : ScoringResult) (i : Small x) (j : Small y) where
       → Preferred x y
   decide-total h (inl l) = by-total l
   decide-total h (inr (inl e)) = decide-yakuman (x .«is_yakuman») (y .«is_yakuman») refl refl e h
-  decide-total h (inr (inr l)) = let k = one-le (x .«is_yakuman») in let m = one-le (y .«is_yakuman») in absurd (omega arith)
+  decide-total h (inr (inr l)) = let k = first-le (x .«is_yakuman») in let m = first-le (y .«is_yakuman») in absurd (omega arith)
 
   preferred-digits : Preferred x y → digits x < digits y
-  preferred-digits (by-total l) = let k = one-le (x .«is_yakuman») in let m = one-le (y .«is_yakuman») in omega arith
-  preferred-digits (by-yakuman e f g) = let k = ap one f in let m = ap one g in omega arith
-  preferred-digits (by-han e f l) = let k = ap one f in omega arith
-  preferred-digits (by-fu e f g l) = let k = ap one f in omega arith
+  preferred-digits (by-total l) = let k = first-le (x .«is_yakuman») in let m = first-le (y .«is_yakuman») in omega arith
+  preferred-digits (by-yakuman e f g) = let k = ap yakumanFirst f in let m = ap yakumanFirst g in omega arith
+  preferred-digits (by-han e f l) = let k = ap yakumanFirst f in omega arith
+  preferred-digits (by-fu e f g l) = let k = ap yakumanFirst f in omega arith
 
   pub rank-order : T (hasYaku x) → T (hasYaku y) → (rank x < rank y → Preferred x y) × (Preferred x y → rank x < rank y)
   rank-order t u =

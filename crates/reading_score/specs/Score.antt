@@ -4,7 +4,7 @@ use mathlib.Core.Bool.{Bool, cond, not}
 use mathlib.Core.List.{List, [], _∷_}
 use Prim.Native.Nat.{ℕ, suc, _+_, _*_}
 use lib.Dec.{eqb}
-use Rattle.lists.specs.Fold.{any, one}
+use Rattle.lists.specs.Fold.{any}
 use Rattle.context.specs.declared.GameContext.{GameContext}
 use Rattle.context.specs.Context.{isDealer, isTsumo}
 use Rattle.hand.specs.Reading.{Reading}
@@ -36,9 +36,17 @@ scoreOf w opened s r = result w (tallies w opened s r) (han w opened s r) (fu w 
 abbrev pub hasYaku : ScoringResult → Bool
 hasYaku x = any (λ n. not (eqb n 0)) (x .tallies)
 
--- the rank in the choice: the greatest total; then a yakuman before none, more han, more fu. They are the digits of one number, 0 without a yaku.
+-- a yakuman before none
+abbrev pub yakumanFirst : Bool → ℕ
+yakumanFirst yakuman = cond yakuman 1 0
+
+-- four numbers as the digits of one, so that the first decides, then the second, and so on
+abbrev pub inDigits : ℕ → ℕ → ℕ → ℕ → ℕ
+inDigits total yakuman han fu = ((total * 2 + yakuman) * 256 + han) * 256 + fu
+
+-- the rank in the choice: the greatest total; then a yakuman before none, more han, more fu. 0 without a yaku.
 unfoldable pub rank : ScoringResult → ℕ
 rank x =
     cond (hasYaku x)
-    (suc (((totalAt 4 (x .payment) * 2 + one (x .«is_yakuman»)) * 256 + x .han) * 256 + x .fu))
+    (suc (inDigits (totalAt 4 (x .payment)) (yakumanFirst (x .«is_yakuman»)) (x .han) (x .fu)))
     0

@@ -3,7 +3,7 @@ use mathlib.Core.Path.{_≡_}
 use mathlib.Core.Logic.{⊎-elim}
 use Prim.Native.Nat.{_*_, _≤_}
 use native.Mathlib.Omega.{arith}
-use Rattle.lists.specs.Fold.{one}
+use Rattle.reading_score.specs.Score.{yakumanFirst}
 use Rattle.reading_score.proofs.Fits.{total-fits, rank-none, rank-some}
 use borrow.Author.Needs.{needs}
 use Rattle.reading_score.proofs.rank.Statement.{statement}
@@ -66,7 +66,7 @@ returns-2 c =
     let branch = c .before .before .before in
     let called = branch .before in
     let x = called .before .before .before .before .args .x in
-    let digit : branch .if2 .yakuman ≡ one (x .«is_yakuman») = ⊎-elim (λ w. rw (w .0 .taken) (omega (arith, w .1))) (λ w. rw (w .0 .left) (omega (arith, w .1))) (branch .if2 .came) in
+    let digit : branch .if2 .yakuman ≡ yakumanFirst (x .«is_yakuman») = ⊎-elim (λ w. rw (w .0 .taken) (omega (arith, w .1))) (λ w. rw (w .0 .left) (omega (arith, w .1))) (branch .if2 .came) in
     rank-some x (called .before .before .has-yaku .result) (called .total .result) (branch .if2 .yakuman)
     (called .before .before .has-yaku .ensures) (called .before .if1 .left) (called .total .ensures) digit
 
