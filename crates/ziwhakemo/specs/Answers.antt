@@ -8,9 +8,13 @@ use Rattle.scoring.specs.declared.Payment.the-variants.{Ron, DealerTsumo, Tsumo
 use Rattle.scoring.specs.declared.PaymentAnswer.{PaymentAnswer}
 use Rattle.scoring.specs.declared.PaymentAnswer.the-variants.{Refused, Paid}
 use Rattle.scoring.specs.Payment.{totalAt}
+use Rattle.choice.specs.declared.ScoreAnswer.{ScoreAnswer}
+use Rattle.win.specs.declared.WaitsAnswer.{WaitsAnswer}
 use Rattle.ziwhakemo.specs.declared.ListingAnswer.{ListingAnswer}
 use Rattle.ziwhakemo.specs.declared.LevelAnswer.{LevelAnswer}
 use Rattle.ziwhakemo.specs.declared.PaymentValues.{PaymentValues}
+use Rattle.ziwhakemo.specs.declared.ScoreValues.{ScoreValues}
+use Rattle.ziwhakemo.specs.declared.WaitsValues.{WaitsValues}
 
 abbrev pub listingAnswer : Listing → ListingAnswer
 listingAnswer a = record { number = numberOf a; readings = readingsOf a; bytes = bytesOf a }
@@ -33,3 +37,25 @@ paid (Tsumo d n) = record { number = 0; «from_non_dealer» = n; «from_dealer»
 abbrev pub paymentValues : PaymentAnswer → PaymentValues
 paymentValues (Refused n) = record { number = n; «from_non_dealer» = 0; «from_dealer» = 0; «from_discarder» = 0; total = 0 }
 paymentValues (Paid p) = paid p
+
+-- a score, its level and its payment in plain numbers; a refusal has its number, and 0 in every other place
+abbrev pub scoreValues : ScoreAnswer → ScoreValues
+scoreValues a =
+    record {
+      number = a .number;
+      reading = a .reading;
+      tallies = a .score .tallies;
+      han = a .score .han;
+      fu = a .score .fu;
+      «is_yakuman» = a .score .«is_yakuman»;
+      level = levelAnswer (a .score .«score_level») .level;
+      «yakuman_count» = levelAnswer (a .score .«score_level») .count;
+      «basic_points» = a .score .«basic_points»;
+      «from_non_dealer» = paid (a .score .payment) .«from_non_dealer»;
+      «from_dealer» = paid (a .score .payment) .«from_dealer»;
+      «from_discarder» = paid (a .score .payment) .«from_discarder»;
+      total = paid (a .score .payment) .total;
+    }
+
+abbrev pub waitsValues : WaitsAnswer → WaitsValues
+waitsValues a = record { number = a .number; waits = a .waits }

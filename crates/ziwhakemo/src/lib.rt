@@ -4,7 +4,8 @@ ghost use lib.ListN.{length};
 ghost use Rattle.unit.specs.Listing.{listing, written};
 ghost use Rattle.scoring.specs.Level.{level, basicPoints};
 ghost use Rattle.scoring.specs.Payment.{paymentAnswer};
-ghost use Rattle.ziwhakemo.specs.Answers.{listingAnswer, levelAnswer, paid, paymentValues};
+ghost use Rattle.win.specs.Win.{scoreWin, scoreReading, nameWaits};
+ghost use Rattle.ziwhakemo.specs.Answers.{listingAnswer, levelAnswer, paid, paymentValues, scoreValues, waitsValues};
 
 // The answer to a listing: number 0 where accepted, else the refusal; the count of readings; the count of bytes written.
 #[repr(C)]
@@ -46,13 +47,11 @@ pub struct LevelAnswer {
     pub count: u8,
 }
 
-// The level of han and fu, with or without a yakuman.
-#[no_mangle]
-pub extern "C" fn ziwhakemo_score_level(han: u8, fu: u8, is_yakuman: bool) -> LevelAnswer
-    ensures { λ r. ⌜ r ≡ levelAnswer (level han fu «is_yakuman») ⌝ }
+// The numbers of a level.
+fn level_of(l: scoring::ScoreLevel) -> LevelAnswer
+    ensures { λ r. ⌜ r ≡ levelAnswer l ⌝ }
 {
-    let answer = scoring::determine_score_level(han, fu, is_yakuman);
-    match answer {
+    match l {
         scoring::ScoreLevel::Normal => LevelAnswer { level: 0, count: 0 },
         scoring::ScoreLevel::Mangan => LevelAnswer { level: 1, count: 0 },
         scoring::ScoreLevel::Haneman => LevelAnswer { level: 2, count: 0 },
@@ -60,6 +59,14 @@ pub extern "C" fn ziwhakemo_score_level(han: u8, fu: u8, is_yakuman: bool) -> Le
         scoring::ScoreLevel::Sanbaiman => LevelAnswer { level: 4, count: 0 },
         scoring::ScoreLevel::Yakuman(n) => LevelAnswer { level: 5, count: n },
     }
+}
+
+// The level of han and fu, with or without a yakuman.
+#[no_mangle]
+pub extern "C" fn ziwhakemo_score_level(han: u8, fu: u8, is_yakuman: bool) -> LevelAnswer
+    ensures { λ r. ⌜ r ≡ levelAnswer (level han fu «is_yakuman») ⌝ }
+{
+    level_of(scoring::determine_score_level(han, fu, is_yakuman))
 }
 
 // The basic points of han and fu, with or without a yakuman.
@@ -133,5 +140,102 @@ pub extern "C" fn ziwhakemo_payment(
             total: 0,
         },
         scoring::PaymentAnswer::Paid(p) => values_of(p),
+    }
+}
+
+// A score: number 0, the number of the reading, counted from 0, a tally for each yaku, han and fu, whether there is a yakuman, the level
+// and how many times a yakuman counts, basic points, what each pays and the total; or a refusal's number alone.
+#[repr(C)]
+pub struct ScoreValues {
+    pub number: u32,
+    pub reading: usize,
+    pub tallies: [u8; 47],
+    pub han: u8,
+    pub fu: u8,
+    pub is_yakuman: bool,
+    pub level: u8,
+    pub yakuman_count: u8,
+    pub basic_points: u32,
+    pub from_non_dealer: u32,
+    pub from_dealer: u32,
+    pub from_discarder: u32,
+    pub total: u64,
+}
+
+// The values of a scored win or reading.
+fn score_values(a: choice::ScoreAnswer) -> ScoreValues
+    ensures { λ r. ⌜ r ≡ scoreValues a ⌝ }
+{
+    let score = a.score;
+    let tallies = score.tallies;
+    let score_level = score.score_level;
+    let payment = score.payment;
+    let level = level_of(score_level);
+    let pays = values_of(payment);
+    ScoreValues {
+        number: a.number as u32,
+        reading: a.reading,
+        tallies: tallies,
+        han: score.han,
+        fu: score.fu,
+        is_yakuman: score.is_yakuman,
+        level: level.level,
+        yakuman_count: level.count,
+        basic_points: score.basic_points,
+        from_non_dealer: pays.from_non_dealer,
+        from_dealer: pays.from_dealer,
+        from_discarder: pays.from_discarder,
+        total: pays.total,
+    }
+}
+
+// Scores a win: the reading with a yaku that pays most.
+#[no_mangle]
+pub extern "C" fn ziwhakemo_score_win(
+    counts: &[u8],
+    calls: checks::Calls,
+    win: context::GameContext,
+) -> ScoreValues
+    ensures { λ r. ⌜ r ≡ scoreValues (scoreWin (now (counts .entry)) calls win) ⌝ }
+{
+    score_values(win::score_win(counts, calls, win))
+}
+
+// Scores reading number n, counted from 0.
+#[no_mangle]
+pub extern "C" fn ziwhakemo_score_reading(
+    counts: &[u8],
+    calls: checks::Calls,
+    win: context::GameContext,
+    n: usize,
+) -> ScoreValues
+    ensures { λ r. ⌜ r ≡ scoreValues (scoreReading (now (counts .entry)) calls win n) ⌝ }
+{
+    score_values(win::score_reading(counts, calls, win, n))
+}
+
+// The waits of a reading: number 0 and a tally for each of Ryanmen, Kanchan, Penchan, Shanpon, Tanki, Kokushi13; or a refusal's number
+// alone.
+#[repr(C)]
+pub struct WaitsValues {
+    pub number: u32,
+    pub waits: [u8; 6],
+}
+
+// Names the waits of reading number n, counted from 0.
+#[no_mangle]
+pub extern "C" fn ziwhakemo_name_waits(
+    counts: &[u8],
+    calls: checks::Calls,
+    win: context::GameContext,
+    n: usize,
+) -> WaitsValues
+    ensures { λ r. ⌜ r ≡ waitsValues (nameWaits (now (counts .entry)) calls win n) ⌝ }
+{
+    let answer = win::name_waits(counts, calls, win, n);
+    let waits = answer.waits;
+    WaitsValues {
+        number: answer.number as u32,
+        waits: waits,
     }
 }

@@ -1,0 +1,50 @@
+-- `replay_wins::print_refusals` is safe and ends. The measure is what is left of the twelve numbers. Assumes nothing.
+use Prim.Native.Nat.{_≤_, _-_}
+use borrow.Author.Needs.{needs}
+use Rattle.replay_wins.proofs.print_refusals.Statement.{statement}
+use Rattle.replay_wins.proofs.print_refusals.Tie as tie
+
+abbrev Inv-loop : tie.InvT-loop
+Inv-loop answers number₀ number = number ≤ 12
+
+abbrev μ-loop : tie.MeasureT-loop
+μ-loop answers number₀ number = 12 - number
+
+loop-holds : tie.Need-loop-holds Inv-loop μ-loop
+loop-holds c = search needs
+
+mul-print-refusal : tie.Need-mul-print-refusal Inv-loop μ-loop
+mul-print-refusal c = search needs
+
+array-read-print-refusal : tie.Need-array-read-print-refusal Inv-loop μ-loop
+array-read-print-refusal c = search needs
+
+print-refusal-requires : tie.Need-print-refusal-requires Inv-loop μ-loop
+print-refusal-requires c κs = search needs
+
+add-number : tie.Need-add-number Inv-loop μ-loop
+add-number c = search needs
+
+loop-less : tie.Need-loop-less Inv-loop μ-loop
+loop-less c = search needs
+
+loop-again : tie.Need-loop-again Inv-loop μ-loop
+loop-again c = search needs
+
+returns : tie.Need-returns Inv-loop μ-loop
+returns c = search needs
+
+pub print-refusals-spec : {M : Type 1} → statement M
+print-refusals-spec =
+    tie.close
+    (tie.spec
+    Inv-loop
+    μ-loop
+    loop-holds
+    mul-print-refusal
+    array-read-print-refusal
+    print-refusal-requires
+    add-number
+    loop-less
+    loop-again
+    returns)

@@ -1,0 +1,19 @@
+-- `ziwhakemo::score_values` meets its contract. Assumes nothing.
+use borrow.Author.Needs.{needs}
+use Rattle.ziwhakemo.proofs.score_values.Statement.{statement}
+use Rattle.ziwhakemo.proofs.score_values.Tie as tie
+
+level-of-requires : tie.Need-level-of-requires
+level-of-requires c κs = search needs
+
+values-of-requires : tie.Need-values-of-requires
+values-of-requires c κs = search needs
+
+cast-t8 : tie.Need-cast-t8
+cast-t8 c = search needs
+
+returns : tie.Need-returns
+returns c = simp (c .before .before .level-of .ensures, c .before .values-of .ensures)
+
+pub score-values-spec : {M : Type 1} → statement M
+score-values-spec = tie.close (tie.spec level-of-requires values-of-requires cast-t8 returns)
