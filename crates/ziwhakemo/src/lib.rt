@@ -2,6 +2,7 @@
 ghost use mathlib.Core.Path.{_≡_};
 ghost use lib.ListN.{length};
 ghost use Rattle.unit.specs.Listing.{listing, written};
+ghost use Rattle.lent.specs.Lent.{callsOf};
 ghost use Rattle.scoring.specs.Level.{level, basicPoints};
 ghost use Rattle.scoring.specs.Payment.{paymentAnswer};
 ghost use Rattle.win.specs.Win.{scoreWin, scoreReading, nameWaits};
@@ -15,17 +16,12 @@ pub struct ListingAnswer {
     pub bytes: usize,
 }
 
-// Lists the readings of a finished hand into the lent buffer.
-#[no_mangle]
-pub extern "C" fn ziwhakemo_list_readings(
-    counts: &[u8],
-    calls: checks::Calls,
-    out: &mut [u8],
-) -> ListingAnswer
-    ensures answer { λ r. ⌜ r ≡ listingAnswer (listing (now (counts .entry)) calls (length (now (out .entry)))) ⌝ }
-    ensures buffer { λ _. ⌜ now (out .exit) ≡ written (now (counts .entry)) calls (now (out .entry)) ⌝ }
+// Lists the readings of a finished hand, its calls given by value, into the lent buffer.
+fn list_values(counts: &[u8], k: checks::Calls, out: &mut [u8]) -> ListingAnswer
+    ensures answer { λ r. ⌜ r ≡ listingAnswer (listing (now (counts .entry)) k (length (now (out .entry)))) ⌝ }
+    ensures buffer { λ _. ⌜ now (out .exit) ≡ written (now (counts .entry)) k (now (out .entry)) ⌝ }
 {
-    let answer = unit::list_readings(counts, calls, out);
+    let answer = unit::list_readings(counts, k, out);
     match answer {
         unit::Listing::Refused(number) => ListingAnswer {
             number: number as usize,
@@ -38,6 +34,19 @@ pub extern "C" fn ziwhakemo_list_readings(
             bytes: bytes,
         },
     }
+}
+
+// Lists the readings of a finished hand into the lent buffer.
+#[no_mangle]
+pub extern "C" fn ziwhakemo_list_readings(
+    counts: &[u8],
+    calls: &[meld::Meld],
+    out: &mut [u8],
+) -> ListingAnswer
+    ensures answer { λ r. ⌜ r ≡ listingAnswer (listing (now (counts .entry)) (callsOf (now (calls .entry))) (length (now (out .entry)))) ⌝ }
+    ensures buffer { λ _. ⌜ now (out .exit) ≡ written (now (counts .entry)) (callsOf (now (calls .entry))) (now (out .entry)) ⌝ }
+{
+    list_values(counts, lent::gather(calls), out)
 }
 
 // A level: 0 Normal, 1 Mangan, 2 Haneman, 3 Baiman, 4 Sanbaiman, 5 Yakuman, and how many times a yakuman counts.
@@ -189,29 +198,43 @@ fn score_values(a: choice::ScoreAnswer) -> ScoreValues
     }
 }
 
+// Scores a win, its calls given by value.
+fn win_values(counts: &[u8], k: checks::Calls, w: context::GameContext) -> ScoreValues
+    ensures { λ r. ⌜ r ≡ scoreValues (scoreWin (now (counts .entry)) k w) ⌝ }
+{
+    score_values(win::score_win(counts, k, w))
+}
+
 // Scores a win: the reading with a yaku that pays most.
 #[no_mangle]
 pub extern "C" fn ziwhakemo_score_win(
     counts: &[u8],
-    calls: checks::Calls,
-    win: context::GameContext,
+    calls: &[meld::Meld],
+    w: context::GameContext,
 ) -> ScoreValues
-    ensures { λ r. ⌜ r ≡ scoreValues (scoreWin (now (counts .entry)) calls win) ⌝ }
+    ensures { λ r. ⌜ r ≡ scoreValues (scoreWin (now (counts .entry)) (callsOf (now (calls .entry))) w) ⌝ }
 {
-    score_values(win::score_win(counts, calls, win))
+    win_values(counts, lent::gather(calls), w)
+}
+
+// Scores reading number n, counted from 0, its calls given by value.
+fn reading_values(counts: &[u8], k: checks::Calls, w: context::GameContext, n: usize) -> ScoreValues
+    ensures { λ r. ⌜ r ≡ scoreValues (scoreReading (now (counts .entry)) k w n) ⌝ }
+{
+    score_values(win::score_reading(counts, k, w, n))
 }
 
 // Scores reading number n, counted from 0.
 #[no_mangle]
 pub extern "C" fn ziwhakemo_score_reading(
     counts: &[u8],
-    calls: checks::Calls,
-    win: context::GameContext,
+    calls: &[meld::Meld],
+    w: context::GameContext,
     n: usize,
 ) -> ScoreValues
-    ensures { λ r. ⌜ r ≡ scoreValues (scoreReading (now (counts .entry)) calls win n) ⌝ }
+    ensures { λ r. ⌜ r ≡ scoreValues (scoreReading (now (counts .entry)) (callsOf (now (calls .entry))) w n) ⌝ }
 {
-    score_values(win::score_reading(counts, calls, win, n))
+    reading_values(counts, lent::gather(calls), w, n)
 }
 
 // The waits of a reading: number 0 and a tally for each of Ryanmen, Kanchan, Penchan, Shanpon, Tanki, Kokushi13; or a refusal's number
@@ -222,20 +245,27 @@ pub struct WaitsValues {
     pub waits: [u8; 6],
 }
 
-// Names the waits of reading number n, counted from 0.
-#[no_mangle]
-pub extern "C" fn ziwhakemo_name_waits(
-    counts: &[u8],
-    calls: checks::Calls,
-    win: context::GameContext,
-    n: usize,
-) -> WaitsValues
-    ensures { λ r. ⌜ r ≡ waitsValues (nameWaits (now (counts .entry)) calls win n) ⌝ }
+// Names the waits of reading number n, counted from 0, its calls given by value.
+fn waits_values(counts: &[u8], k: checks::Calls, w: context::GameContext, n: usize) -> WaitsValues
+    ensures { λ r. ⌜ r ≡ waitsValues (nameWaits (now (counts .entry)) k w n) ⌝ }
 {
-    let answer = win::name_waits(counts, calls, win, n);
+    let answer = win::name_waits(counts, k, w, n);
     let waits = answer.waits;
     WaitsValues {
         number: answer.number as u32,
         waits: waits,
     }
+}
+
+// Names the waits of reading number n, counted from 0.
+#[no_mangle]
+pub extern "C" fn ziwhakemo_name_waits(
+    counts: &[u8],
+    calls: &[meld::Meld],
+    w: context::GameContext,
+    n: usize,
+) -> WaitsValues
+    ensures { λ r. ⌜ r ≡ waitsValues (nameWaits (now (counts .entry)) (callsOf (now (calls .entry))) w n) ⌝ }
+{
+    waits_values(counts, lent::gather(calls), w, n)
 }

@@ -1,0 +1,4 @@
+pub mod Ask
+pub mod Walk
+pub mod Handed
+pub mod Laws

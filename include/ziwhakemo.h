@@ -1,0 +1,345 @@
+/*
+ * Ziwhakemo: a score unit for riichi mahjong tables.
+ *
+ * It lists every reading of a finished hand, scores a win by the reading that pays most, scores any
+ * reading by its number, names its waits, and gives level, basic points and payments. Each function
+ * is proved to answer as its definition says on every input: every call comes back, and malformed
+ * input gets a number (see "Refusals") instead of a score. This file is not part of the proof;
+ * examples/c/boundary.c and the tests in rust/ hold it to the library.
+ *
+ * C99 and later, and C++. Link with libziwhakemo.a (x86-64, System V calling convention).
+ *
+ * What is asked of a caller, and cannot be checked here:
+ *   - A pointer leads to as many elements as the count after it says. A null or dangling pointer is
+ *     not noticed: what is there is read, or overwritten. With a count of 0 nothing is read or
+ *     written through the pointer, and NULL will do.
+ *   - The buffer `out` does not overlap the counts or the calls, and no other thread changes what
+ *     is lent before the call returns.
+ *   - A bool holds 0 or 1. C stores one of these in every assignment; memcpy or a cast may not.
+ *     Bools cross this boundary in ziwhakemo_game_context, and as `is_yakuman` and `is_dealer`.
+ *
+ * No function keeps anything between calls or allocates memory, so any number of threads may call
+ * at the same time. The deepest call, ziwhakemo_score_win, takes about 2,900 bytes of stack.
+ */
+#ifndef ZIWHAKEMO_H
+#define ZIWHAKEMO_H
+
+#include <stdbool.h>
+#include <stddef.h>
+#include <stdint.h>
+
+#ifdef __cplusplus
+extern "C" {
+#endif
+
+/* ---- Tiles --------------------------------------------------------------------------------------
+ *
+ * A tile is a number from 0 to 33: man 1 to 9, pin 1 to 9, sou 1 to 9, the four winds, the three
+ * dragons. A hand is 34 counts, one byte for each tile number, of the tiles that are not called,
+ * the winning tile included.
+ */
+#define ZIWHAKEMO_TILES 34
+
+#define ZIWHAKEMO_MAN(n) ((uint8_t)((n) - 1))  /* n from 1 to 9 */
+#define ZIWHAKEMO_PIN(n) ((uint8_t)((n) + 8))  /* n from 1 to 9 */
+#define ZIWHAKEMO_SOU(n) ((uint8_t)((n) + 17)) /* n from 1 to 9 */
+
+enum {
+    ZIWHAKEMO_EAST = 27,
+    ZIWHAKEMO_SOUTH = 28,
+    ZIWHAKEMO_WEST = 29,
+    ZIWHAKEMO_NORTH = 30,
+    ZIWHAKEMO_WHITE = 31,
+    ZIWHAKEMO_GREEN = 32,
+    ZIWHAKEMO_RED = 33
+};
+
+/* ---- Melds ----------------------------------------------------------------------------------- */
+
+/* The kinds of melds. A call has one of the kinds 1, 3, 4, 5 and 6; kinds 0 and 2 stand only in the
+ * records of readings. A hand is open if it has a call of another kind than 4. */
+enum {
+    ZIWHAKEMO_MELD_CLOSED_SEQUENCE = 0,
+    ZIWHAKEMO_MELD_OPEN_SEQUENCE = 1,  /* chi */
+    ZIWHAKEMO_MELD_CLOSED_TRIPLET = 2,
+    ZIWHAKEMO_MELD_OPEN_TRIPLET = 3,   /* pon */
+    ZIWHAKEMO_MELD_CLOSED_KAN = 4,     /* ankan */
+    ZIWHAKEMO_MELD_OPEN_KAN = 5,       /* daiminkan */
+    ZIWHAKEMO_MELD_ADDED_KAN = 6       /* shouminkan */
+};
+
+/* A meld. A sequence starts at 1 to 7 of a suit. */
+typedef struct ziwhakemo_meld {
+    uint8_t tile; /* the number of its lowest tile */
+    uint8_t kind; /* one of the kinds above */
+} ziwhakemo_meld;
+
+/* ---- The win --------------------------------------------------------------------------------- */
+
+enum {
+    ZIWHAKEMO_RON = 0,
+    ZIWHAKEMO_TSUMO = 1
+};
+
+/* How the hand was won. Every mixture of the flags is taken. The winner is the dealer where the
+ * seat wind is East. Each bool must be 0 or 1. */
+typedef struct ziwhakemo_game_context {
+    uint8_t win_type;      /* ZIWHAKEMO_RON or ZIWHAKEMO_TSUMO */
+    uint8_t winning_tile;  /* a tile that the hand holds (not one of a call) */
+    uint8_t round_wind;    /* ZIWHAKEMO_EAST to ZIWHAKEMO_NORTH */
+    uint8_t seat_wind;     /* ZIWHAKEMO_EAST to ZIWHAKEMO_NORTH */
+    bool is_riichi;        /* set for a double riichi too */
+    bool is_double_riichi;
+    bool is_ippatsu;
+    bool is_rinshan;
+    bool is_chankan;
+    bool is_last_tile;
+    bool is_tenhou;
+    bool is_chiihou;
+} ziwhakemo_game_context;
+
+/* ---- Refusals -----------------------------------------------------------------------------------
+ *
+ * An answer that may be a refusal begins with a number: 0 where the call is accepted, else the
+ * first of these that applies, in this order and of those that stand beside the function. A refusal
+ * has its number, and 0 in every other field.
+ */
+enum {
+    ZIWHAKEMO_ACCEPTED = 0,
+    ZIWHAKEMO_REFUSED_COUNTS_LENGTH = 1,    /* the counts are not 34 long */
+    ZIWHAKEMO_REFUSED_TOO_MANY_CALLS = 2,   /* more than four calls */
+    ZIWHAKEMO_REFUSED_NOT_A_CALL = 3,       /* a call's kind or tile is not that of a call */
+    ZIWHAKEMO_REFUSED_COUNT_ABOVE_FOUR = 4, /* a count above 4 */
+    ZIWHAKEMO_REFUSED_FIVE_OF_A_KIND = 5,   /* hand and calls hold more than four of a kind */
+    ZIWHAKEMO_REFUSED_NUMBER_OF_TILES = 6,  /* the hand's tiles are not 14 - 3 * calls */
+    ZIWHAKEMO_REFUSED_BUFFER_TOO_SHORT = 7, /* the records need more bytes than were lent */
+    ZIWHAKEMO_REFUSED_OUT_OF_RANGE = 8,     /* the win type or a wind is out of range */
+    ZIWHAKEMO_REFUSED_WINNING_TILE = 9,     /* the winning tile is above 33 or not in the hand */
+    ZIWHAKEMO_REFUSED_NO_READING = 10,      /* the hand has no reading */
+    ZIWHAKEMO_REFUSED_NO_YAKU = 11,         /* no reading has a yaku */
+    ZIWHAKEMO_REFUSED_NO_SUCH_READING = 12, /* there are not more readings than that number */
+    ZIWHAKEMO_REFUSED_BASIC_POINTS = 13     /* basic points above 152,000 */
+};
+
+/* ---- Listing readings ---------------------------------------------------------------------------
+ *
+ * A reading is one way to take the hand apart: seven different pairs, thirteen orphans, or a pair
+ * and four melds, the calls among them. Each is written as a record:
+ *
+ *   bytes 0 and 1   the length of the whole record, the low byte first
+ *   bytes 2 and 3   the kind of the record, the low byte first
+ *   then, by kind   1 (length 11): seven tiles, ascending
+ *                   2 (length 5): the tile that is there twice
+ *                   3 (length 13): the pair's tile, then four melds of two bytes, tile and kind,
+ *                   ascending by tile, then by kind
+ *
+ * Records ascend by kind, then by the bytes after the kind. Readings are numbered from 0 in this
+ * order.
+ */
+enum {
+    ZIWHAKEMO_RECORD_SEVEN_PAIRS = 1,
+    ZIWHAKEMO_RECORD_ORPHANS = 2,
+    ZIWHAKEMO_RECORD_STANDARD = 3
+};
+
+/* The lengths of the records. */
+#define ZIWHAKEMO_SEVEN_PAIRS_LENGTH 11
+#define ZIWHAKEMO_ORPHANS_LENGTH 5
+#define ZIWHAKEMO_STANDARD_LENGTH 13
+
+/* A buffer of so many bytes holds the records of any hand. */
+#define ZIWHAKEMO_ALWAYS_ENOUGH 1467
+
+typedef struct ziwhakemo_listing_answer {
+    size_t number;   /* 0, or the refusal */
+    size_t readings; /* how many readings there are */
+    size_t bytes;    /* how many bytes were written, from out[0] on */
+} ziwhakemo_listing_answer;
+
+/* Lists the readings of a finished hand into a lent buffer. Refuses with 1 to 7.
+ *
+ * Accepted: the records stand in the first `bytes` bytes of the buffer, and the bytes behind them
+ * are as they were. A hand with no reading is accepted, with both counts 0. Refused: nothing is
+ * written. With NULL and 0 for the buffer, it answers 0 if there is no reading, and 7 if there is
+ * one. */
+ziwhakemo_listing_answer ziwhakemo_list_readings(const uint8_t *counts, size_t counts_length,
+                                                 const ziwhakemo_meld *calls, size_t calls_length,
+                                                 uint8_t *out, size_t out_length);
+
+/* ---- Levels, points, payments ---------------------------------------------------------------- */
+
+enum {
+    ZIWHAKEMO_LEVEL_NORMAL = 0,
+    ZIWHAKEMO_LEVEL_MANGAN = 1,
+    ZIWHAKEMO_LEVEL_HANEMAN = 2,
+    ZIWHAKEMO_LEVEL_BAIMAN = 3,
+    ZIWHAKEMO_LEVEL_SANBAIMAN = 4,
+    ZIWHAKEMO_LEVEL_YAKUMAN = 5
+};
+
+typedef struct ziwhakemo_level_answer {
+    uint8_t level; /* one of the levels above */
+    uint8_t count; /* how many times a yakuman counts; 0 below that level */
+} ziwhakemo_level_answer;
+
+/* The level of han and fu, with or without a yakuman. Takes any numbers and refuses nothing. */
+ziwhakemo_level_answer ziwhakemo_score_level(uint8_t han, uint8_t fu, bool is_yakuman);
+
+/* The basic points of han and fu, with or without a yakuman. Takes any numbers and refuses
+ * nothing. */
+uint32_t ziwhakemo_basic_points(uint8_t han, uint8_t fu, bool is_yakuman);
+
+/* The greatest basic points for which a payment is given. */
+#define ZIWHAKEMO_MOST_BASIC_POINTS 152000
+
+/* Who pays what, at a table of four; 0 for who does not pay. */
+typedef struct ziwhakemo_payment_answer {
+    uint32_t number;          /* 0, or the refusal */
+    uint32_t from_non_dealer; /* by tsumo: what each other player pays who is not the dealer */
+    uint32_t from_dealer;     /* by tsumo of another than the dealer: what the dealer pays */
+    uint32_t from_discarder;  /* by ron: what the discarder pays */
+    uint64_t total;           /* what the winner gets */
+} ziwhakemo_payment_answer;
+
+/* The payment of basic points, by ZIWHAKEMO_RON or ZIWHAKEMO_TSUMO. Refuses with 8 (the win type)
+ * and 13. */
+ziwhakemo_payment_answer ziwhakemo_payment(uint32_t basic_points, bool is_dealer, uint8_t win_type);
+
+/* ---- Scores ---------------------------------------------------------------------------------- */
+
+/* The places of the yaku tallies. A tally says how often the yaku stands: 0 or 1, and 2 for the
+ * yakuhai of a wind that is both round and seat wind. Where a yakuman stands, only yakuman do. */
+enum {
+    /* 1 han */
+    ZIWHAKEMO_YAKU_RIICHI,
+    ZIWHAKEMO_YAKU_IPPATSU,
+    ZIWHAKEMO_YAKU_MENZEN_TSUMO,
+    ZIWHAKEMO_YAKU_TANYAO,
+    ZIWHAKEMO_YAKU_PINFU,
+    ZIWHAKEMO_YAKU_IIPEIKOU,
+    ZIWHAKEMO_YAKU_YAKUHAI_EAST,
+    ZIWHAKEMO_YAKU_YAKUHAI_SOUTH,
+    ZIWHAKEMO_YAKU_YAKUHAI_WEST,
+    ZIWHAKEMO_YAKU_YAKUHAI_NORTH,
+    ZIWHAKEMO_YAKU_YAKUHAI_WHITE,
+    ZIWHAKEMO_YAKU_YAKUHAI_GREEN,
+    ZIWHAKEMO_YAKU_YAKUHAI_RED,
+    ZIWHAKEMO_YAKU_RINSHAN_KAIHOU,
+    ZIWHAKEMO_YAKU_CHANKAN,
+    ZIWHAKEMO_YAKU_HAITEI_RAOYUE,
+    ZIWHAKEMO_YAKU_HOUTEI_RAOYUI,
+    /* 2 han */
+    ZIWHAKEMO_YAKU_DOUBLE_RIICHI,
+    ZIWHAKEMO_YAKU_TOITOI,
+    ZIWHAKEMO_YAKU_SANSHOKU_DOUJUN,
+    ZIWHAKEMO_YAKU_SANSHOKU_DOUKOU,
+    ZIWHAKEMO_YAKU_ITTSU,
+    ZIWHAKEMO_YAKU_CHIITOITSU,
+    ZIWHAKEMO_YAKU_CHANTA,
+    ZIWHAKEMO_YAKU_SAN_ANKOU,
+    ZIWHAKEMO_YAKU_SAN_KANTSU,
+    ZIWHAKEMO_YAKU_HONROUTOU,
+    ZIWHAKEMO_YAKU_SHOUSANGEN,
+    /* 3 han */
+    ZIWHAKEMO_YAKU_HONITSU,
+    ZIWHAKEMO_YAKU_JUNCHAN,
+    ZIWHAKEMO_YAKU_RYANPEIKOU,
+    /* 6 han */
+    ZIWHAKEMO_YAKU_CHINITSU,
+    /* yakuman */
+    ZIWHAKEMO_YAKU_TENHOU,
+    ZIWHAKEMO_YAKU_CHIIHOU,
+    ZIWHAKEMO_YAKU_KOKUSHI_MUSOU,
+    ZIWHAKEMO_YAKU_SUUANKOU,
+    ZIWHAKEMO_YAKU_DAISANGEN,
+    ZIWHAKEMO_YAKU_SHOUSUUSHII,
+    ZIWHAKEMO_YAKU_DAISUUSHII, /* double */
+    ZIWHAKEMO_YAKU_TSUUIISOU,
+    ZIWHAKEMO_YAKU_CHINROUTOU,
+    ZIWHAKEMO_YAKU_RYUUIISOU,
+    ZIWHAKEMO_YAKU_CHUUREN_POUTOU,
+    ZIWHAKEMO_YAKU_SUU_KANTSU,
+    /* double yakuman */
+    ZIWHAKEMO_YAKU_KOKUSHI_13_WAIT,
+    ZIWHAKEMO_YAKU_SUUANKOU_TANKI,
+    ZIWHAKEMO_YAKU_JUNSEI_CHUUREN_POUTOU,
+    /* how many tallies there are: 47 */
+    ZIWHAKEMO_YAKU
+};
+
+/* The score of a reading. */
+typedef struct ziwhakemo_score_answer {
+    uint32_t number;                 /* 0, or the refusal */
+    size_t reading;                  /* the number of the reading, counted from 0 */
+    uint8_t tallies[ZIWHAKEMO_YAKU]; /* how often each yaku stands */
+    uint8_t han;
+    uint8_t fu;
+    bool is_yakuman;                 /* is there a yakuman among the yaku? */
+    uint8_t level;                   /* one of the levels above */
+    uint8_t yakuman_count;           /* how many times a yakuman counts; 0 below that level */
+    uint32_t basic_points;
+    uint32_t from_non_dealer;        /* these four as in ziwhakemo_payment_answer */
+    uint32_t from_dealer;
+    uint32_t from_discarder;
+    uint64_t total;
+} ziwhakemo_score_answer;
+
+/* Scores a win by the reading with a yaku that pays most: the greatest total, then a yakuman before
+ * none, then more han, then more fu, then the earlier record. Refuses with 1 to 6, 8, 9, 10, 11. */
+ziwhakemo_score_answer ziwhakemo_score_win(const uint8_t *counts, size_t counts_length,
+                                           const ziwhakemo_meld *calls, size_t calls_length,
+                                           ziwhakemo_game_context win);
+
+/* Scores the reading with a number, counted from 0 in the order of the records, with a yaku or
+ * without: where it has none, han is 0 and the points are those of 0 han. Refuses with 1 to 6, 8,
+ * 9, 12. */
+ziwhakemo_score_answer ziwhakemo_score_reading(const uint8_t *counts, size_t counts_length,
+                                               const ziwhakemo_meld *calls, size_t calls_length,
+                                               ziwhakemo_game_context win, size_t reading);
+
+/* ---- Waits ----------------------------------------------------------------------------------- */
+
+/* The places of the wait tallies. */
+enum {
+    ZIWHAKEMO_WAIT_RYANMEN,
+    ZIWHAKEMO_WAIT_KANCHAN,
+    ZIWHAKEMO_WAIT_PENCHAN,
+    ZIWHAKEMO_WAIT_SHANPON,
+    ZIWHAKEMO_WAIT_TANKI,
+    ZIWHAKEMO_WAIT_KOKUSHI_13,
+    /* how many tallies there are: 6 */
+    ZIWHAKEMO_WAITS
+};
+
+typedef struct ziwhakemo_waits_answer {
+    uint32_t number;                /* 0, or the refusal */
+    uint8_t waits[ZIWHAKEMO_WAITS]; /* how many parts of the reading may have been won by each */
+} ziwhakemo_waits_answer;
+
+/* Names the waits of the reading with a number, counted from 0. Only a pair, a closed sequence or a
+ * closed triplet may have been completed by the winning tile. For thirteen orphans the wait is
+ * Tanki where the pair is the winning tile, else Kokushi13. Refuses with 1 to 6, 8, 9, 12. */
+ziwhakemo_waits_answer ziwhakemo_name_waits(const uint8_t *counts, size_t counts_length,
+                                            const ziwhakemo_meld *calls, size_t calls_length,
+                                            ziwhakemo_game_context win, size_t reading);
+
+/* ---- Layout -------------------------------------------------------------------------------------
+ *
+ * The sizes of these structs in the library. Where a compiler lays them out otherwise (another
+ * machine, packed structs), it stops at the line that does not fit.
+ */
+#define ZIWHAKEMO_FITS(type, size) typedef char type##_fits[sizeof(type) == (size) ? 1 : -1]
+ZIWHAKEMO_FITS(ziwhakemo_meld, 2);
+ZIWHAKEMO_FITS(ziwhakemo_game_context, 12);
+ZIWHAKEMO_FITS(ziwhakemo_listing_answer, 24);
+ZIWHAKEMO_FITS(ziwhakemo_level_answer, 2);
+ZIWHAKEMO_FITS(ziwhakemo_payment_answer, 24);
+ZIWHAKEMO_FITS(ziwhakemo_score_answer, 96);
+ZIWHAKEMO_FITS(ziwhakemo_waits_answer, 12);
+#undef ZIWHAKEMO_FITS
+
+#ifdef __cplusplus
+}
+#endif
+
+#endif

@@ -1,0 +1,396 @@
+//! The library as C sees it (`include/ziwhakemo.h`), and a safe function for each of its own. All
+//! `unsafe` of this crate is here.
+
+/// A meld: the number of its lowest tile, and its kind.
+#[repr(C)]
+#[derive(Clone, Copy, Debug, PartialEq, Eq)]
+pub struct Meld {
+    pub tile: u8,
+    pub kind: u8,
+}
+
+/// A win, apart from its hand.
+#[repr(C)]
+#[derive(Clone, Copy, Debug)]
+pub struct GameContext {
+    pub win_type: u8,
+    pub winning_tile: u8,
+    pub round_wind: u8,
+    pub seat_wind: u8,
+    pub is_riichi: bool,
+    pub is_double_riichi: bool,
+    pub is_ippatsu: bool,
+    pub is_rinshan: bool,
+    pub is_chankan: bool,
+    pub is_last_tile: bool,
+    pub is_tenhou: bool,
+    pub is_chiihou: bool,
+}
+
+/// The answer to a listing: 0 with what was written, or a refusal's number alone.
+#[repr(C)]
+#[derive(Clone, Copy, Debug, PartialEq, Eq)]
+pub struct ListingAnswer {
+    pub number: usize,
+    pub readings: usize,
+    pub bytes: usize,
+}
+
+/// A level, and how many times a yakuman counts.
+#[repr(C)]
+#[derive(Clone, Copy, Debug, PartialEq, Eq)]
+pub struct LevelAnswer {
+    pub level: u8,
+    pub count: u8,
+}
+
+/// The answer to a payment: 0 with the amounts, or a refusal's number alone.
+#[repr(C)]
+#[derive(Clone, Copy, Debug, PartialEq, Eq)]
+pub struct PaymentAnswer {
+    pub number: u32,
+    pub from_non_dealer: u32,
+    pub from_dealer: u32,
+    pub from_discarder: u32,
+    pub total: u64,
+}
+
+/// The answer to a scored win or reading: 0 with the score, or a refusal's number alone. The yakuman
+/// flag is C's `bool`, taken as a byte, so that no value of it is invalid here.
+#[repr(C)]
+#[derive(Clone, Copy, Debug, PartialEq, Eq)]
+pub struct ScoreAnswer {
+    pub number: u32,
+    pub reading: usize,
+    pub tallies: [u8; 47],
+    pub han: u8,
+    pub fu: u8,
+    pub is_yakuman: u8,
+    pub level: u8,
+    pub yakuman_count: u8,
+    pub basic_points: u32,
+    pub from_non_dealer: u32,
+    pub from_dealer: u32,
+    pub from_discarder: u32,
+    pub total: u64,
+}
+
+/// The answer to naming waits: 0 with the tallies, or a refusal's number alone.
+#[repr(C)]
+#[derive(Clone, Copy, Debug, PartialEq, Eq)]
+pub struct WaitsAnswer {
+    pub number: u32,
+    pub waits: [u8; 6],
+}
+
+// Each declaration is that of the header: a lent slice is a pointer and a count.
+unsafe extern "C" {
+    fn ziwhakemo_list_readings(
+        counts: *const u8,
+        counts_length: usize,
+        calls: *const Meld,
+        calls_length: usize,
+        out: *mut u8,
+        out_length: usize,
+    ) -> ListingAnswer;
+    fn ziwhakemo_score_win(
+        counts: *const u8,
+        counts_length: usize,
+        calls: *const Meld,
+        calls_length: usize,
+        win: GameContext,
+    ) -> ScoreAnswer;
+    fn ziwhakemo_score_reading(
+        counts: *const u8,
+        counts_length: usize,
+        calls: *const Meld,
+        calls_length: usize,
+        win: GameContext,
+        reading: usize,
+    ) -> ScoreAnswer;
+    fn ziwhakemo_name_waits(
+        counts: *const u8,
+        counts_length: usize,
+        calls: *const Meld,
+        calls_length: usize,
+        win: GameContext,
+        reading: usize,
+    ) -> WaitsAnswer;
+
+    // Safe: these take plain values, any of them, and no pointer.
+    safe fn ziwhakemo_score_level(han: u8, fu: u8, is_yakuman: bool) -> LevelAnswer;
+    safe fn ziwhakemo_basic_points(han: u8, fu: u8, is_yakuman: bool) -> u32;
+    safe fn ziwhakemo_payment(basic_points: u32, is_dealer: bool, win_type: u8) -> PaymentAnswer;
+}
+
+/// Lists the readings of a hand into the lent buffer.
+pub fn list_readings(counts: &[u8], calls: &[Meld], out: &mut [u8]) -> ListingAnswer {
+    // SAFETY: three slices, each handed over as its pointer and its length. `out` is borrowed alone, so
+    // it overlaps neither of the others. The library keeps no pointer.
+    unsafe {
+        ziwhakemo_list_readings(
+            counts.as_ptr(),
+            counts.len(),
+            calls.as_ptr(),
+            calls.len(),
+            out.as_mut_ptr(),
+            out.len(),
+        )
+    }
+}
+
+/// Scores a win.
+pub fn score_win(counts: &[u8], calls: &[Meld], win: GameContext) -> ScoreAnswer {
+    // SAFETY: two slices, each handed over as its pointer and its length, which are only read. The
+    // flags of a `GameContext` are bools. The library keeps no pointer.
+    unsafe {
+        ziwhakemo_score_win(
+            counts.as_ptr(),
+            counts.len(),
+            calls.as_ptr(),
+            calls.len(),
+            win,
+        )
+    }
+}
+
+/// Scores the reading with a number.
+pub fn score_reading(
+    counts: &[u8],
+    calls: &[Meld],
+    win: GameContext,
+    reading: usize,
+) -> ScoreAnswer {
+    // SAFETY: as for `score_win`. Any number may be asked for.
+    unsafe {
+        ziwhakemo_score_reading(
+            counts.as_ptr(),
+            counts.len(),
+            calls.as_ptr(),
+            calls.len(),
+            win,
+            reading,
+        )
+    }
+}
+
+/// Names the waits of the reading with a number.
+pub fn name_waits(counts: &[u8], calls: &[Meld], win: GameContext, reading: usize) -> WaitsAnswer {
+    // SAFETY: as for `score_win`. Any number may be asked for.
+    unsafe {
+        ziwhakemo_name_waits(
+            counts.as_ptr(),
+            counts.len(),
+            calls.as_ptr(),
+            calls.len(),
+            win,
+            reading,
+        )
+    }
+}
+
+/// The level of han and fu.
+pub fn score_level(han: u8, fu: u8, is_yakuman: bool) -> LevelAnswer {
+    ziwhakemo_score_level(han, fu, is_yakuman)
+}
+
+/// The basic points of han and fu.
+pub fn basic_points(han: u8, fu: u8, is_yakuman: bool) -> u32 {
+    ziwhakemo_basic_points(han, fu, is_yakuman)
+}
+
+/// The payment of basic points.
+pub fn payment(basic_points: u32, is_dealer: bool, win_type: u8) -> PaymentAnswer {
+    ziwhakemo_payment(basic_points, is_dealer, win_type)
+}
+
+#[cfg(test)]
+mod tests {
+    use super::*;
+    use std::mem::{align_of, offset_of, size_of};
+    use std::ptr;
+
+    const SOU_8: u8 = 25;
+
+    /// man 222 333 444, pin 567, sou 88: two readings, 26 bytes.
+    fn spring_final() -> [u8; 34] {
+        let mut counts = [0; 34];
+        counts[1..4].fill(3);
+        counts[13..16].fill(1);
+        counts[usize::from(SOU_8)] = 2;
+        counts
+    }
+
+    fn ron(winning_tile: u8) -> GameContext {
+        GameContext {
+            win_type: 0,
+            winning_tile,
+            round_wind: 27,
+            seat_wind: 28,
+            is_riichi: false,
+            is_double_riichi: false,
+            is_ippatsu: false,
+            is_rinshan: false,
+            is_chankan: false,
+            is_last_tile: false,
+            is_tenhou: false,
+            is_chiihou: false,
+        }
+    }
+
+    #[test]
+    fn structs_are_laid_out_as_in_c() {
+        assert_eq!((size_of::<Meld>(), align_of::<Meld>()), (2, 1));
+        let context = (size_of::<GameContext>(), align_of::<GameContext>());
+        assert_eq!(context, (12, 1));
+        assert_eq!(size_of::<ListingAnswer>(), 24);
+        assert_eq!(size_of::<LevelAnswer>(), 2);
+        assert_eq!(size_of::<PaymentAnswer>(), 24);
+        assert_eq!(size_of::<WaitsAnswer>(), 12);
+        assert_eq!(size_of::<ScoreAnswer>(), 96);
+        assert_eq!(offset_of!(ScoreAnswer, tallies), 16);
+        assert_eq!(offset_of!(ScoreAnswer, han), 63);
+        assert_eq!(offset_of!(ScoreAnswer, basic_points), 68);
+        assert_eq!(offset_of!(ScoreAnswer, total), 88);
+    }
+
+    #[test]
+    fn a_buffer_of_any_length_is_filled_or_left() {
+        let counts = spring_final();
+        let mut whole = [0; 26];
+        assert_eq!(list_readings(&counts, &[], &mut whole).number, 0);
+        for length in 0..=60 {
+            // Bytes on both sides of what is lent, which have to stay too.
+            let mut buffer = [0xa5; 64 + 60 + 64];
+            let answer = list_readings(&counts, &[], &mut buffer[64..64 + length]);
+            let mut expected = [0xa5; 64 + 60 + 64];
+            let (number, readings, bytes) = match length < whole.len() {
+                true => (7, 0, 0),
+                false => (0, 2, whole.len()),
+            };
+            expected[64..64 + bytes].copy_from_slice(&whole[..bytes]);
+            let expected_answer = ListingAnswer {
+                number,
+                readings,
+                bytes,
+            };
+            assert_eq!(answer, expected_answer, "{length} bytes lent");
+            assert_eq!(buffer, expected, "{length} bytes lent");
+        }
+    }
+
+    #[test]
+    fn a_refusal_leaves_a_long_buffer() {
+        let mut buffer = [0xa5; 1467];
+        let answer = list_readings(&[0; 33], &[], &mut buffer);
+        assert_eq!((answer.number, answer.readings, answer.bytes), (1, 0, 0));
+        assert_eq!(buffer, [0xa5; 1467]);
+    }
+
+    #[test]
+    fn null_is_taken_where_nothing_is_lent() {
+        let counts = spring_final();
+        // SAFETY: each count that goes with a null pointer is 0.
+        let answers = unsafe {
+            [
+                ziwhakemo_list_readings(ptr::null(), 0, ptr::null(), 0, ptr::null_mut(), 0),
+                ziwhakemo_list_readings(counts.as_ptr(), 34, ptr::null(), 0, ptr::null_mut(), 0),
+            ]
+        };
+        assert_eq!(answers.map(|answer| answer.number), [1, 7]);
+    }
+
+    #[test]
+    fn win_types_that_are_none_are_refused() {
+        let counts = spring_final();
+        for win_type in 2..=255 {
+            let win = GameContext {
+                win_type,
+                ..ron(SOU_8)
+            };
+            assert_eq!(score_win(&counts, &[], win).number, 8);
+            assert_eq!(score_reading(&counts, &[], win, 0).number, 8);
+            assert_eq!(name_waits(&counts, &[], win, 0).number, 8);
+            assert_eq!(payment(2000, false, win_type).number, 8);
+            // 8 comes before 13.
+            assert_eq!(payment(152_001, false, win_type).number, 8);
+        }
+    }
+
+    #[test]
+    fn every_field_of_a_score_is_where_it_is_expected() {
+        let mut tallies = [0; 47];
+        tallies[3] = 1; // Tanyao
+        tallies[24] = 1; // SanAnkou
+        let expected = ScoreAnswer {
+            number: 0,
+            reading: 1,
+            tallies,
+            han: 3,
+            fu: 50,
+            is_yakuman: 0,
+            level: 0,
+            yakuman_count: 0,
+            basic_points: 1600,
+            from_non_dealer: 0,
+            from_dealer: 0,
+            from_discarder: 6400,
+            total: 6400,
+        };
+        assert_eq!(score_win(&spring_final(), &[], ron(SOU_8)), expected);
+
+        // By tsumo it is four concealed triplets on a pair wait: a double yakuman.
+        let mut triplets = [0; 34];
+        triplets[1..4].fill(3);
+        triplets[13] = 3;
+        triplets[usize::from(SOU_8)] = 2;
+        let tsumo = GameContext {
+            win_type: 1,
+            ..ron(SOU_8)
+        };
+        let mut tallies = [0; 47];
+        tallies[45] = 1; // SuuankouTanki
+        let expected = ScoreAnswer {
+            number: 0,
+            reading: 1,
+            tallies,
+            han: 26,
+            fu: 40,
+            is_yakuman: 1,
+            level: 5,
+            yakuman_count: 2,
+            basic_points: 16_000,
+            from_non_dealer: 16_000,
+            from_dealer: 32_000,
+            from_discarder: 0,
+            total: 64_000,
+        };
+        assert_eq!(score_win(&triplets, &[], tsumo), expected);
+    }
+
+    #[test]
+    fn a_refused_answer_is_its_number_alone() {
+        let nothing = ScoreAnswer {
+            number: 9,
+            reading: 0,
+            tallies: [0; 47],
+            han: 0,
+            fu: 0,
+            is_yakuman: 0,
+            level: 0,
+            yakuman_count: 0,
+            basic_points: 0,
+            from_non_dealer: 0,
+            from_dealer: 0,
+            from_discarder: 0,
+            total: 0,
+        };
+        let counts = spring_final();
+        for tile in 34..=255 {
+            assert_eq!(score_win(&counts, &[], ron(tile)), nothing);
+            assert_eq!(score_reading(&counts, &[], ron(tile), 0), nothing);
+            let waits = name_waits(&counts, &[], ron(tile), 0);
+            assert_eq!((waits.number, waits.waits), (9, [0; 6]));
+        }
+    }
+}

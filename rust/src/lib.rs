@@ -1,0 +1,54 @@
+//! A score unit for riichi mahjong tables, proved, in agari's vocabulary.
+//!
+//! The work is done by `libziwhakemo.a`, whose functions are proved to answer as their definitions say
+//! on every input. This crate turns agari's types into the library's numbers and back, and decides
+//! nothing itself. `README.md` says call by call what stands for what in agari.
+//!
+//! A hand is 34 counts by tile number, of the tiles that are not called, the winning tile included
+//! ([`to_counts`]). Calls are melds in any order. Input that cannot be scored is a [`Refusal`].
+//!
+//! ```
+//! use ziwhakemo::{GameContext, Honor, Suit, Tile, WinType, decompose_hand, score_win, to_counts};
+//!
+//! // man 222 333 444, pin 567, sou 88, ron on sou 8
+//! let tile = |suit, value| Tile::suited(suit, value);
+//! let man = [2, 2, 2, 3, 3, 3, 4, 4, 4].map(|value| tile(Suit::Man, value));
+//! let pin = [5, 6, 7].map(|value| tile(Suit::Pin, value));
+//! let sou = [8, 8].map(|value| tile(Suit::Sou, value));
+//! let counts = to_counts(&[&man[..], &pin, &sou].concat()).unwrap();
+//! let context = GameContext::new(WinType::Ron, Honor::East, Honor::South)
+//!     .with_winning_tile(tile(Suit::Sou, 8));
+//!
+//! let win = score_win(&counts, &[], &context)?;
+//! assert_eq!((win.result.han, win.result.fu.total), (3, 50));
+//! assert_eq!(win.result.payment.total, 6400);
+//! println!("{:?}", decompose_hand(&counts, &[])?[win.reading]);
+//! # Ok::<(), ziwhakemo::Refusal>(())
+//! ```
+#![deny(unsafe_code)]
+#![warn(missing_docs)]
+
+pub mod context;
+#[allow(unsafe_code)]
+mod ffi;
+pub mod hand;
+pub mod record;
+pub mod refusal;
+pub mod scoring;
+pub mod tile;
+pub mod wait;
+pub mod yaku;
+
+pub use context::{GameContext, WinType};
+pub use hand::{HandStructure, KanType, Listing, Meld, decompose_hand, list_readings};
+pub use refusal::Refusal;
+pub use scoring::{
+    FuResult, Payment, ScoreLevel, ScoredWin, ScoringResult, calculate_basic_points,
+    calculate_payment, determine_score_level, score_reading, score_win,
+};
+pub use tile::{Honor, Suit, Tile, TileCounts, counts_of, to_counts};
+pub use wait::{WaitType, detect_wait_types};
+pub use yaku::{Yaku, YakuResult};
+
+/// What is said where the library answers with a number that has no meaning here.
+const OTHER_VERSION: &str = "libziwhakemo.a is not of the version that this crate was written for";

@@ -1,0 +1,56 @@
+//! The records of readings.
+//!
+//! A record is its length and its kind, two bytes each, the low byte first, and then for kind 1 (seven
+//! pairs) seven tiles, for kind 2 (thirteen orphans) the tile that is there twice, for kind 3 the pair's
+//! tile and four melds of two bytes, tile and kind.
+
+use crate::hand::{HandStructure, Meld};
+use crate::tile::Tile;
+
+/// A buffer of so many bytes holds the records of any hand.
+pub const ALWAYS_ENOUGH: usize = 1467;
+
+/// The bytes before the content: length and kind.
+const HEAD: usize = 4;
+
+/// The readings of records, or nothing where the bytes are not whole records.
+pub fn decode(mut bytes: &[u8]) -> Option<Vec<HandStructure>> {
+    let mut readings = Vec::new();
+    while !bytes.is_empty() {
+        let &[low, high, ..] = bytes else {
+            return None;
+        };
+        let length = usize::from(u16::from_le_bytes([low, high]));
+        let (record, rest) = bytes.split_at_checked(length)?;
+        readings.push(reading(record)?);
+        bytes = rest;
+    }
+    Some(readings)
+}
+
+/// The reading of one record.
+fn reading(record: &[u8]) -> Option<HandStructure> {
+    let (head, content) = record.split_at_checked(HEAD)?;
+    match (u16::from_le_bytes([head[2], head[3]]), content) {
+        (1, [_, _, _, _, _, _, _]) => Some(HandStructure::Chiitoitsu {
+            pairs: tiles(content)?,
+        }),
+        (2, &[pair]) => Some(HandStructure::Kokushi {
+            pair: Tile::from_number(pair)?,
+        }),
+        (3, &[pair, ref melds @ ..]) if melds.len() == 8 => Some(HandStructure::Standard {
+            melds: melds.chunks(2).map(meld).collect::<Option<_>>()?,
+            pair: Tile::from_number(pair)?,
+        }),
+        _ => None,
+    }
+}
+
+fn tiles(numbers: &[u8]) -> Option<Vec<Tile>> {
+    numbers.iter().copied().map(Tile::from_number).collect()
+}
+
+/// The meld of two bytes.
+fn meld(bytes: &[u8]) -> Option<Meld> {
+    Meld::of(Tile::from_number(bytes[0])?, bytes[1])
+}

@@ -1,0 +1,130 @@
+//! Why a call is refused.
+
+use crate::OTHER_VERSION;
+use std::error::Error;
+use std::fmt;
+
+/// A refusal: the first of the checks, in this order, that the input does not pass. Nothing was scored
+/// and nothing was written.
+#[derive(Debug, Clone, Copy, PartialEq, Eq, Hash, PartialOrd, Ord)]
+#[repr(u8)]
+pub enum Refusal {
+    /// The counts are not 34 long.
+    CountsLength = 1,
+    /// More than four calls.
+    TooManyCalls = 2,
+    /// A call's kind or tile is not that of a call. A closed sequence or a closed triplet is no call,
+    /// and a sequence starts at 1 to 7 of a suit.
+    NotACall = 3,
+    /// A count above 4.
+    CountAboveFour = 4,
+    /// Hand and calls together hold more than four of a kind.
+    FiveOfAKind = 5,
+    /// The hand's tiles are not 14 - 3 × calls. Only finished hands are read.
+    NumberOfTiles = 6,
+    /// The records need more bytes than were lent.
+    BufferTooShort = 7,
+    /// The win type or a wind is out of range. Here: the round or the seat wind is a dragon.
+    OutOfRange = 8,
+    /// The winning tile is missing, no tile, or not in the hand.
+    WinningTile = 9,
+    /// The hand has no reading.
+    NoReading = 10,
+    /// No reading has a yaku.
+    NoYaku = 11,
+    /// There are not more readings than the number asked for.
+    NoSuchReading = 12,
+    /// Basic points above 152,000.
+    BasicPoints = 13,
+}
+
+impl Refusal {
+    /// All refusals, by their numbers from 1 to 13.
+    pub const ALL: [Refusal; 13] = [
+        Refusal::CountsLength,
+        Refusal::TooManyCalls,
+        Refusal::NotACall,
+        Refusal::CountAboveFour,
+        Refusal::FiveOfAKind,
+        Refusal::NumberOfTiles,
+        Refusal::BufferTooShort,
+        Refusal::OutOfRange,
+        Refusal::WinningTile,
+        Refusal::NoReading,
+        Refusal::NoYaku,
+        Refusal::NoSuchReading,
+        Refusal::BasicPoints,
+    ];
+
+    /// Its number, from 1 to 13.
+    pub fn number(self) -> u8 {
+        self as u8
+    }
+
+    /// The refusal with a number.
+    pub fn from_number(number: u8) -> Option<Refusal> {
+        let place = usize::from(number).checked_sub(1)?;
+        Refusal::ALL.get(place).copied()
+    }
+
+    /// What it means.
+    pub fn meaning(self) -> &'static str {
+        match self {
+            Refusal::CountsLength => "the counts are not 34 long",
+            Refusal::TooManyCalls => "more than four calls",
+            Refusal::NotACall => "a call's kind or tile is not that of a call",
+            Refusal::CountAboveFour => "a count above 4",
+            Refusal::FiveOfAKind => "hand and calls together hold more than four of a kind",
+            Refusal::NumberOfTiles => "the hand's tiles are not 14 - 3 × calls",
+            Refusal::BufferTooShort => "the records need more bytes than were lent",
+            Refusal::OutOfRange => "the win type or a wind is out of range",
+            Refusal::WinningTile => "the winning tile is no tile or not in the hand",
+            Refusal::NoReading => "the hand has no reading",
+            Refusal::NoYaku => "no reading has a yaku",
+            Refusal::NoSuchReading => "there are not more readings than the number asked for",
+            Refusal::BasicPoints => "basic points above 152,000",
+        }
+    }
+}
+
+impl fmt::Display for Refusal {
+    fn fmt(&self, f: &mut fmt::Formatter) -> fmt::Result {
+        write!(f, "refused with {}: {}", self.number(), self.meaning())
+    }
+}
+
+impl Error for Refusal {}
+
+/// Whether the number of an answer is 0.
+pub(crate) fn accepted(number: usize) -> Result<(), Refusal> {
+    match number {
+        0 => Ok(()),
+        _ => {
+            let number = u8::try_from(number).ok();
+            Err(number.and_then(Refusal::from_number).expect(OTHER_VERSION))
+        }
+    }
+}
+
+#[cfg(test)]
+mod tests {
+    use super::*;
+
+    #[test]
+    fn numbers_and_refusals_are_one_to_one() {
+        for (place, refusal) in Refusal::ALL.into_iter().enumerate() {
+            assert_eq!(usize::from(refusal.number()), place + 1);
+            assert_eq!(Refusal::from_number(refusal.number()), Some(refusal));
+            assert_eq!(accepted(place + 1), Err(refusal));
+        }
+        assert_eq!(Refusal::from_number(0), None);
+        assert_eq!(Refusal::from_number(14), None);
+        assert_eq!(accepted(0), Ok(()));
+    }
+
+    #[test]
+    fn a_refusal_says_its_number_and_meaning() {
+        let text = Refusal::NoYaku.to_string();
+        assert_eq!(text, "refused with 11: no reading has a yaku");
+    }
+}

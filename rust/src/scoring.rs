@@ -1,0 +1,195 @@
+//! Scores, levels and payments (agari's `scoring.rs`).
+
+use crate::OTHER_VERSION;
+use crate::context::{GameContext, WinType};
+use crate::ffi;
+use crate::hand::{Meld, lent};
+use crate::refusal::{Refusal, accepted};
+use crate::yaku::YakuResult;
+
+/// A level.
+#[derive(Debug, Clone, Copy, PartialEq, Eq, PartialOrd, Ord)]
+pub enum ScoreLevel {
+    /// Below mangan
+    Normal,
+    /// 5 han, 4 han and at least 40 fu, or 3 han and at least 70 fu
+    Mangan,
+    /// 6 and 7 han
+    Haneman,
+    /// 8 to 10 han
+    Baiman,
+    /// 11 and 12 han
+    Sanbaiman,
+    /// Yakuman, and how many times it counts. 13 or more han without a yakuman count once
+    Yakuman(u8),
+}
+
+impl ScoreLevel {
+    /// The level of the library's numbers.
+    fn of(level: u8, count: u8) -> ScoreLevel {
+        match level {
+            0 => ScoreLevel::Normal,
+            1 => ScoreLevel::Mangan,
+            2 => ScoreLevel::Haneman,
+            3 => ScoreLevel::Baiman,
+            4 => ScoreLevel::Sanbaiman,
+            5 => ScoreLevel::Yakuman(count),
+            _ => panic!("{OTHER_VERSION}"),
+        }
+    }
+
+    /// The name that agari displays; nothing for Normal
+    pub fn name(&self) -> String {
+        match self {
+            ScoreLevel::Normal => String::new(),
+            ScoreLevel::Yakuman(1) => "Yakuman".to_string(),
+            ScoreLevel::Yakuman(2) => "Double Yakuman".to_string(),
+            ScoreLevel::Yakuman(3) => "Triple Yakuman".to_string(),
+            ScoreLevel::Yakuman(4) => "Quadruple Yakuman".to_string(),
+            ScoreLevel::Yakuman(n) => format!("{n}× Yakuman"),
+            level => format!("{level:?}"),
+        }
+    }
+}
+
+/// Fu. The library answers the total alone.
+#[derive(Debug, Clone, Copy, PartialEq, Eq)]
+pub struct FuResult {
+    /// Total fu, rounded
+    pub total: u8,
+}
+
+/// Who pays what, at a table of four.
+#[derive(Debug, Clone, Copy, PartialEq, Eq)]
+pub struct Payment {
+    /// What the winner gets
+    pub total: u32,
+    /// By tsumo: what each other player pays who is not the dealer
+    pub from_non_dealer: Option<u32>,
+    /// By tsumo, where the winner is not the dealer: what the dealer pays
+    pub from_dealer: Option<u32>,
+    /// By ron: what the discarder pays
+    pub from_discarder: Option<u32>,
+}
+
+impl Payment {
+    /// The payment of the library's amounts, in which 0 stands for who does not pay.
+    fn of(amounts: ffi::PaymentAnswer, is_dealer: bool, win_type: WinType) -> Payment {
+        let is_tsumo = win_type == WinType::Tsumo;
+        Payment {
+            total: amounts.total.try_into().expect(OTHER_VERSION),
+            from_non_dealer: is_tsumo.then_some(amounts.from_non_dealer),
+            from_dealer: (is_tsumo && !is_dealer).then_some(amounts.from_dealer),
+            from_discarder: (!is_tsumo).then_some(amounts.from_discarder),
+        }
+    }
+}
+
+/// What a reading scores.
+#[derive(Debug, Clone, Copy, PartialEq, Eq)]
+pub struct ScoringResult {
+    /// Fu
+    pub fu: FuResult,
+    /// Han
+    pub han: u8,
+    /// The level of han and fu
+    pub score_level: ScoreLevel,
+    /// The basic points of han and fu
+    pub basic_points: u32,
+    /// Who pays what
+    pub payment: Payment,
+    /// Is the winner the dealer?
+    pub is_dealer: bool,
+    /// Is it a yakuman by 13 or more han alone?
+    pub is_counted_yakuman: bool,
+}
+
+/// A scored win or reading.
+#[derive(Debug, Clone, PartialEq, Eq)]
+pub struct ScoredWin {
+    /// The number of the reading: its place in what [`decompose_hand`](crate::decompose_hand) answers
+    pub reading: usize,
+    /// Its yaku
+    pub yaku_result: YakuResult,
+    /// Its han, fu, level, basic points and payment
+    pub result: ScoringResult,
+}
+
+impl ScoredWin {
+    fn of(answer: &ffi::ScoreAnswer, context: &GameContext) -> Result<ScoredWin, Refusal> {
+        accepted(answer.number as usize)?;
+        let yaku_result = YakuResult::of(answer);
+        let score_level = ScoreLevel::of(answer.level, answer.yakuman_count);
+        let amounts = ffi::PaymentAnswer {
+            number: answer.number,
+            from_non_dealer: answer.from_non_dealer,
+            from_dealer: answer.from_dealer,
+            from_discarder: answer.from_discarder,
+            total: answer.total,
+        };
+        let is_counted_yakuman =
+            matches!(score_level, ScoreLevel::Yakuman(_)) && !yaku_result.is_yakuman;
+        Ok(ScoredWin {
+            reading: answer.reading,
+            yaku_result,
+            result: ScoringResult {
+                fu: FuResult { total: answer.fu },
+                han: answer.han,
+                score_level,
+                basic_points: answer.basic_points,
+                payment: Payment::of(amounts, context.is_dealer(), context.win_type),
+                is_dealer: context.is_dealer(),
+                is_counted_yakuman,
+            },
+        })
+    }
+}
+
+/// Scores a win by the reading with a yaku that pays most: the greatest total, then a yakuman before none,
+/// then more han, then more fu, then the earlier record.
+///
+/// Refuses with 1 to 6, 8, 9, 10, 11.
+pub fn score_win(
+    counts: &[u8],
+    calls: &[Meld],
+    context: &GameContext,
+) -> Result<ScoredWin, Refusal> {
+    let answer = ffi::score_win(counts, &lent(calls), context.lent());
+    ScoredWin::of(&answer, context)
+}
+
+/// Scores reading number `n` of [`decompose_hand`](crate::decompose_hand), with a yaku or without: where
+/// it has none, han is 0 and the points are those of 0 han.
+///
+/// Refuses with 1 to 6, 8, 9, 12.
+pub fn score_reading(
+    counts: &[u8],
+    calls: &[Meld],
+    context: &GameContext,
+    n: usize,
+) -> Result<ScoredWin, Refusal> {
+    let answer = ffi::score_reading(counts, &lent(calls), context.lent(), n);
+    ScoredWin::of(&answer, context)
+}
+
+/// The level of han and fu, with or without a yakuman. Refuses nothing.
+pub fn determine_score_level(han: u8, fu: u8, is_yakuman: bool) -> ScoreLevel {
+    let answer = ffi::score_level(han, fu, is_yakuman);
+    ScoreLevel::of(answer.level, answer.count)
+}
+
+/// The basic points of han and fu, with or without a yakuman. Refuses nothing.
+pub fn calculate_basic_points(han: u8, fu: u8, is_yakuman: bool) -> u32 {
+    ffi::basic_points(han, fu, is_yakuman)
+}
+
+/// The payment of basic points. Refuses with 13.
+pub fn calculate_payment(
+    basic_points: u32,
+    is_dealer: bool,
+    win_type: WinType,
+) -> Result<Payment, Refusal> {
+    let answer = ffi::payment(basic_points, is_dealer, win_type.number());
+    accepted(answer.number as usize)?;
+    Ok(Payment::of(answer, is_dealer, win_type))
+}

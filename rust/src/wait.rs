@@ -1,0 +1,71 @@
+//! The waits of a reading (agari's `wait.rs`).
+
+use crate::context::GameContext;
+use crate::ffi;
+use crate::hand::{Meld, lent};
+use crate::refusal::{Refusal, accepted};
+
+/// A wait.
+#[derive(Debug, Clone, Copy, PartialEq, Eq, Hash)]
+pub enum WaitType {
+    /// Two-sided sequence wait
+    Ryanmen,
+    /// Middle wait
+    Kanchan,
+    /// Edge wait
+    Penchan,
+    /// Wait of two pairs, one of which becomes a triplet
+    Shanpon,
+    /// Pair wait
+    Tanki,
+    /// As agari names it: thirteen orphans, won on another tile than that of the pair
+    Kokushi13,
+}
+
+impl WaitType {
+    /// The waits in the order of the tallies.
+    pub const ALL: [WaitType; 6] = [
+        WaitType::Ryanmen,
+        WaitType::Kanchan,
+        WaitType::Penchan,
+        WaitType::Shanpon,
+        WaitType::Tanki,
+        WaitType::Kokushi13,
+    ];
+
+    /// The fu that it adds
+    pub fn fu(&self) -> u8 {
+        match self {
+            WaitType::Kanchan | WaitType::Penchan | WaitType::Tanki => 2,
+            WaitType::Ryanmen | WaitType::Shanpon | WaitType::Kokushi13 => 0,
+        }
+    }
+
+    /// Does more than one tile complete it?
+    pub fn is_good_wait(&self) -> bool {
+        self.fu() == 0
+    }
+}
+
+/// The waits of reading number `n` of [`decompose_hand`](crate::decompose_hand), in the order of
+/// [`WaitType::ALL`], each once for each part of the reading that the winning tile may have completed.
+///
+/// Refuses with 1 to 6, 8, 9, 12.
+pub fn detect_wait_types(
+    counts: &[u8],
+    calls: &[Meld],
+    context: &GameContext,
+    n: usize,
+) -> Result<Vec<WaitType>, Refusal> {
+    let answer = ffi::name_waits(counts, &lent(calls), context.lent(), n);
+    accepted(answer.number as usize)?;
+    Ok(each_as_often(&WaitType::ALL, &answer.waits))
+}
+
+/// The entries, each as often as its tally says.
+pub(crate) fn each_as_often<T: Copy>(entries: &[T], tallies: &[u8]) -> Vec<T> {
+    let pairs = entries.iter().zip(tallies);
+    pairs
+        .flat_map(|(&entry, &tally)| std::iter::repeat_n(entry, tally.into()))
+        .collect()
+}
