@@ -1,13 +1,15 @@
-//! agari's side of scores and points, in the shape in which the probe answers.
+//! agari's side of scores and points, in the shape in which the proved code answers.
 
 use crate::agari::{self, Record};
 use crate::hand::*;
-use crate::probe::*;
+use crate::library::{Level, PaymentAnswer, RON, Score, TSUMO, WAITS, Win, YAKU};
+use crate::probe::{Reading, ReadingScore};
 use agari_core::context::{GameContext, WinType};
 use agari_core::hand::HandStructure;
 use agari_core::parse::TileCounts;
 use agari_core::scoring::{
-    ScoreLevel, calculate_basic_points, calculate_fu, calculate_payment, determine_score_level,
+    Payment, ScoreLevel, calculate_basic_points, calculate_fu, calculate_payment, calculate_score,
+    determine_score_level,
 };
 use agari_core::tile::Honor;
 use agari_core::wait::{WaitType, detect_wait_types};
@@ -98,18 +100,59 @@ impl ReadHand {
         }
     }
 
-    /// agari's score of one of the readings.
+    /// agari's score of one of the readings, before points.
     pub fn score(&self, reading: &HandStructure, win: &Win) -> ReadingScore {
         let context = context(win, self.is_open);
         let yaku = detect_yaku_with_context(reading, &self.agari_counts, &context);
         ReadingScore {
             tallies: yaku_tallies(&yaku.yaku_list),
-            waits: wait_tallies(&detect_wait_types(reading, agari::tile(win.winning_tile))),
+            waits: waits(reading, win),
             han: yaku.total_han,
             fu: calculate_fu(reading, &context).total,
             is_yakuman: u8::from(yaku.is_yakuman),
         }
     }
+
+    /// agari's whole score of each reading.
+    pub fn scores(&self, win: &Win) -> Vec<Score> {
+        let context = context(win, self.is_open);
+        let readings = self.readings.iter().enumerate();
+        readings
+            .map(|(number, (_, reading))| self.whole_score(number, reading, &context))
+            .collect()
+    }
+
+    fn whole_score(&self, number: usize, reading: &HandStructure, context: &GameContext) -> Score {
+        let yaku = detect_yaku_with_context(reading, &self.agari_counts, context);
+        let result = calculate_score(reading, &yaku, context);
+        let level = level_numbers(result.score_level);
+        let paid = paid(&result.payment);
+        Score {
+            number: 0,
+            reading: number,
+            tallies: yaku_tallies(&yaku.yaku_list),
+            han: result.han,
+            fu: result.fu.total,
+            is_yakuman: u8::from(yaku.is_yakuman),
+            level: level.level,
+            yakuman_count: level.count,
+            basic_points: result.basic_points,
+            from_non_dealer: paid.from_non_dealer,
+            from_dealer: paid.from_dealer,
+            from_discarder: paid.from_discarder,
+            total: paid.total,
+        }
+    }
+
+    /// agari's waits of each reading.
+    pub fn waits(&self, win: &Win) -> Vec<[u8; WAITS]> {
+        let readings = self.readings.iter();
+        readings.map(|(_, reading)| waits(reading, win)).collect()
+    }
+}
+
+fn waits(reading: &HandStructure, win: &Win) -> [u8; WAITS] {
+    wait_tallies(&detect_wait_types(reading, agari::tile(win.winning_tile)))
 }
 
 fn readings(hand: &Hand) -> Vec<(Reading, HandStructure)> {
@@ -127,7 +170,8 @@ fn readings(hand: &Hand) -> Vec<(Reading, HandStructure)> {
         .collect()
 }
 
-fn context(win: &Win, is_open: bool) -> GameContext {
+/// agari's circumstances of a win.
+pub fn context(win: &Win, is_open: bool) -> GameContext {
     let round_wind = agari::honor(win.round_wind);
     let seat_wind = agari::honor(win.seat_wind);
     let context = GameContext::new(win_type(win.win_type), round_wind, seat_wind);
@@ -170,7 +214,11 @@ fn wait_tallies(list: &[WaitType]) -> [u8; WAITS] {
 }
 
 pub fn level(han: u8, fu: u8, is_yakuman: bool) -> Level {
-    let (level, count) = match determine_score_level(han, fu, is_yakuman) {
+    level_numbers(determine_score_level(han, fu, is_yakuman))
+}
+
+fn level_numbers(level: ScoreLevel) -> Level {
+    let (level, count) = match level {
         ScoreLevel::Normal => (0, 0),
         ScoreLevel::Mangan => (1, 0),
         ScoreLevel::Haneman => (2, 0),
@@ -193,7 +241,14 @@ pub fn payment(basic_points: u32, is_dealer: bool, win_type: u8) -> PaymentAnswe
     if basic_points > MOST_BASIC_POINTS {
         return refused(13);
     }
-    let payment = calculate_payment(basic_points, is_dealer, self::win_type(win_type));
+    paid(&calculate_payment(
+        basic_points,
+        is_dealer,
+        self::win_type(win_type),
+    ))
+}
+
+fn paid(payment: &Payment) -> PaymentAnswer {
     PaymentAnswer {
         number: 0,
         total: payment.total.into(),

@@ -2,9 +2,12 @@
 
 pub mod agari;
 pub mod agari_scores;
+pub mod agari_wins;
+pub mod arguments;
 pub mod checker;
 pub mod damage;
 pub mod every;
+pub mod faults;
 pub mod hand;
 pub mod library;
 pub mod oracle;
@@ -14,6 +17,12 @@ pub mod random;
 pub mod readings;
 pub mod rng;
 pub mod score_tally;
+pub mod scored_wins;
 pub mod scores;
+pub mod stored;
 pub mod tally;
+pub mod win_checker;
+pub mod win_damage;
+pub mod win_oracle;
+pub mod win_tally;
 pub mod wins;

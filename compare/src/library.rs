@@ -1,5 +1,18 @@
 //! The proved library, by its C interface.
 
+/// The number of yaku tallies: one for each entry of `Yaku`, Yakuhai apart for each honour, without
+/// the three local entries.
+pub const YAKU: usize = 47;
+/// The number of wait tallies: one for each entry of `WaitType`.
+pub const WAITS: usize = 6;
+
+// The win types.
+pub const RON: u8 = 0;
+pub const TSUMO: u8 = 1;
+
+/// The number of mixtures of win type, winds and flags.
+pub const MIXTURES: usize = 2 * 4 * 4 * 256;
+
 /// A meld: the number of its lowest tile, and its kind.
 #[repr(C)]
 #[derive(Clone, Copy, Debug, Default, PartialEq, Eq, PartialOrd, Ord)]
@@ -9,11 +22,52 @@ pub struct Meld {
 }
 
 /// The calls: the first `count` of the melds. A count above four is refused.
-#[repr(C)]
 #[derive(Clone, Copy, Debug, Default)]
 pub struct Calls {
     pub count: usize,
     pub melds: [Meld; 4],
+}
+
+/// A win, apart from its hand.
+#[repr(C)]
+#[derive(Clone, Copy, Debug, Default)]
+pub struct Win {
+    pub win_type: u8,
+    pub winning_tile: u8,
+    pub round_wind: u8,
+    pub seat_wind: u8,
+    pub is_riichi: bool,
+    pub is_double_riichi: bool,
+    pub is_ippatsu: bool,
+    pub is_rinshan: bool,
+    pub is_chankan: bool,
+    pub is_last_tile: bool,
+    pub is_tenhou: bool,
+    pub is_chiihou: bool,
+}
+
+impl Win {
+    /// The flags in the order of the fields.
+    pub fn flags(&self) -> [bool; 8] {
+        [
+            self.is_riichi,
+            self.is_double_riichi,
+            self.is_ippatsu,
+            self.is_rinshan,
+            self.is_chankan,
+            self.is_last_tile,
+            self.is_tenhou,
+            self.is_chiihou,
+        ]
+    }
+
+    /// The number of the mixture of win type, winds and flags, where they are in range.
+    pub fn mixture(&self) -> usize {
+        let winds = 4 * (self.round_wind - 27) + self.seat_wind - 27;
+        let start = 2 * usize::from(winds) + usize::from(self.win_type);
+        let flags = self.flags().into_iter();
+        flags.fold(start, |number, flag| 2 * number + usize::from(flag))
+    }
 }
 
 /// The answer to a listing: 0 with what was written, or a refusal's number with both counts 0.
@@ -25,26 +79,145 @@ pub struct Listing {
     pub bytes: usize,
 }
 
+/// A level: 0 Normal, 1 Mangan, 2 Haneman, 3 Baiman, 4 Sanbaiman, 5 Yakuman, with the count of
+/// yakuman, else 0.
+#[repr(C)]
+#[derive(Clone, Copy, Debug, PartialEq, Eq)]
+pub struct Level {
+    pub level: u8,
+    pub count: u8,
+}
+
+/// The answer to a payment: 0 with the amounts, 0 where nobody pays, or a refusal's number alone.
+#[repr(C)]
+#[derive(Clone, Copy, Debug, Default, PartialEq, Eq)]
+pub struct PaymentAnswer {
+    pub number: u32,
+    pub from_non_dealer: u32,
+    pub from_dealer: u32,
+    pub from_discarder: u32,
+    pub total: u64,
+}
+
+/// The answer to a scored win or reading: 0 with the number of the reading and its score, or a
+/// refusal's number alone. The yakuman flag is C's `_Bool`, taken as a byte, so that one that is
+/// neither 0 nor 1 differs.
+#[repr(C)]
+#[derive(Clone, Copy, Debug, PartialEq, Eq)]
+pub struct Score {
+    pub number: u32,
+    pub reading: usize,
+    pub tallies: [u8; YAKU],
+    pub han: u8,
+    pub fu: u8,
+    pub is_yakuman: u8,
+    pub level: u8,
+    pub yakuman_count: u8,
+    pub basic_points: u32,
+    pub from_non_dealer: u32,
+    pub from_dealer: u32,
+    pub from_discarder: u32,
+    pub total: u64,
+}
+
+/// The answer to naming waits: 0 with the tallies, or a refusal's number alone.
+#[repr(C)]
+#[derive(Clone, Copy, Debug, Default, PartialEq, Eq)]
+pub struct Waits {
+    pub number: u32,
+    pub waits: [u8; WAITS],
+}
+
 unsafe extern "C" {
     fn ziwhakemo_list_readings(
         counts: *const u8,
         counts_len: usize,
-        calls: Calls,
+        calls: *const Meld,
+        calls_len: usize,
         out: *mut u8,
         out_len: usize,
     ) -> Listing;
+    fn ziwhakemo_score_win(
+        counts: *const u8,
+        counts_len: usize,
+        calls: *const Meld,
+        calls_len: usize,
+        win: Win,
+    ) -> Score;
+    fn ziwhakemo_score_reading(
+        counts: *const u8,
+        counts_len: usize,
+        calls: *const Meld,
+        calls_len: usize,
+        win: Win,
+        number: usize,
+    ) -> Score;
+    fn ziwhakemo_name_waits(
+        counts: *const u8,
+        counts_len: usize,
+        calls: *const Meld,
+        calls_len: usize,
+        win: Win,
+        number: usize,
+    ) -> Waits;
+    fn ziwhakemo_score_level(han: u8, fu: u8, is_yakuman: bool) -> Level;
+    fn ziwhakemo_basic_points(han: u8, fu: u8, is_yakuman: bool) -> u32;
+    fn ziwhakemo_payment(basic_points: u32, is_dealer: bool, win_type: u8) -> PaymentAnswer;
+}
+
+// The library asks nothing of its input beyond slices that may be read, and one that may be written.
+
+/// As many calls as are lent where there are more than four.
+const MOST_LENT: usize = 300;
+
+/// Lends the calls as a slice of melds. What stands behind up to four of them in memory means nothing; of more than four the first four
+/// are the hand's.
+fn lend<T>(calls: &Calls, ask: impl FnOnce(*const Meld, usize) -> T) -> T {
+    if let Some(melds) = calls.melds.get(..calls.count) {
+        return ask(melds.as_ptr(), melds.len());
+    }
+    let mut many = vec![Meld::default(); calls.count.min(MOST_LENT)];
+    many[..calls.melds.len()].copy_from_slice(&calls.melds);
+    ask(many.as_ptr(), many.len())
 }
 
 /// Lists the readings of a hand into `out`.
 pub fn list_readings(counts: &[u8], calls: Calls, out: &mut [u8]) -> Listing {
-    // The library asks nothing of its input beyond two slices that may be read and written.
-    unsafe {
-        ziwhakemo_list_readings(
-            counts.as_ptr(),
-            counts.len(),
-            calls,
-            out.as_mut_ptr(),
-            out.len(),
-        )
-    }
+    let (place, length) = (out.as_mut_ptr(), out.len());
+    lend(&calls, |melds, number| unsafe {
+        ziwhakemo_list_readings(counts.as_ptr(), counts.len(), melds, number, place, length)
+    })
+}
+
+/// Scores a win.
+pub fn score_win(counts: &[u8], calls: Calls, win: Win) -> Score {
+    lend(&calls, |melds, called| unsafe {
+        ziwhakemo_score_win(counts.as_ptr(), counts.len(), melds, called, win)
+    })
+}
+
+/// Scores the reading with a number, counted from 0.
+pub fn score_reading(counts: &[u8], calls: Calls, win: Win, number: usize) -> Score {
+    lend(&calls, |melds, called| unsafe {
+        ziwhakemo_score_reading(counts.as_ptr(), counts.len(), melds, called, win, number)
+    })
+}
+
+/// Names the waits of the reading with a number, counted from 0.
+pub fn name_waits(counts: &[u8], calls: Calls, win: Win, number: usize) -> Waits {
+    lend(&calls, |melds, called| unsafe {
+        ziwhakemo_name_waits(counts.as_ptr(), counts.len(), melds, called, win, number)
+    })
+}
+
+pub fn level(han: u8, fu: u8, is_yakuman: bool) -> Level {
+    unsafe { ziwhakemo_score_level(han, fu, is_yakuman) }
+}
+
+pub fn basic_points(han: u8, fu: u8, is_yakuman: bool) -> u32 {
+    unsafe { ziwhakemo_basic_points(han, fu, is_yakuman) }
+}
+
+pub fn payment(basic_points: u32, is_dealer: bool, win_type: u8) -> PaymentAnswer {
+    unsafe { ziwhakemo_payment(basic_points, is_dealer, win_type) }
 }

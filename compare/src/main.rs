@@ -1,78 +1,78 @@
 //! Compares the proved library with agari-core.
 
-use compare::readings;
-use std::env;
+use compare::arguments::{self, Options};
+use compare::{points, readings, scored_wins, scores};
 use std::process::ExitCode;
 use std::time::Duration;
 
 const USAGE: &str = "usage: compare readings [--seed N] [--random N] [--suit] [--mixed SECONDS]
        compare points
-       compare scores [--seed N] [--wins N]";
-const RANDOM: u64 = 5_000_000;
+       compare scores [--seed N] [--wins N]
+       compare wins [--seed N] [--random N] [--suit]";
+const SEED: u64 = 1;
+const RANDOM_HANDS: u64 = 5_000_000;
 const MIXED_SECONDS: u64 = 600;
-const WINS: u64 = 3_000_000;
+const SCORED_WINS: u64 = 3_000_000;
+const RANDOM_WINS: u64 = 7_000_000;
 
 fn main() -> ExitCode {
-    let arguments: Vec<String> = env::args().skip(1).collect();
-    let arguments: Vec<&str> = arguments.iter().map(String::as_str).collect();
-    match compare(&arguments) {
-        Some(0) => ExitCode::SUCCESS,
-        Some(_) => ExitCode::FAILURE,
-        None => {
-            eprintln!("{USAGE}");
-            ExitCode::from(2)
-        }
-    }
+    arguments::run(USAGE, |words| {
+        let differ = compare(words)?;
+        Some(if differ == 0 {
+            ExitCode::SUCCESS
+        } else {
+            ExitCode::FAILURE
+        })
+    })
 }
 
-/// The number of inputs that differ; nothing where the arguments are not understood.
-fn compare(arguments: &[&str]) -> Option<u64> {
-    let (&command, options) = arguments.split_first()?;
+/// The number of inputs that differ; nothing where the words are not understood.
+fn compare(words: &[&str]) -> Option<u64> {
+    let (&command, words) = words.split_first()?;
     match command {
-        "readings" => compare_readings(options),
-        "points" => options.is_empty().then(compare::points::compare),
-        "scores" => compare_scores(options),
+        "readings" => compare_readings(words),
+        "points" => words.is_empty().then(points::compare),
+        "scores" => compare_scores(words),
+        "wins" => compare_wins(words),
         _ => None,
     }
 }
 
 /// Where no class is named, all are compared.
-fn compare_readings(arguments: &[&str]) -> Option<u64> {
+fn compare_readings(words: &[&str]) -> Option<u64> {
+    let given = Options::read(words, &["--seed", "--random", "--mixed"], &["--suit"])?;
     let mut options = readings::Options {
-        seed: 1,
-        random: None,
-        suit: false,
-        mixed: None,
+        seed: given.number("--seed").unwrap_or(SEED),
+        random: given.number("--random"),
+        suit: given.has("--suit"),
+        mixed: given.number("--mixed").map(Duration::from_secs),
     };
-    let mut arguments = arguments.iter();
-    while let Some(&name) = arguments.next() {
-        let mut number = || arguments.next()?.parse().ok();
-        match name {
-            "--seed" => options.seed = number()?,
-            "--random" => options.random = Some(number()?),
-            "--suit" => options.suit = true,
-            "--mixed" => options.mixed = Some(Duration::from_secs(number()?)),
-            _ => return None,
-        }
-    }
     if options.random.is_none() && !options.suit && options.mixed.is_none() {
-        options.random = Some(RANDOM);
+        options.random = Some(RANDOM_HANDS);
         options.suit = true;
         options.mixed = Some(Duration::from_secs(MIXED_SECONDS));
     }
     Some(readings::compare(&options))
 }
 
-fn compare_scores(arguments: &[&str]) -> Option<u64> {
-    let (mut seed, mut wins) = (1, WINS);
-    let mut arguments = arguments.iter();
-    while let Some(&name) = arguments.next() {
-        let number = arguments.next()?.parse().ok()?;
-        match name {
-            "--seed" => seed = number,
-            "--wins" => wins = number,
-            _ => return None,
-        }
+fn compare_scores(words: &[&str]) -> Option<u64> {
+    let given = Options::read(words, &["--seed", "--wins"], &[])?;
+    let seed = given.number("--seed").unwrap_or(SEED);
+    let wins = given.number("--wins").unwrap_or(SCORED_WINS);
+    Some(scores::compare(seed, wins))
+}
+
+/// Where no class is named, all are compared.
+fn compare_wins(words: &[&str]) -> Option<u64> {
+    let given = Options::read(words, &["--seed", "--random"], &["--suit"])?;
+    let mut options = scored_wins::Options {
+        seed: given.number("--seed").unwrap_or(SEED),
+        random: given.number("--random"),
+        suit: given.has("--suit"),
+    };
+    if options.random.is_none() && !options.suit {
+        options.random = Some(RANDOM_WINS);
+        options.suit = true;
     }
-    Some(compare::scores::compare(seed, wins))
+    Some(scored_wins::compare(&options))
 }

@@ -65,7 +65,7 @@ impl Expected {
 }
 
 /// The grounds for the refusals 1 to 6, each looked at by itself.
-fn faults(hand: &Hand) -> [bool; FAULTS] {
+pub fn faults(hand: &Hand) -> [bool; FAULTS] {
     let counts = hand.counts();
     let tiles: u128 = counts.iter().map(|&count| u128::from(count)).sum();
     [

@@ -1,7 +1,7 @@
 //! The comparison of level, basic points and payments.
 
 use crate::agari_scores as agari;
-use crate::probe;
+use crate::library;
 use std::fmt::Debug;
 
 /// How many differences of an operation are printed.
@@ -70,7 +70,7 @@ fn compare_levels() -> Compared {
     let mut compared = Compared::new("level");
     for (han, fu, is_yakuman) in scores() {
         let want = agari::level(han, fu, is_yakuman);
-        let got = probe::level(han, fu, is_yakuman);
+        let got = library::level(han, fu, is_yakuman);
         compared.check((han, fu, is_yakuman), want, got);
     }
     compared
@@ -80,7 +80,7 @@ fn compare_basic_points() -> Compared {
     let mut compared = Compared::new("basic points");
     for (han, fu, is_yakuman) in scores() {
         let want = agari::basic_points(han, fu, is_yakuman);
-        let got = probe::basic_points(han, fu, is_yakuman);
+        let got = library::basic_points(han, fu, is_yakuman);
         compared.check((han, fu, is_yakuman), want, got);
     }
     compared
@@ -92,7 +92,7 @@ fn compare_payments() -> Compared {
         for is_dealer in [false, true] {
             for win_type in WIN_TYPES {
                 let want = agari::payment(basic_points, is_dealer, win_type);
-                let got = probe::payment(basic_points, is_dealer, win_type);
+                let got = library::payment(basic_points, is_dealer, win_type);
                 compared.check((basic_points, is_dealer, win_type), want, got);
             }
         }

@@ -2,11 +2,10 @@
 
 use crate::agari_scores::{WAIT_ENTRIES, YAKU_ENTRIES};
 use crate::hand::*;
-use crate::probe::*;
+use crate::library::{MIXTURES, RON, WAITS, Win, YAKU};
+use crate::probe::{Reading, ReadingScore, STANDARD};
 use std::fmt::{self, Debug};
 
-/// The number of mixtures of win type, winds and flags.
-const MIXTURES: usize = 2 * 4 * 4 * 256;
 /// The place of the first wind's yakuhai among the yaku tallies, and the number of winds.
 const EAST: usize = 6;
 const WINDS: usize = 4;
@@ -80,7 +79,7 @@ impl ScoreTally {
         self.called_tile += u64::from(has_called_tile(reading, win));
         self.most_han = self.most_han.max(score.han);
         self.most_fu = self.most_fu.max(score.fu);
-        self.mixtures[mixture(win)] = true;
+        self.mixtures[win.mixture()] = true;
     }
 }
 
@@ -124,14 +123,6 @@ fn holds(reading: &Reading, kind: u8, tile: u8) -> bool {
     let melds = reading.melds.iter().filter(|meld| meld.kind == kind);
     let mut tiles = melds.flat_map(|meld| meld.tiles());
     reading.kind == STANDARD && tiles.any(|other| other == usize::from(tile))
-}
-
-/// The number of a mixture of win type, winds and flags.
-fn mixture(win: &Win) -> usize {
-    let winds = 4 * (win.round_wind - 27) + win.seat_wind - 27;
-    let start = 2 * usize::from(winds) + usize::from(win.win_type);
-    let flags = win.flags().into_iter();
-    flags.fold(start, |number, flag| 2 * number + usize::from(flag))
 }
 
 impl fmt::Display for ScoreTally {
@@ -200,7 +191,7 @@ impl fmt::Display for ReadingScore {
 }
 
 /// The tallies that are not 0, with their names.
-fn named(names: &[impl Debug], tallies: &[u8]) -> String {
+pub fn named(names: &[impl Debug], tallies: &[u8]) -> String {
     let tallies = names.iter().zip(tallies).filter(|(_, tally)| **tally > 0);
     let tallies: Vec<String> = tallies
         .map(|(name, tally)| format!("{name:?} {tally}"))

@@ -1,10 +1,11 @@
 //! The comparison of yaku, waits, han and fu, reading by reading.
 
 use crate::agari_scores::ReadHand;
-use crate::probe::{self, Win};
+use crate::faults::listed_from;
+use crate::library::Win;
+use crate::probe;
 use crate::rng::Rng;
 use crate::score_tally::ScoreTally;
-use crate::tally::listed;
 use crate::wins;
 use std::time::Instant;
 
@@ -37,7 +38,7 @@ pub fn compare(seed: u64, wins: u64) -> u64 {
     }
     let seconds = start.elapsed().as_secs_f64();
     println!("  hands {hands}, wins {wins}");
-    println!("  wins by readings: {}", listed(1, &by_readings));
+    println!("  wins by readings: {}", listed_from(1, &by_readings));
     println!("{tally}  differ: {}\n  {seconds:.1} s", tally.differ());
     tally.differ()
 }

@@ -2,8 +2,7 @@
 //! circumstances.
 
 use crate::hand::*;
-use crate::library::Meld;
-use crate::probe::{RON, TSUMO, Win};
+use crate::library::{Meld, RON, TSUMO, Win};
 use crate::random::{self, ORPHANS, Pool, Style, add_meld, at_most_four};
 use crate::rng::Rng;
 
@@ -257,6 +256,11 @@ pub fn winning_tiles(rng: &mut Rng, hand: &Hand) -> Vec<u8> {
     if rng.percent(90) {
         return vec![random::held_tile(rng, hand) as u8];
     }
+    held_tiles(hand)
+}
+
+/// Each kind that the hand holds.
+pub fn held_tiles(hand: &Hand) -> Vec<u8> {
     (0..KINDS)
         .filter(|&tile| hand.counts[tile] > 0)
         .map(|tile| tile as u8)

@@ -21,16 +21,13 @@ use compare::hand::Hand;
 use compare::oracle::{Expected, FAULTS};
 use compare::random;
 use compare::rng::Rng;
+use compare::stored::{self, MOST_CALLS, Sample, put_hand, put_u16};
 use compare::tally::Tally;
-use std::collections::HashSet;
-use std::env;
-use std::fs;
 use std::process::ExitCode;
 
 const SEED: u64 = 34;
 const RECORD: usize = 256;
 const MOST_LENT: usize = 120;
-const MOST_CALLS: usize = u16::MAX as usize;
 
 /// A part of the sample: so many records of hands dealt until the right answer fits.
 struct Part {
@@ -124,13 +121,7 @@ fn record(hand: &Hand, expected: &Expected, lent: usize) -> [u8; RECORD] {
     let answer = expected.listing(lent);
 
     let mut record = [0; RECORD];
-    record[0] = hand.length as u8;
-    record[1..][..hand.length].copy_from_slice(hand.counts());
-    put_u16(&mut record, 41, hand.calls.count);
-    for (place, meld) in hand.calls.melds.iter().enumerate() {
-        record[43 + 2 * place] = meld.tile;
-        record[44 + 2 * place] = meld.kind;
-    }
+    put_hand(&mut record, hand);
     put_u16(&mut record, 51, lent);
     record[53] = answer.number as u8;
     put_u16(&mut record, 54, answer.readings);
@@ -139,39 +130,28 @@ fn record(hand: &Hand, expected: &Expected, lent: usize) -> [u8; RECORD] {
     record
 }
 
-fn put_u16(record: &mut [u8; RECORD], at: usize, value: usize) {
-    let value = u16::try_from(value).expect("the number fits in its two bytes");
-    record[at..at + 2].copy_from_slice(&value.to_le_bytes());
+/// Deals a hand that fits the part, and adds its record.
+fn add_one(part: &Part, rng: &mut Rng, tally: &mut Tally, sample: &mut Sample<RECORD>) -> bool {
+    let mut hand = random::until(rng, &part.deal, &part.fits).with_noise(rng);
+    hand.calls.count = hand.calls.count.min(MOST_CALLS);
+    let expected = Expected::of(&hand);
+    let lent = lent(rng, expected.records.len());
+    let is_new = sample.add(record(&hand, &expected, lent));
+    if is_new {
+        tally.count_hand(&expected);
+        tally.count_answer(&expected.listing(lent));
+    }
+    is_new
 }
 
 fn main() -> ExitCode {
-    let Some(path) = env::args().nth(1) else {
-        eprintln!("usage: sample FILE");
-        return ExitCode::from(2);
-    };
-    let mut rng = Rng::new(SEED);
-    let mut tally = Tally::default();
-    let mut seen = HashSet::new();
-    let mut file = Vec::new();
-    println!("seed {SEED}, no record twice; records of each part:");
-    for part in parts() {
-        let mut written = 0;
-        while written < part.records {
-            let mut hand = random::until(&mut rng, &part.deal, &part.fits).with_noise(&mut rng);
-            hand.calls.count = hand.calls.count.min(MOST_CALLS);
-            let expected = Expected::of(&hand);
-            let lent = lent(&mut rng, expected.records.len());
-            let record = record(&hand, &expected, lent);
-            if seen.insert(record) {
-                file.extend(record);
-                tally.count_hand(&expected);
-                tally.count_answer(&expected.listing(lent));
-                written += 1;
-            }
+    stored::write("sample", SEED, |rng, sample| {
+        let mut tally = Tally::default();
+        for part in parts() {
+            sample.part(&part.title, part.records, |sample| {
+                add_one(&part, rng, &mut tally, sample)
+            });
         }
-        println!("  {:5}  {}", part.records, part.title);
-    }
-    fs::write(&path, &file).expect("the file can be written");
-    print!("{} bytes in {path}\n{tally}", file.len());
-    ExitCode::SUCCESS
+        tally
+    })
 }

@@ -20,13 +20,12 @@
 
 use compare::agari_scores::{ReadHand, WAIT_ENTRIES, YAKU_ENTRIES};
 use compare::hand::{CLOSED_SEQUENCE, KINDS};
-use compare::probe::{Reading, ReadingScore, STANDARD, Win};
+use compare::library::Win;
+use compare::probe::{Reading, ReadingScore, STANDARD};
 use compare::rng::Rng;
 use compare::score_tally::*;
+use compare::stored::{self, put_win};
 use compare::wins;
-use std::collections::HashSet;
-use std::env;
-use std::fs;
 use std::ops::Range;
 use std::process::ExitCode;
 
@@ -160,11 +159,7 @@ fn record(scored: &Scored) -> [u8; RECORD] {
     }
     record[10..17].copy_from_slice(&reading.pairs);
     record[17..51].copy_from_slice(counts);
-    record[51] = win.win_type;
-    record[52] = win.winning_tile;
-    record[53] = win.round_wind;
-    record[54] = win.seat_wind;
-    record[55..63].copy_from_slice(&win.flags().map(u8::from));
+    put_win(&mut record[51..63], win);
     record[63] = u8::from(*is_open);
     record[64..111].copy_from_slice(&score.tallies);
     record[111..117].copy_from_slice(&score.waits);
@@ -175,29 +170,18 @@ fn record(scored: &Scored) -> [u8; RECORD] {
 }
 
 fn main() -> ExitCode {
-    let Some(path) = env::args().nth(1) else {
-        eprintln!("usage: sample_scores FILE");
-        return ExitCode::from(2);
-    };
-    let mut rng = Rng::new(SEED);
-    let mut tally = ScoreTally::new();
-    let mut seen = HashSet::new();
-    let mut file = Vec::new();
-    println!("seed {SEED}, no record twice; records of each part:");
-    for part in parts() {
-        let mut written = 0;
-        while written < part.records {
-            let scored = deal(&mut rng);
-            let record = record(&scored);
-            if (part.fits)(&scored) && seen.insert(record) {
-                file.extend(record);
-                tally.count(&scored.reading, &scored.win, scored.is_open, &scored.score);
-                written += 1;
-            }
+    stored::write("sample_scores", SEED, |rng, sample| {
+        let mut tally = ScoreTally::new();
+        for part in parts() {
+            sample.part(&part.title, part.records, |sample| {
+                let scored = deal(rng);
+                let is_taken = (part.fits)(&scored) && sample.add(record(&scored));
+                if is_taken {
+                    tally.count(&scored.reading, &scored.win, scored.is_open, &scored.score);
+                }
+                is_taken
+            });
         }
-        println!("  {:5}  {}", part.records, part.title);
-    }
-    fs::write(&path, &file).expect("the file can be written");
-    print!("{} bytes in {path}\n{tally}", file.len());
-    ExitCode::SUCCESS
+        tally
+    })
 }

@@ -1,0 +1,79 @@
+//! A whole win on agari's side, as a program that uses it would score it: read the hand, score every
+//! reading, choose.
+
+use crate::agari;
+use crate::agari_scores;
+use crate::hand::*;
+use crate::library::Win;
+use agari_core::context::GameContext;
+use agari_core::hand::Meld;
+use agari_core::scoring::{ScoringResult, calculate_score};
+use agari_core::yaku::{YakuResult, detect_yaku_with_context};
+
+/// A win that passes the checks, with what agari takes made ready: its melds of the calls, the counts
+/// of hand and calls together, and the circumstances.
+pub struct AgariWin {
+    counts: [u8; KINDS],
+    with_calls: [u8; KINDS],
+    called: Vec<Meld>,
+    context: GameContext,
+}
+
+impl AgariWin {
+    pub fn of(hand: &Hand, win: &Win) -> AgariWin {
+        let mut counts = [0; KINDS];
+        counts.copy_from_slice(hand.counts());
+        AgariWin {
+            counts,
+            with_calls: hand.with_calls().map(|count| count as u8),
+            called: agari::called_melds(hand.called()),
+            context: agari_scores::context(win, hand.is_open()),
+        }
+    }
+
+    /// The reading to choose: of those with a yaku the greatest total, then a yakuman before none,
+    /// more han, more fu. Maps of counts are made here, one where nothing is called, else two.
+    pub fn score(&self) -> Option<(YakuResult, ScoringResult)> {
+        let counts = agari::tile_counts(&self.counts);
+        let together = (!self.called.is_empty()).then(|| agari::tile_counts(&self.with_calls));
+        let together = together.as_ref().unwrap_or(&counts);
+        let mut most = None;
+        let mut chosen = None;
+        for reading in agari::readings(&counts, &self.called) {
+            let yaku = detect_yaku_with_context(&reading, together, &self.context);
+            let score = calculate_score(&reading, &yaku, &self.context);
+            let total = score.payment.total;
+            let worth = Some((total, yaku.is_yakuman, score.han, score.fu.total));
+            if !yaku.yaku_list.is_empty() && worth > most {
+                most = worth;
+                chosen = Some((yaku, score));
+            }
+        }
+        chosen
+    }
+}
+
+#[cfg(test)]
+mod tests {
+    use super::*;
+    use crate::random;
+    use crate::rng::Rng;
+    use crate::win_oracle::ExpectedWin;
+    use crate::wins;
+
+    #[test]
+    fn the_choice_is_the_expected_one() {
+        let mut rng = Rng::new(5);
+        for _ in 0..3000 {
+            let hand = wins::hand(&mut rng);
+            let tile = random::held_tile(&mut rng, &hand) as u8;
+            let win = wins::win(&mut rng, &hand, tile);
+            let want = ExpectedWin::of(&hand, &win).score_win();
+            let got = AgariWin::of(&hand, &win).score();
+            let got = got.map_or((11, 0, 0, 0), |(_, score)| {
+                (0, score.payment.total.into(), score.han, score.fu.total)
+            });
+            assert_eq!(got, (want.number, want.total, want.han, want.fu));
+        }
+    }
+}

@@ -1,0 +1,154 @@
+//! The hands and wins that are measured.
+
+use compare::hand::{Hand, KINDS};
+use compare::library::{RON, TSUMO, Win};
+use compare::oracle::Expected;
+use compare::random::{self, Pool, Style};
+use compare::rng::Rng;
+
+const SEED: u64 = 1;
+/// Of a hundred winning hands, so many have 0, 1, 2, 3 and 4 calls.
+const CALLS: [usize; 5] = [60, 20, 13, 6, 1];
+const EAST: u8 = 27;
+
+/// Hands of one sort.
+pub struct Case {
+    pub name: &'static str,
+    pub about: &'static str,
+    deal: fn(&mut Rng) -> Hand,
+    fits: fn(&Expected) -> bool,
+}
+
+pub const CASES: [Case; 5] = [
+    Case {
+        name: "mixture",
+        about: "winning hands: 97% four melds and a pair, 3% seven pairs; calls 60 20 13 6 1%",
+        deal: mixture,
+        fits: |expected| expected.readings > 0,
+    },
+    Case {
+        name: "several",
+        about: "closed winning hands of one suit with two or more readings",
+        deal: closed_flush,
+        fits: |expected| expected.readings > 1,
+    },
+    Case {
+        name: "flush",
+        about: "winning hands of one suit, calls as in the mixture",
+        deal: flush,
+        fits: |expected| expected.readings > 0,
+    },
+    Case {
+        name: "none",
+        about: "no reading: half one tile off a hand of the mixture, half 14 tiles from the wall",
+        deal: no_win,
+        fits: |expected| expected.readings == 0,
+    },
+    Case {
+        name: "changing",
+        about: "any of the four sorts above, each as often",
+        deal: changing,
+        fits: |_| true,
+    },
+];
+
+/// Melds as players have them: three in four are sequences, one called triplet in ten is a kan.
+fn style(pool: Pool) -> Style {
+    Style {
+        pool,
+        sequences: 75,
+        kans: 10,
+    }
+}
+
+/// 85 of 100 from all tiles, 10 from a suit and honours, 5 from one suit.
+fn mixture(rng: &mut Rng) -> Hand {
+    if rng.percent(3) {
+        return random::distinct_pairs(rng, Pool::all());
+    }
+    let suit = rng.below(3);
+    let pool = match rng.share(&[85, 10, 5]) {
+        0 => Pool::all(),
+        1 => Pool::suit_and_honours(suit),
+        _ => Pool::suit(suit),
+    };
+    let calls = rng.share(&CALLS);
+    style(pool).winning(rng, calls)
+}
+
+fn closed_flush(rng: &mut Rng) -> Hand {
+    let suit = rng.below(3);
+    style(Pool::suit(suit)).winning(rng, 0)
+}
+
+fn flush(rng: &mut Rng) -> Hand {
+    let suit = rng.below(3);
+    let calls = rng.share(&CALLS);
+    style(Pool::suit(suit)).winning(rng, calls)
+}
+
+fn no_win(rng: &mut Rng) -> Hand {
+    if rng.percent(50) {
+        return random::from_wall(rng, 0);
+    }
+    let mut hand = mixture(rng);
+    random::change_one_tile(rng, &mut hand);
+    hand
+}
+
+fn changing(rng: &mut Rng) -> Hand {
+    let case = &CASES[rng.below(CASES.len() - 1)];
+    random::until(rng, case.deal, case.fits)
+}
+
+impl Case {
+    pub fn hands(&self, number: usize) -> Vec<Hand> {
+        let mut rng = Rng::new(SEED);
+        (0..number)
+            .map(|_| random::until(&mut rng, self.deal, self.fits))
+            .collect()
+    }
+
+    /// The same hands, each won by one of its tiles.
+    pub fn wins(&self, number: usize) -> Vec<Won> {
+        let mut rng = Rng::new(!SEED);
+        let hands = self.hands(number).into_iter();
+        hands
+            .map(|hand| Won {
+                hand,
+                win: win(&mut rng, &hand),
+            })
+            .collect()
+    }
+}
+
+/// A hand, and how it was won.
+#[derive(Clone, Copy)]
+pub struct Won {
+    pub hand: Hand,
+    pub win: Win,
+}
+
+/// A win as players have them: 6 in 10 by ron, the rounds of East and South, any seat; 4 in 10 closed
+/// hands in riichi, a tenth of these with ippatsu; the last tile in 2 of 100.
+fn win(rng: &mut Rng, hand: &Hand) -> Win {
+    let is_riichi = !hand.is_open() && rng.percent(40);
+    Win {
+        win_type: if rng.percent(60) { RON } else { TSUMO },
+        winning_tile: any_tile(rng, hand),
+        round_wind: EAST + rng.below(2) as u8,
+        seat_wind: EAST + rng.below(4) as u8,
+        is_riichi,
+        is_ippatsu: is_riichi && rng.percent(10),
+        is_last_tile: rng.percent(2),
+        ..Win::default()
+    }
+}
+
+/// One of the hand's tiles.
+fn any_tile(rng: &mut Rng, hand: &Hand) -> u8 {
+    let tiles: Vec<u8> = (0..KINDS as u8)
+        .flat_map(|tile| (0..hand.counts[usize::from(tile)]).map(move |_| tile))
+        .collect();
+    rng.pick(&tiles)
+}

@@ -1,0 +1,120 @@
+//! Measures both sides on the same hands and wins, in one run and one thread.
+
+mod cases;
+mod timing;
+mod worst;
+
+use cases::{CASES, Case, Won};
+use compare::agari;
+use compare::agari_wins::AgariWin;
+use compare::arguments;
+use compare::hand::Hand;
+use compare::library::{list_readings, score_win};
+use compare::oracle::Expected;
+use std::hint::black_box;
+use std::process::ExitCode;
+
+const USAGE: &str = "usage: bench [readings | wins | worst]
+       bench profile readings|wins CASE N
+where CASE is mixture, several, flush, none or changing";
+const NUMBER: usize = 20_000;
+/// The buffer lent to the library; it is not cleared between hands.
+const LENT: usize = 1467;
+
+fn list(hand: &Hand, out: &mut [u8]) {
+    black_box(list_readings(hand.counts(), hand.calls, black_box(out)));
+}
+
+fn score(won: &Won) {
+    black_box(score_win(won.hand.counts(), won.hand.calls, won.win));
+}
+
+fn score_by_agari(win: &AgariWin) {
+    black_box(black_box(win).score());
+}
+
+fn print_case(case: &Case, hands: &[Hand]) {
+    let readings: usize = hands.iter().map(|hand| Expected::of(hand).readings).sum();
+    let readings = readings as f64 / hands.len() as f64;
+    println!(
+        "{}: {}; {readings:.2} readings a hand",
+        case.name, case.about
+    );
+}
+
+/// Listing the readings. agari's map of counts is made in the time, its melds of the calls before.
+fn measure_readings() {
+    println!(
+        "listing readings: {NUMBER} hands a case, {}",
+        timing::about_passes()
+    );
+    for case in &CASES {
+        let hands = case.hands(NUMBER);
+        print_case(case, &hands);
+        let theirs: Vec<_> = hands
+            .iter()
+            .map(|hand| (hand.counts(), agari::called_melds(hand.called())))
+            .collect();
+        let mut out = [0; LENT];
+        timing::compare(
+            &theirs,
+            |(counts, called)| {
+                let counts = agari::tile_counts(black_box(counts));
+                black_box(agari::readings(&counts, called));
+            },
+            &hands,
+            |hand| list(hand, &mut out),
+        );
+    }
+}
+
+/// Scoring a win. agari reads the hand, scores every reading and chooses; its maps of counts are made
+/// in the time, its melds of the calls and its context before.
+fn measure_wins() {
+    println!(
+        "scoring a win: {NUMBER} wins a case, {}",
+        timing::about_passes()
+    );
+    for case in &CASES {
+        let wins = case.wins(NUMBER);
+        let hands: Vec<Hand> = wins.iter().map(|won| won.hand).collect();
+        print_case(case, &hands);
+        let theirs: Vec<_> = wins
+            .iter()
+            .map(|won| AgariWin::of(&won.hand, &won.win))
+            .collect();
+        timing::compare(&theirs, score_by_agari, &wins, score);
+    }
+}
+
+/// Runs the library alone, so many times, going round the hands or wins of a case.
+fn profile(operation: &str, name: &str, times: usize) -> Option<()> {
+    let case = CASES.iter().find(|case| case.name == name)?;
+    let wins = case.wins(times.clamp(1, NUMBER));
+    let wins = wins.iter().cycle().take(times);
+    let mut out = [0; LENT];
+    match operation {
+        "readings" => wins.for_each(|won| list(&won.hand, &mut out)),
+        "wins" => wins.for_each(score),
+        _ => return None,
+    }
+    Some(())
+}
+
+fn main() -> ExitCode {
+    arguments::run(USAGE, |words| {
+        match words {
+            [] => {
+                measure_readings();
+                measure_wins();
+                worst::measure(NUMBER);
+            }
+            ["readings"] => measure_readings(),
+            ["wins"] => measure_wins(),
+            ["worst"] => worst::measure(NUMBER),
+            ["profile", operation, case, times] => profile(operation, case, times.parse().ok()?)?,
+            _ => return None,
+        }
+        Some(ExitCode::SUCCESS)
+    })
+}

@@ -1,0 +1,91 @@
+//! Times by the processor time that the thread takes, so that other work on the machine disturbs
+//! less.
+
+use std::time::Instant;
+
+const PASSES: usize = 11;
+
+#[repr(C)]
+struct Timespec {
+    seconds: i64,
+    nanoseconds: i64,
+}
+
+const CLOCK_THREAD_CPUTIME_ID: i32 = 3;
+
+unsafe extern "C" {
+    fn clock_gettime(clock: i32, time: *mut Timespec) -> i32;
+}
+
+/// The processor time of this thread, in nanoseconds.
+fn thread_time() -> f64 {
+    let mut time = Timespec {
+        seconds: 0,
+        nanoseconds: 0,
+    };
+    let failed = unsafe { clock_gettime(CLOCK_THREAD_CPUTIME_ID, &mut time) };
+    assert_eq!(failed, 0, "the thread's clock can be read");
+    time.seconds as f64 * 1e9 + time.nanoseconds as f64
+}
+
+/// The time of one call after the other, in nanoseconds a call.
+fn time<T>(inputs: &[T], call: &mut impl FnMut(&T)) -> f64 {
+    let start = thread_time();
+    for input in inputs {
+        call(input);
+    }
+    (thread_time() - start) / inputs.len() as f64
+}
+
+/// Takes both sides in turn, after one pass of each that is not counted, and prints the median and
+/// the least time of the passes.
+pub fn compare<A, O>(
+    theirs: &[A],
+    mut agari: impl FnMut(&A),
+    inputs: &[O],
+    mut ours: impl FnMut(&O),
+) {
+    let mut times = [Vec::new(), Vec::new()];
+    for pass in 0..=PASSES {
+        let both = [time(theirs, &mut agari), time(inputs, &mut ours)];
+        if pass > 0 {
+            times[0].push(both[0]);
+            times[1].push(both[1]);
+        }
+    }
+    times
+        .iter_mut()
+        .for_each(|side| side.sort_by(f64::total_cmp));
+    for (name, pass) in [("median", PASSES / 2), ("least", 0)] {
+        let [agari, ours] = [times[0][pass], times[1][pass]];
+        let ratio = agari / ours;
+        println!("  {name:6}  agari {agari:6.0} ns, ours {ours:5.0} ns, ratio {ratio:5.1}");
+    }
+}
+
+/// The least time of each call over the passes, in nanoseconds. Each call is timed by itself, after
+/// the one before, and what the clock takes is left out.
+pub fn each<T>(inputs: &[T], mut call: impl FnMut(&T)) -> Vec<f64> {
+    let mut least = vec![f64::INFINITY; inputs.len()];
+    let clock = clock_time();
+    for _ in 0..=PASSES {
+        for (input, least) in inputs.iter().zip(&mut least) {
+            let start = Instant::now();
+            call(input);
+            let time = start.elapsed().as_nanos() as f64 - clock;
+            *least = least.min(time);
+        }
+    }
+    least
+}
+
+/// The least time between two looks at the clock, in nanoseconds.
+fn clock_time() -> f64 {
+    let times = (0..10_000).map(|_| Instant::now().elapsed().as_nanos());
+    times.min().unwrap_or(0) as f64
+}
+
+/// What is said of the passes.
+pub fn about_passes() -> String {
+    format!("{PASSES} passes of each side by turns, nanoseconds a call")
+}

@@ -1,0 +1,285 @@
+//! Writes a sample of wins with their right answers, which a proved program replays.
+//!
+//! The file is a row of records of 256 bytes, numbers little-endian, zero where nothing stands, flags
+//! 0 or 1:
+//!
+//! | bytes    | content                                                                       |
+//! |----------|-------------------------------------------------------------------------------|
+//! | 0        | length of the counts                                                          |
+//! | 1..41    | the counts                                                                    |
+//! | 41..43   | number of calls                                                               |
+//! | 43..51   | four melds, each its tile and its kind                                        |
+//! | 51..55   | win type, winning tile, round wind, seat wind                                 |
+//! | 55..63   | riichi, double riichi, ippatsu, rinshan, chankan, last tile, tenhou, chiihou  |
+//! | 63..65   | the number of a reading                                                       |
+//! | 65..139  | the score of the win                                                          |
+//! | 139..213 | the score of that reading                                                     |
+//! | 213      | the number answered where the waits of that reading are asked for             |
+//! | 214..220 | the wait tallies                                                              |
+//!
+//! A score is the answer's number, the number of the reading, 47 yaku tallies, han, fu, whether it is
+//! a yakuman, the level and the count of yakuman, each in one byte; then in four bytes each basic
+//! points, what each non-dealer, the dealer and the discarder pays, and the total.
+
+use compare::agari_scores::YAKU_ENTRIES;
+use compare::hand::Hand;
+use compare::library::{Score, Win};
+use compare::random;
+use compare::rng::Rng;
+use compare::stored::{self, MOST_CALLS, Sample, put_hand, put_u16, put_win};
+use compare::win_damage::with_faults;
+use compare::win_oracle::{CHECKS, ExpectedWin};
+use compare::win_tally::{LEVELS, Operation, RULES, SETTLEMENTS, WinTally, settlement};
+use compare::wins;
+use std::process::ExitCode;
+
+const SEED: u64 = 74;
+const RECORD: usize = 256;
+
+/// A win with what is expected for it.
+struct Dealt {
+    hand: Hand,
+    win: Win,
+    expected: ExpectedWin,
+}
+
+type Deal = Box<dyn Fn(&mut Rng) -> (Hand, Win)>;
+
+/// A part of the sample: so many records of wins dealt until one fits.
+struct Part {
+    title: String,
+    records: usize,
+    deal: Deal,
+    fits: Box<dyn Fn(&Dealt) -> bool>,
+}
+
+impl Part {
+    fn new(
+        title: &str,
+        records: usize,
+        deal: impl Fn(&mut Rng) -> (Hand, Win) + 'static,
+        fits: impl Fn(&Dealt) -> bool + 'static,
+    ) -> Part {
+        Part {
+            title: title.into(),
+            records,
+            deal: Box::new(deal),
+            fits: Box::new(fits),
+        }
+    }
+
+    /// Scored wins of any hands, for which the score is as asked.
+    fn scored(title: &str, records: usize, fits: impl Fn(&Score) -> bool + 'static) -> Part {
+        Part::new(title, records, any_win, move |dealt| {
+            let score = dealt.expected.score_win();
+            score.number == 0 && fits(&score)
+        })
+    }
+}
+
+fn parts() -> Vec<Part> {
+    let mut parts = Vec::new();
+    for (readings, records) in [(1, 300), (2, 600), (3, 450), (4, 150)] {
+        let title = format!("number of readings {readings}");
+        parts.push(Part::new(&title, records, several_win, move |dealt| {
+            dealt.expected.scores.len() == readings
+        }));
+    }
+    parts.extend(choices());
+    parts.extend(scores());
+    for calls in 0..=4 {
+        let title = format!("number of calls {calls}");
+        parts.push(Part::new(&title, 50, any_win, move |dealt| {
+            dealt.hand.calls.count == calls
+        }));
+    }
+    parts.extend(refusals());
+    parts.push(Part::new("any", 300, any_win, |_| true));
+    parts
+}
+
+/// Wins with a choice, by the rule that tells the chosen reading from the next, and wins of which the
+/// chosen reading is not the first.
+fn choices() -> Vec<Part> {
+    let records = [100, 10, 60, 60, 60];
+    let mut parts = Vec::new();
+    for (rule, (name, records)) in RULES.iter().zip(records).enumerate() {
+        let title = format!("told from the next reading by: {name}");
+        parts.push(Part::new(&title, records, several_win, move |dealt| {
+            dealt.expected.deciding_rule() == Some(rule)
+        }));
+    }
+    let is_later = |score: &Score| score.reading > 0;
+    parts.push(Part::scored("chosen not the first", 100, is_later));
+    parts
+}
+
+/// Scored wins with each yaku, with each level and settlement, and with several yakuman.
+fn scores() -> Vec<Part> {
+    let mut parts = Vec::new();
+    for (place, yaku) in YAKU_ENTRIES.iter().enumerate() {
+        let has_yaku = move |score: &Score| score.tallies[place] > 0;
+        parts.push(Part::scored(&format!("{yaku:?}"), 20, has_yaku));
+    }
+    for (level, name) in LEVELS.iter().enumerate() {
+        for (kind, settled) in SETTLEMENTS.iter().enumerate() {
+            let title = format!("{name}, {settled}");
+            parts.push(Part::new(&title, 12, any_win, move |dealt| {
+                let score = dealt.expected.score_win();
+                let is_level = score.number == 0 && usize::from(score.level) == level;
+                is_level && settlement(&dealt.win) == kind
+            }));
+        }
+    }
+    for count in 2..=4 {
+        let title = format!("yakuman counted {count} times");
+        parts.push(Part::scored(&title, 20, move |score| {
+            score.yakuman_count == count
+        }));
+    }
+    parts
+}
+
+/// Each refusal, and each two faults at once.
+fn refusals() -> Vec<Part> {
+    let mut parts = Vec::new();
+    for (place, &earlier) in CHECKS.iter().enumerate() {
+        parts.push(faulty(earlier, earlier, 60));
+        for &later in &CHECKS[place + 1..] {
+            parts.push(faulty(earlier, later, 8));
+        }
+    }
+    let number = |dealt: &Dealt| dealt.expected.score_win().number;
+    parts.push(Part::new("refusal 10", 150, near_win, move |dealt| {
+        number(dealt) == 10
+    }));
+    parts.push(Part::new("refusal 11", 200, any_win, move |dealt| {
+        number(dealt) == 11
+    }));
+    parts
+}
+
+fn faulty(earlier: usize, later: usize, records: usize) -> Part {
+    let title = if earlier == later {
+        format!("refusal {earlier}")
+    } else {
+        format!("refusal {earlier}, ground for {later} too")
+    };
+    let place = CHECKS.iter().position(|&number| number == later);
+    let place = place.expect("a fault is one of the checks");
+    let deal = move |rng: &mut Rng| with_faults(rng, earlier, later);
+    Part::new(&title, records, deal, move |dealt| {
+        dealt.expected.score_win().number as usize == earlier && dealt.expected.faults[place]
+    })
+}
+
+fn any_win(rng: &mut Rng) -> (Hand, Win) {
+    let hand = wins::hand(rng);
+    won(rng, hand)
+}
+
+/// A win of a hand that has several readings more often.
+fn several_win(rng: &mut Rng) -> (Hand, Win) {
+    let hand = random::winning(rng);
+    won(rng, hand)
+}
+
+fn near_win(rng: &mut Rng) -> (Hand, Win) {
+    let hand = random::near_winning(rng);
+    won(rng, hand)
+}
+
+fn won(rng: &mut Rng, hand: Hand) -> (Hand, Win) {
+    let tile = random::held_tile(rng, &hand) as u8;
+    let win = wins::win(rng, &hand, tile);
+    (hand, win)
+}
+
+/// The number of a reading: most often of one that is there, where there are any.
+fn number(rng: &mut Rng, readings: usize) -> usize {
+    let past = rng.pick(&[readings, readings, readings + 1, 255, 256, 65_535]);
+    if readings > 0 && rng.percent(75) {
+        rng.below(readings)
+    } else {
+        past
+    }
+}
+
+fn put_score(record: &mut [u8], score: &Score) {
+    let total = u32::try_from(score.total).expect("a total fits in four bytes");
+    record[0] = score.number as u8;
+    record[1] = score.reading as u8;
+    record[2..49].copy_from_slice(&score.tallies);
+    record[49] = score.han;
+    record[50] = score.fu;
+    record[51] = score.is_yakuman;
+    record[52] = score.level;
+    record[53] = score.yakuman_count;
+    let points = [
+        score.basic_points,
+        score.from_non_dealer,
+        score.from_dealer,
+        score.from_discarder,
+        total,
+    ];
+    for (place, points) in points.iter().enumerate() {
+        record[54 + 4 * place..][..4].copy_from_slice(&points.to_le_bytes());
+    }
+}
+
+/// The record of a win and the number of a reading.
+fn record(dealt: &Dealt, number: usize) -> [u8; RECORD] {
+    let expected = &dealt.expected;
+    let waits = expected.name_waits(number);
+    let mut record = [0; RECORD];
+    put_hand(&mut record, &dealt.hand);
+    put_win(&mut record[51..63], &dealt.win);
+    put_u16(&mut record, 63, number);
+    put_score(&mut record[65..139], &expected.score_win());
+    put_score(&mut record[139..213], &expected.score_reading(number));
+    record[213] = waits.number as u8;
+    record[214..220].copy_from_slice(&waits.waits);
+    record
+}
+
+/// Deals a win, and adds its record if it fits the part.
+fn add_one(part: &Part, rng: &mut Rng, tally: &mut WinTally, sample: &mut Sample<RECORD>) -> bool {
+    let (hand, win) = (part.deal)(rng);
+    let mut hand = hand.with_noise(rng);
+    hand.calls.count = hand.calls.count.min(MOST_CALLS);
+    let expected = ExpectedWin::of(&hand, &win);
+    let dealt = Dealt {
+        hand,
+        win,
+        expected,
+    };
+    let number = number(rng, dealt.expected.scores.len());
+    let is_added = (part.fits)(&dealt) && sample.add(record(&dealt, number));
+    if is_added {
+        let Dealt {
+            hand,
+            win,
+            expected,
+        } = &dealt;
+        tally.count_win(hand, win, expected);
+        tally.count_answer(Operation::ScoreWin, expected.score_win().number);
+        tally.count_answer(
+            Operation::ScoreReading,
+            expected.score_reading(number).number,
+        );
+        tally.count_answer(Operation::NameWaits, expected.name_waits(number).number);
+    }
+    is_added
+}
+
+fn main() -> ExitCode {
+    stored::write("sample_wins", SEED, |rng, sample| {
+        let mut tally = WinTally::default();
+        for part in parts() {
+            sample.part(&part.title, part.records, |sample| {
+                add_one(&part, rng, &mut tally, sample)
+            });
+        }
+        tally
+    })
+}

@@ -1,0 +1,122 @@
+//! The comparison of scored wins and readings and of named waits, class by class.
+
+use crate::every::{hand_of, suit_counts};
+use crate::hand::*;
+use crate::library::{RON, TSUMO, Win};
+use crate::random;
+use crate::rng::Rng;
+use crate::win_checker::WinChecker;
+use crate::win_damage;
+use crate::win_oracle::{ExpectedHand, ExpectedWin};
+use crate::win_tally::WinTally;
+use crate::wins;
+use std::time::Instant;
+
+const EAST: u8 = 27;
+const SOUTH: u8 = 28;
+
+/// What to compare: the classes that are named.
+pub struct Options {
+    pub seed: u64,
+    pub random: Option<u64>,
+    pub suit: bool,
+}
+
+/// Compares the classes that are asked for, and answers the number of inputs that differ.
+pub fn compare(options: &Options) -> u64 {
+    let seed = options.seed;
+    let mut checker = WinChecker::new(seed);
+    let mut total = WinTally::default();
+    if options.suit {
+        let title = "every closed hand of one suit, won by each of its tiles, by ron and by tsumo";
+        total.add(&run(&mut checker, title, |checker| {
+            compare_suits(checker, seed)
+        }));
+    }
+    if let Some(wins) = options.random {
+        let title = format!("random wins, seed {seed}");
+        total.add(&run(&mut checker, &title, |checker| {
+            compare_random(checker, seed, wins)
+        }));
+    }
+    println!("all\n{total}  {}", total.differences());
+    total.differ()
+}
+
+/// Compares a class, and prints its tally.
+fn run(checker: &mut WinChecker, title: &str, class: impl FnOnce(&mut WinChecker)) -> WinTally {
+    println!("{title}");
+    let start = Instant::now();
+    class(checker);
+    let tally = checker.take_tally();
+    let seconds = start.elapsed().as_secs_f64();
+    println!("{tally}  {}\n  {seconds:.1} s\n", tally.differences());
+    tally
+}
+
+/// Each hand, winning tile and win type twice: by seat South in the round of East with no flags, and
+/// in any circumstances.
+fn compare_suits(checker: &mut WinChecker, seed: u64) {
+    let mut rng = Rng::new(!seed);
+    let numbers = suit_counts(14);
+    for suit in 0..3 {
+        for numbers in &numbers {
+            let hand = hand_of(suit, numbers, &[0; 7]);
+            let expected = ExpectedHand::of(&hand);
+            for tile in wins::held_tiles(&hand) {
+                for win_type in [RON, TSUMO] {
+                    let plain = plain_win(win_type, tile);
+                    let drawn = Win {
+                        win_type,
+                        ..wins::win(&mut rng, &hand, tile)
+                    };
+                    checker.check(&hand, &plain, &expected.won(&hand, &plain));
+                    checker.check(&hand, &drawn, &expected.won(&hand, &drawn));
+                }
+            }
+        }
+    }
+}
+
+fn plain_win(win_type: u8, winning_tile: u8) -> Win {
+    Win {
+        win_type,
+        winning_tile,
+        round_wind: EAST,
+        seat_wind: SOUTH,
+        ..Win::default()
+    }
+}
+
+fn compare_random(checker: &mut WinChecker, seed: u64, wins: u64) {
+    let mut rng = Rng::new(!seed);
+    let mut left = wins;
+    while left > 0 {
+        if rng.percent(22) {
+            let (hand, win) = win_damage::damaged(&mut rng);
+            checker.check(&hand, &win, &ExpectedWin::of(&hand, &win));
+            left -= 1;
+            continue;
+        }
+        let hand = sound_hand(&mut rng);
+        let expected = ExpectedHand::of(&hand);
+        for tile in wins::winning_tiles(&mut rng, &hand) {
+            if left > 0 {
+                let win = wins::win(&mut rng, &hand, tile);
+                checker.check(&hand, &win, &expected.won(&hand, &win));
+                left -= 1;
+            }
+        }
+    }
+}
+
+/// A hand with no fault, most often with a reading.
+fn sound_hand(rng: &mut Rng) -> Hand {
+    match rng.share(&[86, 8, 1, 1, 4]) {
+        0 => wins::hand(rng),
+        1 => random::near_winning(rng),
+        2 => random::near_seven_pairs(rng),
+        3 => random::near_orphans(rng),
+        _ => random::any_tiles(rng),
+    }
+}

@@ -1,0 +1,94 @@
+//! What the programs that write stored samples share.
+
+use crate::arguments;
+use crate::hand::Hand;
+use crate::library::Win;
+use crate::rng::Rng;
+use std::collections::HashSet;
+use std::fmt::Display;
+use std::fs;
+use std::process::ExitCode;
+
+/// A row of records of one length, no record twice.
+pub struct Sample<const RECORD: usize> {
+    seen: HashSet<[u8; RECORD]>,
+    bytes: Vec<u8>,
+}
+
+impl<const RECORD: usize> Sample<RECORD> {
+    /// Adds a record unless it is there already, and says whether it was added.
+    pub fn add(&mut self, record: [u8; RECORD]) -> bool {
+        let is_new = self.seen.insert(record);
+        if is_new {
+            self.bytes.extend(record);
+        }
+        is_new
+    }
+
+    /// A part of so many records: tries until so many tries have added one.
+    pub fn part(
+        &mut self,
+        title: &str,
+        records: usize,
+        mut try_one: impl FnMut(&mut Self) -> bool,
+    ) {
+        let mut added = 0;
+        while added < records {
+            added += usize::from(try_one(self));
+        }
+        println!("  {records:5}  {title}");
+    }
+}
+
+/// Runs a program that makes a sample, writes it into the file that its only word names, and prints
+/// the tally that it answers.
+pub fn write<const RECORD: usize, T: Display>(
+    program: &str,
+    seed: u64,
+    make: impl FnOnce(&mut Rng, &mut Sample<RECORD>) -> T,
+) -> ExitCode {
+    arguments::run(&format!("usage: {program} FILE"), |words| {
+        let [path] = words else {
+            return None;
+        };
+        let mut sample = Sample {
+            seen: HashSet::new(),
+            bytes: Vec::new(),
+        };
+        println!("seed {seed}, no record twice; records of each part:");
+        let tally = make(&mut Rng::new(seed), &mut sample);
+        fs::write(path, &sample.bytes).expect("the file can be written");
+        print!("{} bytes in {path}\n{tally}", sample.bytes.len());
+        Some(ExitCode::SUCCESS)
+    })
+}
+
+/// The greatest number of calls that a record can hold.
+pub const MOST_CALLS: usize = u16::MAX as usize;
+
+/// Writes a hand into 51 bytes: the length of the counts, room for 40 counts, the number of calls in
+/// two bytes, and four melds, each its tile and its kind.
+pub fn put_hand(record: &mut [u8], hand: &Hand) {
+    record[0] = hand.length as u8;
+    record[1..][..hand.length].copy_from_slice(hand.counts());
+    put_u16(record, 41, hand.calls.count);
+    for (place, meld) in hand.calls.melds.iter().enumerate() {
+        record[43 + 2 * place] = meld.tile;
+        record[44 + 2 * place] = meld.kind;
+    }
+}
+
+/// Writes a win into 12 bytes: its type, the winning tile, the winds and the flags.
+pub fn put_win(record: &mut [u8], win: &Win) {
+    record[0] = win.win_type;
+    record[1] = win.winning_tile;
+    record[2] = win.round_wind;
+    record[3] = win.seat_wind;
+    record[4..12].copy_from_slice(&win.flags().map(u8::from));
+}
+
+/// Writes a number into two bytes, the lower one first.
+pub fn put_u16(record: &mut [u8], at: usize, value: usize) {
+    let value = u16::try_from(value).expect("the number fits in its two bytes");
+    record[at..at + 2].copy_from_slice(&value.to_le_bytes());
+}

@@ -1,0 +1,268 @@
+//! What the library has to answer for a win: the refusals as the scope paper lists them, agari's
+//! scores of the readings, and the choice that the paper adds.
+
+use crate::agari_scores::ReadHand;
+use crate::hand::Hand;
+use crate::library::{Score, TSUMO, WAITS, Waits, Win, YAKU};
+use crate::oracle::{self, FAULTS};
+
+/// The refusals of a win that do not depend on its readings, in their order.
+pub const CHECKS: [usize; FAULTS + 2] = [1, 2, 3, 4, 5, 6, 8, 9];
+
+// The refusals that do.
+const NO_READING: u32 = 10;
+const NO_YAKU: u32 = 11;
+const NO_SUCH_READING: u32 = 12;
+
+/// A hand with agari's readings, whatever the win.
+pub struct ExpectedHand {
+    faults: [bool; FAULTS],
+    /// Nothing where the hand is refused.
+    read: Option<ReadHand>,
+}
+
+impl ExpectedHand {
+    pub fn of(hand: &Hand) -> ExpectedHand {
+        let faults = oracle::faults(hand);
+        let is_refused = faults.contains(&true);
+        ExpectedHand {
+            faults,
+            read: (!is_refused).then(|| ReadHand::of(hand)),
+        }
+    }
+
+    /// What is expected for the hand, won so.
+    pub fn won(&self, hand: &Hand, win: &Win) -> ExpectedWin {
+        let [one, two, three, four, five, six] = self.faults;
+        let [range, tile] = win_faults(hand, win);
+        let faults = [one, two, three, four, five, six, range, tile];
+        let read = self.read.as_ref().filter(|_| !faults.contains(&true));
+        ExpectedWin {
+            faults,
+            scores: read.map_or(Vec::new(), |read| read.scores(win)),
+            waits: read.map_or(Vec::new(), |read| read.waits(win)),
+        }
+    }
+}
+
+/// The grounds for the refusals 8 and 9, each looked at by itself.
+fn win_faults(hand: &Hand, win: &Win) -> [bool; 2] {
+    let is_wind = |tile: u8| (27..=30).contains(&tile);
+    let held = hand.counts().get(usize::from(win.winning_tile));
+    [
+        win.win_type > TSUMO || !is_wind(win.round_wind) || !is_wind(win.seat_wind),
+        win.winning_tile > 33 || held.is_none_or(|&count| count == 0),
+    ]
+}
+
+/// What is expected for a win.
+pub struct ExpectedWin {
+    /// Which of the checks fail. The first of them is the answer.
+    pub faults: [bool; CHECKS.len()],
+    /// The scores of the readings in the order of their records; none where the win is refused.
+    pub scores: Vec<Score>,
+    /// Their waits, likewise.
+    pub waits: Vec<[u8; WAITS]>,
+}
+
+impl ExpectedWin {
+    pub fn of(hand: &Hand, win: &Win) -> ExpectedWin {
+        ExpectedHand::of(hand).won(hand, win)
+    }
+
+    /// The number of the first check that fails.
+    fn refusal(&self) -> Option<u32> {
+        let first = self.faults.iter().position(|&fault| fault);
+        first.map(|place| CHECKS[place] as u32)
+    }
+
+    pub fn score_win(&self) -> Score {
+        if let Some(number) = self.refusal() {
+            return refused(number);
+        }
+        if self.scores.is_empty() {
+            return refused(NO_READING);
+        }
+        match self.ranking().first() {
+            Some(&chosen) => *chosen,
+            None => refused(NO_YAKU),
+        }
+    }
+
+    pub fn score_reading(&self, number: usize) -> Score {
+        match self.refusal() {
+            Some(refusal) => refused(refusal),
+            None => *self.scores.get(number).unwrap_or(&refused(NO_SUCH_READING)),
+        }
+    }
+
+    pub fn name_waits(&self, number: usize) -> Waits {
+        let refused = |number| Waits {
+            number,
+            ..Waits::default()
+        };
+        match (self.refusal(), self.waits.get(number)) {
+            (Some(refusal), _) => refused(refusal),
+            (None, None) => refused(NO_SUCH_READING),
+            (None, Some(&waits)) => Waits { number: 0, waits },
+        }
+    }
+
+    /// The scores with at least one yaku, the one to choose first. Where no rule of the choice tells
+    /// two apart, the earlier record stays before the later.
+    fn ranking(&self) -> Vec<&Score> {
+        let mut ranking: Vec<&Score> = self.scores.iter().collect();
+        ranking.retain(|score| score.tallies != [0; YAKU]);
+        ranking.sort_by_key(|score| std::cmp::Reverse(worth(score)));
+        ranking
+    }
+
+    /// The number of the rule that decides between the chosen reading and the next: 0 the total, 1 a
+    /// yakuman before none, 2 more han, 3 more fu, 4 the earlier record. Nothing where there is no
+    /// other reading with a yaku.
+    pub fn deciding_rule(&self) -> Option<usize> {
+        let ranking = self.ranking();
+        let (chosen, next) = (worth(ranking.first()?), worth(ranking.get(1)?));
+        let differing = (0..chosen.len()).find(|&rule| chosen[rule] != next[rule]);
+        Some(differing.unwrap_or(chosen.len()))
+    }
+}
+
+/// What the choice looks at, in its order; more is better.
+fn worth(score: &Score) -> [u64; 4] {
+    [
+        score.total,
+        score.is_yakuman.into(),
+        score.han.into(),
+        score.fu.into(),
+    ]
+}
+
+/// A refusal's number alone.
+fn refused(number: u32) -> Score {
+    Score {
+        number,
+        reading: 0,
+        tallies: [0; YAKU],
+        han: 0,
+        fu: 0,
+        is_yakuman: 0,
+        level: 0,
+        yakuman_count: 0,
+        basic_points: 0,
+        from_non_dealer: 0,
+        from_dealer: 0,
+        from_discarder: 0,
+        total: 0,
+    }
+}
+
+#[cfg(test)]
+mod tests {
+    use super::*;
+    use crate::hand::*;
+    use crate::library::{Meld, RON};
+
+    const MAN_1: u8 = 0;
+    const MAN_4: u8 = 3;
+    const SOU_8: u8 = 25;
+    const EAST: u8 = 27;
+    const SOUTH: u8 = 28;
+
+    fn ron(winning_tile: u8) -> Win {
+        Win {
+            win_type: RON,
+            winning_tile,
+            round_wind: EAST,
+            seat_wind: SOUTH,
+            ..Win::default()
+        }
+    }
+
+    fn answer(hand: &Hand, win: &Win) -> (u32, usize, u64) {
+        let score = ExpectedWin::of(hand, win).score_win();
+        (score.number, score.reading, score.total)
+    }
+
+    #[test]
+    fn choices_of_the_scope_paper() {
+        let triplets = Hand::written("222333444m567p88s");
+        assert_eq!(answer(&triplets, &ron(SOU_8)), (0, 1, 6400));
+        let twins = Hand::written("223344m667788p55s");
+        assert_eq!(answer(&twins, &ron(MAN_4)), (0, 1, 8000));
+        let orphans = Hand::written("19m19p19s12345677z");
+        assert_eq!(answer(&orphans, &ron(33)), (0, 0, 64_000));
+    }
+
+    #[test]
+    fn no_yaku_is_refused_as_a_win_and_priced_by_number() {
+        let mut open = Hand::written("55m456p234678s");
+        open.call(Meld::new(0, OPEN_SEQUENCE));
+        let expected = ExpectedWin::of(&open, &ron(SOU_8));
+        assert_eq!(expected.score_win(), refused(11));
+        let reading = expected.score_reading(0);
+        assert_eq!((reading.han, reading.fu, reading.total), (0, 30, 500));
+        assert_eq!(expected.score_reading(1), refused(12));
+        assert_eq!(expected.name_waits(1).number, 12);
+        assert_eq!(expected.name_waits(0).waits, [1, 0, 0, 0, 0, 0]);
+    }
+
+    #[test]
+    fn checks_come_in_their_order() {
+        let short = Hand::written("1235m456p234678s");
+        let hand = Hand::written("12355m456p234678s");
+        let mut called = Hand::written("55m456p234678s");
+        called.call(Meld::new(0, OPEN_SEQUENCE));
+        let mut two_faults = ron(34);
+        two_faults.win_type = 2;
+        let cases = [
+            (&short, two_faults, 6),
+            (&hand, two_faults, 8),
+            (&hand, ron(34), 9),
+            (&hand, ron(EAST), 9),
+            (&called, ron(MAN_1), 9),
+            (&Hand::written("12345m456p234678s"), ron(SOU_8), 10),
+        ];
+        for (hand, win, number) in cases {
+            assert_eq!(answer(hand, &win).0, number, "{hand}, {win:?}");
+        }
+        let no_reading = ExpectedWin::of(&Hand::written("12345m456p234678s"), &ron(SOU_8));
+        assert_eq!(no_reading.score_reading(0).number, 12);
+    }
+
+    #[test]
+    fn the_rules_of_the_choice_decide_in_their_order() {
+        let score = |total, is_yakuman, han, fu| Score {
+            tallies: [1; YAKU],
+            total,
+            is_yakuman,
+            han,
+            fu,
+            ..refused(0)
+        };
+        let pairs = [
+            (score(2000, 0, 1, 30), score(1000, 1, 2, 40)),
+            (score(1000, 1, 1, 30), score(1000, 0, 2, 40)),
+            (score(1000, 0, 2, 30), score(1000, 0, 1, 40)),
+            (score(1000, 0, 2, 40), score(1000, 0, 2, 30)),
+            (score(1000, 0, 2, 40), score(1000, 0, 2, 40)),
+        ];
+        for (rule, (better, worse)) in pairs.into_iter().enumerate() {
+            let no_yaku = Score {
+                tallies: [0; YAKU],
+                ..score(9000, 1, 99, 99)
+            };
+            let better = Score {
+                reading: 1,
+                ..better
+            };
+            let expected = ExpectedWin {
+                faults: [false; CHECKS.len()],
+                scores: vec![no_yaku, better, worse],
+                waits: vec![],
+            };
+            assert_eq!(expected.score_win(), better);
+            assert_eq!(expected.deciding_rule(), Some(rule));
+        }
+    }
+}

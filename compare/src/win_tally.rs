@@ -1,0 +1,256 @@
+//! Counts of the wins that were compared, by the expected answers.
+
+use crate::agari_scores::{WAIT_ENTRIES, YAKU_ENTRIES};
+use crate::faults::{FaultTally, add_each, listed_from};
+use crate::hand::{Hand, KINDS};
+use crate::library::{MIXTURES, Score, TSUMO, Waits, Win};
+use crate::score_tally::named;
+use crate::win_oracle::{CHECKS, ExpectedWin};
+use std::fmt;
+
+const OPERATIONS: [&str; 3] = ["score_win", "score_reading", "name_waits"];
+const EAST: u8 = 27;
+/// The answers 0 to 12.
+const ANSWERS: usize = 13;
+pub const LEVELS: [&str; 6] = [
+    "Normal",
+    "Mangan",
+    "Haneman",
+    "Baiman",
+    "Sanbaiman",
+    "Yakuman",
+];
+pub const SETTLEMENTS: [&str; 4] = ["ron", "ron to the dealer", "tsumo", "tsumo by the dealer"];
+/// The rules of the choice.
+pub const RULES: [&str; 5] = ["total", "yakuman", "han", "fu", "earlier record"];
+
+const RANGES: [&str; 3] = ["win type", "round wind", "seat wind"];
+const ABSENCES: [&str; 3] = ["above 33", "in a call alone", "nowhere"];
+
+/// An operation of the library.
+#[derive(Clone, Copy)]
+pub enum Operation {
+    ScoreWin,
+    ScoreReading,
+    NameWaits,
+}
+
+impl fmt::Display for Operation {
+    fn fmt(&self, f: &mut fmt::Formatter) -> fmt::Result {
+        write!(f, "{}", OPERATIONS[*self as usize])
+    }
+}
+
+/// A win is a hand with its calls, and how it was won. An input is a win, with the number of a
+/// reading where the operation asks for one.
+pub struct WinTally {
+    wins: u64,
+    /// Inputs of each operation by answer.
+    answers: [[u64; ANSWERS]; OPERATIONS.len()],
+    differ: [u64; OPERATIONS.len()],
+    faults: FaultTally<{ CHECKS.len() }>,
+    /// Wins that are refused with 8, by what is out of range, and with 9, by where the tile is.
+    out_of_range: [u64; RANGES.len()],
+    absent: [u64; ABSENCES.len()],
+    /// Wins that pass the checks, by readings, five or more together, and by number of calls.
+    readings: [u64; 6],
+    calls: [u64; 5],
+    /// Whether each mixture of win type, winds and flags occurred in them.
+    mixtures: Vec<bool>,
+    /// Scored wins by level, by settlement, and by the rule that decided where there was a choice.
+    levels: [u64; LEVELS.len()],
+    settlements: [u64; SETTLEMENTS.len()],
+    rules: [u64; RULES.len()],
+    /// Scored wins whose chosen reading is not the first.
+    not_first: u64,
+}
+
+impl Default for WinTally {
+    fn default() -> WinTally {
+        WinTally {
+            wins: 0,
+            answers: [[0; ANSWERS]; OPERATIONS.len()],
+            differ: [0; OPERATIONS.len()],
+            faults: FaultTally::new("wins", CHECKS),
+            out_of_range: [0; RANGES.len()],
+            absent: [0; ABSENCES.len()],
+            readings: [0; 6],
+            calls: [0; 5],
+            mixtures: vec![false; MIXTURES],
+            levels: [0; LEVELS.len()],
+            settlements: [0; SETTLEMENTS.len()],
+            rules: [0; RULES.len()],
+            not_first: 0,
+        }
+    }
+}
+
+impl WinTally {
+    /// The number of inputs on which the sides differ.
+    pub fn differ(&self) -> u64 {
+        self.differ.iter().sum()
+    }
+
+    /// That number, operation by operation and all together.
+    pub fn differences(&self) -> String {
+        let each = counted(&OPERATIONS, &self.differ);
+        format!("differ: {} ({each})", self.differ())
+    }
+
+    pub fn count_difference(&mut self, operation: Operation) {
+        self.differ[operation as usize] += 1;
+    }
+
+    /// Counts an input by the number that is expected.
+    pub fn count_answer(&mut self, operation: Operation, number: u32) {
+        self.answers[operation as usize][number as usize] += 1;
+    }
+
+    pub fn count_win(&mut self, hand: &Hand, win: &Win, expected: &ExpectedWin) {
+        self.wins += 1;
+        self.faults.count(&expected.faults);
+        match expected.score_win().number {
+            8 => self.count_out_of_range(win),
+            9 => self.count_absent(hand, win),
+            _ => {}
+        }
+        if expected.faults.contains(&true) {
+            return;
+        }
+        self.readings[expected.scores.len().min(5)] += 1;
+        self.calls[hand.calls.count] += 1;
+        self.mixtures[win.mixture()] = true;
+        let score = expected.score_win();
+        if score.number == 0 {
+            self.count_score(win, &score);
+        }
+        if let Some(rule) = expected.deciding_rule() {
+            self.rules[rule] += 1;
+        }
+    }
+
+    fn count_out_of_range(&mut self, win: &Win) {
+        let winds = [win.round_wind, win.seat_wind];
+        let [round, seat] = winds.map(|wind| !(27..=30).contains(&wind));
+        for (count, is_out) in self
+            .out_of_range
+            .iter_mut()
+            .zip([win.win_type > TSUMO, round, seat])
+        {
+            *count += u64::from(is_out);
+        }
+    }
+
+    fn count_absent(&mut self, hand: &Hand, win: &Win) {
+        let tile = usize::from(win.winning_tile);
+        let mut called = hand.called().iter().flat_map(|meld| meld.tiles());
+        let place = match tile {
+            KINDS.. => 0,
+            _ if called.any(|other| other == tile) => 1,
+            _ => 2,
+        };
+        self.absent[place] += 1;
+    }
+
+    fn count_score(&mut self, win: &Win, score: &Score) {
+        self.levels[usize::from(score.level)] += 1;
+        self.settlements[settlement(win)] += 1;
+        self.not_first += u64::from(score.reading > 0);
+    }
+
+    /// Adds another tally.
+    pub fn add(&mut self, other: &WinTally) {
+        self.wins += other.wins;
+        for (mine, others) in self.answers.iter_mut().zip(&other.answers) {
+            add_each(mine, others);
+        }
+        add_each(&mut self.differ, &other.differ);
+        self.faults.add(&other.faults);
+        add_each(&mut self.out_of_range, &other.out_of_range);
+        add_each(&mut self.absent, &other.absent);
+        add_each(&mut self.readings, &other.readings);
+        add_each(&mut self.calls, &other.calls);
+        for (mine, other) in self.mixtures.iter_mut().zip(&other.mixtures) {
+            *mine |= other;
+        }
+        add_each(&mut self.levels, &other.levels);
+        add_each(&mut self.settlements, &other.settlements);
+        add_each(&mut self.rules, &other.rules);
+        self.not_first += other.not_first;
+    }
+}
+
+/// The place of a win's settlement among their names.
+pub fn settlement(win: &Win) -> usize {
+    let is_dealer = win.seat_wind == EAST;
+    2 * usize::from(win.win_type == TSUMO) + usize::from(is_dealer)
+}
+
+impl fmt::Display for WinTally {
+    fn fmt(&self, f: &mut fmt::Formatter) -> fmt::Result {
+        writeln!(f, "  wins {}", self.wins)?;
+        for (operation, answers) in OPERATIONS.iter().zip(&self.answers) {
+            let inputs: u64 = answers.iter().sum();
+            writeln!(f, "  {operation}: inputs {inputs}")?;
+            writeln!(f, "    by answer: {}", listed_from(0, answers))?;
+        }
+        let readings = listed_from(0, &self.readings);
+        let seen = self.mixtures.iter().filter(|&&seen| seen).count();
+        writeln!(f, "  wins that pass the checks, by readings: {readings}")?;
+        writeln!(f, "    by calls: {}", listed_from(0, &self.calls))?;
+        writeln!(
+            f,
+            "    mixtures of win type, winds and flags: {seen} of {MIXTURES}"
+        )?;
+        let levels = counted(&LEVELS, &self.levels);
+        writeln!(f, "  scored wins by level: {levels}")?;
+        writeln!(
+            f,
+            "    by settlement: {}",
+            counted(&SETTLEMENTS, &self.settlements)
+        )?;
+        writeln!(
+            f,
+            "    told from the next reading by: {}",
+            counted(&RULES, &self.rules)
+        )?;
+        writeln!(f, "    not the first reading: {}", self.not_first)?;
+        let ranges = counted(&RANGES, &self.out_of_range);
+        writeln!(f, "  refused with 8, out of range: {ranges}")?;
+        let absences = counted(&ABSENCES, &self.absent);
+        writeln!(f, "  refused with 9, winning tile: {absences}")?;
+        write!(f, "{}", self.faults)
+    }
+}
+
+/// Counts with their names.
+fn counted(names: &[&str], counts: &[u64]) -> String {
+    let entries: Vec<String> = names
+        .iter()
+        .zip(counts)
+        .map(|(name, count)| format!("{name} {count}"))
+        .collect();
+    entries.join(", ")
+}
+
+impl fmt::Display for Score {
+    fn fmt(&self, f: &mut fmt::Formatter) -> fmt::Result {
+        let yaku = named(&YAKU_ENTRIES, &self.tallies);
+        write!(f, "number {}, reading {}, ", self.number, self.reading)?;
+        write!(f, "yaku [{yaku}], han {}, fu {}, ", self.han, self.fu)?;
+        write!(f, "yakuman {}, level {} ", self.is_yakuman, self.level)?;
+        write!(f, "count {}, ", self.yakuman_count)?;
+        write!(f, "basic points {}, ", self.basic_points)?;
+        write!(f, "from non-dealer {}, ", self.from_non_dealer)?;
+        write!(f, "dealer {}, ", self.from_dealer)?;
+        write!(f, "discarder {}, ", self.from_discarder)?;
+        write!(f, "total {}", self.total)
+    }
+}
+
+impl fmt::Display for Waits {
+    fn fmt(&self, f: &mut fmt::Formatter) -> fmt::Result {
+        let waits = named(&WAIT_ENTRIES, &self.waits);
+        write!(f, "number {}, waits [{waits}]", self.number)
+    }
+}
