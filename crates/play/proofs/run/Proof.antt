@@ -12,6 +12,9 @@ Inv-loop fd turn₀ left₀ turn left = left ≤ 1000000
 abbrev μ-loop : tie.MeasureT-loop
 μ-loop fd turn₀ left₀ turn left = left
 
+first-requires : tie.Need-first-requires Inv-loop μ-loop
+first-requires c κs = search needs
+
 loop-holds : tie.Need-loop-holds Inv-loop μ-loop
 loop-holds c = search needs
 
@@ -36,6 +39,7 @@ run-spec =
     (tie.spec
     Inv-loop
     μ-loop
+    first-requires
     loop-holds
     step-requires
     sub-left

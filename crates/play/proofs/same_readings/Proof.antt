@@ -1,9 +1,8 @@
--- `play::same_readings` is safe and ends. Assumes nothing.
+-- `play::same_readings` is safe and ends. The measure is what is left of the readings. Assumes nothing.
 use Prim.Native.Nat.{_≤_, _-_}
 use borrow.Author.Needs.{needs}
 use Rattle.play.proofs.same_readings.Statement.{statement}
 use Rattle.play.proofs.same_readings.Tie as tie
-use Rattle.play.proofs.same_reading.Reads as same-reading-reads
 
 abbrev Inv-loop : tie.InvT-loop
 Inv-loop rec n k₀ k = k ≤ n

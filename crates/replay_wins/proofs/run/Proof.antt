@@ -12,8 +12,8 @@ Inv-loop fd turn₀ left₀ turn left = left ≤ 1000000
 abbrev μ-loop : tie.MeasureT-loop
 μ-loop fd turn₀ left₀ turn left = left
 
-none-requires : tie.Need-none-requires Inv-loop μ-loop
-none-requires c κs = search needs
+first-requires : tie.Need-first-requires Inv-loop μ-loop
+first-requires c κs = search needs
 
 loop-holds : tie.Need-loop-holds Inv-loop μ-loop
 loop-holds c = search needs
@@ -39,7 +39,7 @@ run-spec =
     (tie.spec
     Inv-loop
     μ-loop
-    none-requires
+    first-requires
     loop-holds
     step-requires
     sub-left

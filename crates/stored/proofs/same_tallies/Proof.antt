@@ -1,14 +1,14 @@
--- `replay_scores::same_tallies` is safe and ends. Assumes nothing.
+-- `stored::same_tallies` is safe and ends. The measure is what is left of the 47 tallies. Assumes nothing.
 use Prim.Native.Nat.{_≤_, _-_}
 use borrow.Author.Needs.{needs}
-use Rattle.replay_scores.proofs.same_tallies.Statement.{statement}
-use Rattle.replay_scores.proofs.same_tallies.Tie as tie
+use Rattle.stored.proofs.same_tallies.Statement.{statement}
+use Rattle.stored.proofs.same_tallies.Tie as tie
 
 abbrev Inv-loop : tie.InvT-loop
-Inv-loop rec tallies i₀ i = i ≤ 47
+Inv-loop s at tallies i₀ i = i ≤ 47
 
 abbrev μ-loop : tie.MeasureT-loop
-μ-loop rec tallies i₀ i = 47 - i
+μ-loop s at tallies i₀ i = 47 - i
 
 loop-holds : tie.Need-loop-holds Inv-loop μ-loop
 loop-holds c = search needs

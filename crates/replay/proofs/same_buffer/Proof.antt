@@ -1,8 +1,8 @@
--- `replay::same_bytes` is safe and ends. The measure is what is left of the 120 bytes. Assumes nothing.
+-- `replay::same_buffer` is safe and ends. The measure is what is left of the 120 bytes. Assumes nothing.
 use Prim.Native.Nat.{_≤_, _-_}
 use borrow.Author.Needs.{needs}
-use Rattle.replay.proofs.same_bytes.Statement.{statement}
-use Rattle.replay.proofs.same_bytes.Tie as tie
+use Rattle.replay.proofs.same_buffer.Statement.{statement}
+use Rattle.replay.proofs.same_buffer.Tie as tie
 
 abbrev Inv-loop : tie.InvT-loop
 Inv-loop rec lent buf i₀ i = i ≤ 120
@@ -40,8 +40,8 @@ loop-again c = search needs
 returns-2 : tie.Need-returns-2 Inv-loop μ-loop
 returns-2 c = search needs
 
-pub same-bytes-spec : {M : Type 1} → statement M
-same-bytes-spec =
+pub same-buffer-spec : {M : Type 1} → statement M
+same-buffer-spec =
     tie.close
     (tie.spec
     Inv-loop
