@@ -1,0 +1,104 @@
+// Waits, yaku, han, fu, levels and payments.
+ghost use Prim.Native.Nat.{_<_};
+use crate::names;
+use crate::text;
+
+// Writes the entry of a wait, if it has a tally. Answers whether nothing stands in the list yet.
+fn say_wait(i: usize, tally: u8, first: bool) -> bool
+    requires { ⌜ i < 6 ⌝ }
+{
+    if tally == 0 {
+        return first;
+    }
+    text::say_comma(first);
+    names::say_wait(i, tally);
+    false
+}
+
+// Writes the waits.
+fn say_waits(tallies: [u8; 6]) {
+    let mut first = true;
+    for i in 0..6 {
+        first = say_wait(i, tallies[i], first);
+    }
+    text::say_none(first);
+}
+
+// Writes the entry of a yaku, if it has a tally. Answers whether nothing stands in the list yet.
+fn say_yaku(i: usize, tally: u8, opened: bool, first: bool) -> bool
+    requires { ⌜ i < 47 ⌝ }
+{
+    if tally == 0 {
+        return first;
+    }
+    text::say_comma(first);
+    names::say_yaku(i, tally, opened);
+    false
+}
+
+// Writes the yaku.
+fn say_all_yaku(tallies: [u8; 47], opened: bool) {
+    let mut first = true;
+    for i in 0..47 {
+        first = say_yaku(i, tallies[i], opened, first);
+    }
+    text::say_none(first);
+}
+
+// Writes han, fu and level.
+pub fn say_worth(x: reading_score::ScoringResult) {
+    let level = x.score_level;
+    text::say_number(x.han as u64);
+    text::say(b" han ");
+    text::say_number(x.fu as u64);
+    text::say(b" fu, ");
+    names::say_level(level);
+}
+
+// Writes who pays what.
+fn say_payers(p: scoring::Payment) {
+    match p {
+        scoring::Payment::Ron { from_discarder } => {
+            text::say(b"the discarder pays ");
+            text::say_points(from_discarder as u64);
+        }
+        scoring::Payment::DealerTsumo { from_each } => {
+            text::say(b"each of the three others pays ");
+            text::say_points(from_each as u64);
+        }
+        scoring::Payment::Tsumo {
+            from_dealer,
+            from_non_dealer,
+        } => {
+            text::say(b"the dealer pays ");
+            text::say_points(from_dealer as u64);
+            text::say(b", the two others ");
+            text::say_points(from_non_dealer as u64);
+            text::say(b" each");
+        }
+    }
+}
+
+// Writes who pays what, and the total.
+pub fn say_payment(p: scoring::Payment) {
+    say_payers(p);
+    text::say(b", total ");
+    text::say_points(p.total());
+}
+
+// Writes a reading's score.
+pub fn say_score(x: reading_score::ScoringResult, waits: [u8; 6], opened: bool) {
+    let tallies = x.tallies;
+    let payment = x.payment;
+    text::say(b"  waits: ");
+    say_waits(waits);
+    text::say(b"\n  yaku: ");
+    say_all_yaku(tallies, opened);
+    text::say(b"\n  score: ");
+    say_worth(x);
+    text::say(b", basic points ");
+    text::say_points(x.basic_points as u64);
+    text::say(b"\n  payment: ");
+    say_payment(payment);
+    text::say(b"\n");
+}
