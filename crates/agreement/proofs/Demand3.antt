@@ -1,10 +1,8 @@
 -- Two tables agree: a win and the same win renamed pass the same checks, have the same readings, renamed, and score alike, where neither
 -- hand is all green. Assumes nothing.
 use mathlib.Core.Path.{_≡_, sym, ap, subst, subst₂, _∙_}
-use mathlib.Core.Bool.{cond}
 use mathlib.Core.List.{List, map}
 use Prim.Native.Nat.{ℕ, _≤_}
-use lib.Dec.{eqb}
 use lib.ListN.{length, length-map}
 use Rattle.lists.proofs.Members.{length-perm}
 use Rattle.tile.specs.declared.Renaming.{Renaming}
@@ -23,8 +21,8 @@ use Rattle.checks.specs.Checks.{called}
 use Rattle.unit.specs.Listing.{handReadings, handRecords}
 use Rattle.unit.proofs.Listed.{melds-called}
 use Rattle.promises.proofs.Listing.{once}
-use Rattle.choice.specs.Choice.{refused, choice}
 use Rattle.win.specs.Win.{winCheck, scores, scoreWin}
+use Rattle.win.proofs.Answers.{win-choice}
 use Rattle.agreement.specs.Agreement.{SameAnswer, NotGreen, Alike, renCalls}
 use Rattle.agreement.proofs.Checked.{Checked, checked, checks}
 use Rattle.agreement.proofs.Twin.{renamed-twin, checked-renamed}
@@ -33,11 +31,6 @@ use Rattle.agreement.proofs.Scored.{readings-renamed, ranks-renamed}
 use Rattle.agreement.proofs.Numbered.{same-reading}
 use Rattle.agreement.proofs.Chosen.{choice-agrees}
 use Rattle.agreement.proofs.Valued.{scores-valued}
-
--- a win that passes the checks gets the choice among its scores
-scored-win : (cs : List ℕ) (k : Calls) (w : GameContext) → winCheck cs k w ≡ 0 → scoreWin cs k w ≡ choice (scores cs k w)
-unfolding scoreWin
-scored-win cs k w e = ap (λ (n : ℕ). cond (eqb n 0) (choice (scores cs k w)) (refused n)) e
 
 module _ (ρ : Renaming) (cs : List ℕ) (k : Calls) (w : GameContext) (p : Checked cs k w) where
   -- as many readings, and as many bytes of records
@@ -59,8 +52,8 @@ module _ (ρ : Renaming) (cs : List ℕ) (k : Calls) (w : GameContext) (p : Chec
         → SameAnswer (scoreWin (renCounts ρ cs) (renCalls ρ k) (renWin ρ w)) (scoreWin cs k w)
     won-renamed plain plain′ =
         let q = checked-renamed ρ cs k w p in
-        subst₂ SameAnswer (sym (scored-win (renCounts ρ cs) (renCalls ρ k) (renWin ρ w) (checks (renCounts ρ cs) (renCalls ρ k) (renWin ρ w) q)))
-        (sym (scored-win cs k w (checks cs k w p)))
+        subst₂ SameAnswer (sym (win-choice (renCounts ρ cs) (renCalls ρ k) (renWin ρ w) (checks (renCounts ρ cs) (renCalls ρ k) (renWin ρ w) q)))
+        (sym (win-choice cs k w (checks cs k w p)))
         (choice-agrees (isTsumo w) (isDealer w) (scores (renCounts ρ cs) (renCalls ρ k) (renWin ρ w)) (scores cs k w)
         (ranks-renamed ρ cs k w p plain plain′)
         (scores-valued (renCounts ρ cs) (renCalls ρ k) four-renamed (q .hand) (renWin ρ w)) (scores-valued cs k four (p .hand) w))

@@ -1,7 +1,6 @@
 pub mod Checked
 pub mod Twin
 pub mod Listed
-pub mod Places
 pub mod Scored
 pub mod Numbered
 pub mod Chosen

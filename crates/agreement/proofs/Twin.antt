@@ -1,13 +1,13 @@
 -- A hand and its twin under a renaming of tiles and melds: the twin passes the same checks and has the same readings, renamed.
 -- Assumes nothing.
 use mathlib.Core.Path.{_≡_, refl, sym, ap, ap₂, subst, _∙_}
-use mathlib.Core.List.{List, [], _∷_, map, List·Permᴰ, Memᴰ·of-map}
-use Prim.Native.Nat.{ℕ, zero, suc, _+_, _*_, _<_, _≤_}
+use mathlib.Core.List.{List, map, List·Permᴰ}
+use Prim.Native.Nat.{ℕ, _+_, _*_, _<_, _≤_}
 use lib.Dec.{T}
-use lib.ListN.{length, take}
+use lib.ListN.{length}
 use Rattle.lists.specs.Fold.{all, sum}
 use Rattle.lists.proofs.Finite.{and-left, and-right, and-both}
-use Rattle.lists.proofs.Members.{all-mem, all-intro}
+use Rattle.lists.proofs.Members.{all-map, take-map}
 use Rattle.tile.specs.Tile.{tiles}
 use Rattle.tile.specs.declared.Renaming.{Renaming}
 use Rattle.tile.specs.Renaming.{ren}
@@ -53,11 +53,7 @@ module _
     at-most c d e four t h = subst (λ (n : ℕ). n ≤ 4) (counts-back s c d e t h) (four (f′ t) (s .back .tile t h))
 
     calls-twin : T (all isCall (map g (called k)))
-    calls-twin =
-        all-intro isCall (map g (called k))
-        (λ x i.
-        let r = Memᴰ·of-map g (called k) i in
-        subst (λ (m : Meld). T (isCall m)) (r .2) (q .call (r .0) (all-mem isCall (passed cs k hand .calls) (r .1))))
+    calls-twin = all-map isCall isCall g (q .call) (called k) (passed cs k hand .calls)
 
     pub passed-twin : Passed ds j
     passed-twin =
@@ -91,11 +87,6 @@ checked-twin s {cs} {ds} {k} {j} q {w} {v} range e p =
     }
 
 -- ---- the 24 renamings
-take-map : {A B : Type 0} (h : A → B) (n : ℕ) (l : List A) → take n (map h l) ≡ map h (take n l)
-take-map h zero l = refl
-take-map h (suc n) [] = refl
-take-map h (suc n) (a ∷ l) = ap (λ (r : List _). h a ∷ r) (take-map h n l)
-
 pub renamed-twin : (ρ : Renaming) (cs : List ℕ) (k : Calls) → Twin (ren ρ) (renMeld ρ) cs k (renCounts ρ cs) (renCalls ρ k)
 renamed-twin ρ cs k =
     record {

@@ -38,7 +38,7 @@ pub record SameAnswer (a b : ScoreAnswer) : Type 0 where
   pub same-basic : a .score .«basic_points» ≡ b .score .«basic_points»
   pub same-payment : a .score .payment ≡ b .score .payment
 
--- what a listing leaves in a lent buffer: the records of these readings in their order, each once, and behind them its old bytes
+-- what a listing leaves in the buffer that the caller lends: the records of the readings rs in their order, each once, and behind them its old bytes
 pub record Writes (rs : List Reading) (buffer left : List ℕ) : Type 0 where
   pub listed : List Reading
   pub these : List·Permᴰ listed rs
@@ -46,7 +46,7 @@ pub record Writes (rs : List Reading) (buffer left : List ℕ) : Type 0 where
   pub ascending : Pairwise Before listed
   pub bytes : left ≡ records listed ++ drop (length (records listed)) buffer
 
--- reading n of the first hand and its renamed one, at the number j where that stands, score alike and have the same waits
+-- the reading r, number n of the first hand, and its renamed one, at the number where that stands, score alike and have the same waits
 pub record SameReading (ρ : Renaming) (cs : List ℕ) (k : Calls) (w : GameContext) (n : ℕ) (r : Reading) : Type 0 where
   pub number : ℕ
   pub stands : StandsAt (renReading ρ r) number (handReadings (renCounts ρ cs) (renCalls ρ k))

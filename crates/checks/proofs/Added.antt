@@ -1,8 +1,8 @@
 -- The tiles of melds, added to counts: which tiles a meld holds, how many at most, and how many the first of the calls hold.
 -- Assumes nothing.
-use mathlib.Core.Path.{_≡_, sym, ap, ap₂, _∙_}
+use mathlib.Core.Path.{_≡_, sym, ap, _∙_}
 use mathlib.Core.Bool.{Bool, true, false, _&&_, cond}
-use mathlib.Core.List.{List, [], _∷_, _++_}
+use mathlib.Core.List.{List, [], _∷_}
 use Prim.Native.Nat.{ℕ, _+_, _*_, _<_, _≤_}
 use native.Mathlib.Decide.{ℕ-discrete}
 use native.Mathlib.Numerals.{add-one}
@@ -10,13 +10,15 @@ use native.Mathlib.Omega.{arith}
 use lib.Dec.{T, eqb, ltb, leb, leb→le, ltb→lt}
 use lib.ListN.{length, getD, set, take, length-take}
 use lib.Seq.{getD-set-same, getD-set-other, take-suc}
-use borrow.Author.Tests.{le-leb, lt-ltb, eq-eqb, ne-eqb, ltb-true}
+use borrow.Author.Tests.{eq-eqb, ne-eqb, ltb-true}
 use Rattle.lists.specs.Fold.{one, sum}
-use Rattle.lists.proofs.Finite.{and-left, and-right, or-elim, ¬T→false}
+use Rattle.lists.proofs.Finite.{and-left, and-right, or-elim, ¬T→false, one-le, cond-le}
+use Rattle.lists.proofs.Sums.{sum-append}
 use Rattle.tile.specs.Tile.{isStart}
 use Rattle.meld.specs.declared.Meld.{Meld}
 use Rattle.meld.specs.Meld.{isKan, isMeld, isSequence, runUses, setSize, uses}
 use Rattle.hand.specs.Counts.{held}
+use Rattle.hand.proofs.Lowest.{run-in}
 
 -- ---- n more of the tile t
 pub more : (cs : List ℕ) (t n u : ℕ) → t < length cs → held (set cs t (held cs t + n)) u ≡ held cs u + cond (eqb u t) n 0
@@ -42,9 +44,6 @@ if-same t u n e = ap (λ (b : Bool). cond b n 0) (eq-eqb t u e)
 
 if-other : (t u n : ℕ) → (t ≡ u → ⊥) → cond (eqb t u) n 0 ≡ 0
 if-other t u n f = ap (λ (b : Bool). cond b n 0) (ne-eqb t u f)
-
-run-in : (u t : ℕ) → u ≤ t → t < u + 3 → runUses u t ≡ 1
-run-in u t h k = ap₂ (λ (a b : Bool). one (a && b)) (le-leb u t h) (lt-ltb t (u + 3) k)
 
 run-out : (u t : ℕ) → (u ≤ t → t < u + 3 → ⊥) → runUses u t ≡ 0
 run-out u t f =
@@ -74,32 +73,20 @@ set-uses m t kan e k =
     ∙ ap (λ (b : Bool). cond (eqb t (m .tile)) (setSize b) 0) k
 
 -- ---- at most four
-cond-le : (b : Bool) (x y n : ℕ) → x ≤ n → y ≤ n → cond b x y ≤ n
-cond-le true x y n h k = h
-cond-le false x y n h k = k
-
 pub some-le : (b : Bool) (n : ℕ) → cond b n 0 ≤ n
 some-le b n = cond-le b n 0 n (omega arith) (omega arith)
 
-one-le : (b : Bool) → one b ≤ 4
-one-le true = omega arith
-one-le false = omega arith
-
 uses-le : (m : Meld) (t : ℕ) → uses m t ≤ 4
 uses-le m t =
-    cond-le (isSequence m) (runUses (m .tile) t) (cond (eqb t (m .tile)) (setSize (isKan m)) 0) 4 (one-le (leb (m .tile) t && ltb t (m .tile + 3)))
+    cond-le (isSequence m) (runUses (m .tile) t) (cond (eqb t (m .tile)) (setSize (isKan m)) 0) 4 (let h = one-le (leb (m .tile) t && ltb t (m .tile + 3)) in omega arith)
     (cond-le (eqb t (m .tile)) (setSize (isKan m)) 0 4 (cond-le (isKan m) 4 3 4 (omega arith) (omega arith)) (omega arith))
 
 -- ---- how many the first melds hold together
 abbrev pub usesOf : List Meld → ℕ → ℕ
 usesOf ms t = sum (λ m. uses m t) ms
 
-uses-append : (ms : List Meld) (m : Meld) (t : ℕ) → usesOf (ms ++ (m ∷ [])) t ≡ usesOf ms t + uses m t
-uses-append [] m t = omega arith
-uses-append (x ∷ ms) m t = let e = uses-append ms m t in omega arith
-
 pub uses-next : (ms : List Meld) (i : ℕ) (d : Meld) (t : ℕ) → i < length ms → usesOf (take (i + 1) ms) t ≡ usesOf (take i ms) t + uses (getD ms i d) t
-uses-next ms i d t h = rw (add-one, take-suc ms i d) (uses-append (take i ms) (getD ms i d) t)
+uses-next ms i d t h = rw (add-one, take-suc ms i d) (omega (arith, sum-append (λ m. uses m t) (take i ms) (getD ms i d ∷ [])))
 
 uses-few : (ms : List Meld) (t : ℕ) → usesOf ms t ≤ 4 * length ms
 uses-few [] t = omega arith

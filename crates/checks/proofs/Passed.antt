@@ -9,12 +9,13 @@ use lib.ListN.{length, length-take, List·getD-eq-default}
 use borrow.Author.Tests.{eq-eqb, le-leb, ltb-true, ltb-false}
 use Rattle.lists.specs.Fold.{all, sum}
 use Rattle.lists.proofs.Finite.{T→true}
+use Rattle.lists.proofs.Members.{all-mem, all-intro}
 use Rattle.tile.specs.Tile.{tiles}
+use Rattle.tile.proofs.Tiles.{in-tiles, tile-lt}
 use Rattle.meld.specs.Meld.{isCall}
 use Rattle.hand.specs.Counts.{held, AtMostFour}
 use Rattle.checks.specs.declared.Calls.{Calls}
 use Rattle.checks.specs.Checks.{called, handCheck, together}
-use Rattle.checks.proofs.Turns.{test-at, test-intro}
 use Rattle.checks.proofs.Checked.{pass, through}
 
 pub record Passed (cs : List ℕ) (k : Calls) : Type 0 where
@@ -27,10 +28,10 @@ pub record Passed (cs : List ℕ) (k : Calls) : Type 0 where
 
 -- ---- a number for each tile that is at most 4
 pub four-below : (f : ℕ → ℕ) → T (all (λ t. leb (f t) 4) tiles) → (t : ℕ) → t < 34 → f t ≤ 4
-four-below f v t h = leb→le (f t) 4 (test-at (λ t. leb (f t) 4) 34 0 v t (omega arith) (omega arith))
+four-below f v t h = leb→le (f t) 4 (all-mem (λ t. leb (f t) 4) v (in-tiles t h))
 
 pub four-test : (f : ℕ → ℕ) → ((t : ℕ) → t < 34 → f t ≤ 4) → T (all (λ t. leb (f t) 4) tiles)
-four-test f g = test-intro (λ t. leb (f t) 4) 34 0 (λ t h k. le→leb (f t) 4 (g t (omega arith)))
+four-test f g = all-intro (λ t. leb (f t) 4) tiles (λ t i. le→leb (f t) 4 (g t (tile-lt i)))
 
 -- past the tiles there is none
 pub four-each : (cs : List ℕ) → length cs ≡ 34 → ((t : ℕ) → t < 34 → held cs t ≤ 4) → AtMostFour cs
@@ -73,3 +74,7 @@ passes cs k p =
 
 pub called-length : (k : Calls) → k .count ≤ 4 → length (k .melds) ≡ 4 → length (called k) ≡ k .count
 called-length k h e = length-take (k .count) (k .melds) ∙ omega arith
+
+-- at most four calls of a hand that passes; the melds of the calls are four (an array of four in the code)
+pub few-called : (cs : List ℕ) (k : Calls) → length (k .melds) ≡ 4 → handCheck cs k ≡ 0 → length (called k) ≤ 4
+few-called cs k four e = let h = passed cs k e .few in let l = called-length k h four in omega arith

@@ -1,17 +1,18 @@
 -- What a turn of each loop does: of a test over the tiles, of a test over the calls, and of a copy. Assumes nothing.
-use mathlib.Core.Path.{_≡_, refl, sym, ap, ap₂, _∙_, subst}
+use mathlib.Core.Path.{_≡_, refl, sym, ap, _∙_}
 use mathlib.Core.Bool.{Bool, true, false, _&&_}
 use mathlib.Core.List.{List, [], _∷_, _++_, append-nil}
 use Prim.Native.Nat.{ℕ, zero, suc, _+_, _-_, _<_, _≤_}
 use native.Mathlib.Nat.{not-suc-le-zero, le-of-suc-le-suc}
-use native.Mathlib.Decide.{ℕ-discrete}
 use native.Mathlib.Numerals.{add-one}
 use native.Mathlib.Omega.{arith}
 use lib.Dec.{T}
 use lib.ListN.{length, getD, take, drop, set, length-take, drop-of-length-le}
 use lib.Seq.{drop-cons, getD-take, sets, sets-eq}
 use Rattle.lists.specs.Fold.{all, upFrom}
-use Rattle.lists.proofs.Finite.{and-left, and-right, and-both}
+use Rattle.lists.proofs.Finite.{and-left, and-right}
+use Rattle.lists.proofs.Members.{all-mem}
+use Rattle.lists.proofs.Ranges.{upFrom-in}
 use Rattle.hand.proofs.Sums.{upFrom-next, upFrom-end}
 
 -- ---- a test over the numbers from a on, below b
@@ -23,23 +24,9 @@ pub test-end : (p : ℕ → Bool) (good : Bool) (a b : ℕ) → b ≤ a → good
 test-end p true a b h = sym (ap (all p) (upFrom-end a b h))
 test-end p false a b h = refl
 
-pub test-same : (p q : ℕ → Bool) → ((t : ℕ) → p t ≡ q t) → (l : List ℕ) → all p l ≡ all q l
-test-same p q e [] = refl
-test-same p q e (t ∷ l) = ap₂ _&&_ (e t) (test-same p q e l)
-
--- where it passes, the test holds at each; and where it holds at each, it passes
+-- where it passes, the test holds at each
 pub test-at : (p : ℕ → Bool) (n a : ℕ) → T (all p (upFrom n a)) → (t : ℕ) → a ≤ t → t < a + n → T (p t)
-test-at p zero a v t h k = absurd (omega arith)
-test-at p (suc n) a v t h k = go (ℕ-discrete t a) (test-at p n (suc a) (and-right (p a) (all p (upFrom n (suc a))) v) t)
-  where
-    go : Dec (t ≡ a) → (suc a ≤ t → t < suc a + n → T (p t)) → T (p t)
-    go (yes e) rest = subst (λ (m : ℕ). T (p m)) (sym e) (and-left (p a) (all p (upFrom n (suc a))) v)
-    go (no f) rest = rest (omega arith) (omega arith)
-
-pub test-intro : (p : ℕ → Bool) (n a : ℕ) → ((t : ℕ) → a ≤ t → t < a + n → T (p t)) → T (all p (upFrom n a))
-test-intro p zero a f = tt
-test-intro p (suc n) a f =
-    and-both (p a) (all p (upFrom n (suc a))) (f a (omega arith) (omega arith)) (test-intro p n (suc a) (λ t h k. f t (omega arith) (omega arith)))
+test-at p n a v t h k = all-mem p v (upFrom-in n a t h k)
 
 -- ---- a test over the first n of a list
 module _ {A : Type 0} (p : A → Bool) where

@@ -24,8 +24,8 @@ unfoldable pub check : Bool → ℕ → ℕ → ℕ
 check true n next = next
 check false n next = n
 
--- 1 the counts are not 34 long; 2 more than four calls; 3 a call's kind or tile is not one; 4 a count above 4;
--- 5 hand and calls together hold more than four of a kind; 6 the hand's tiles are not 14 - 3 × calls; 0 where all pass
+-- 1 the counts are not 34 long; 2 more than four calls; 3 a call is not a meld that can be called; 4 a count above 4;
+-- 5 hand and calls together hold more than four of one tile; 6 the hand's tiles are not 14 - 3 × calls; 0 where all pass
 unfoldable pub handCheck : List ℕ → Calls → ℕ
 handCheck cs k =
     check (eqb (length cs) 34) 1

@@ -13,6 +13,11 @@ module _ {A : Type 0} where
   stands-mem x zero (a ∷ l) s = List·Memᴰ·head s
   stands-mem x (suc i) (a ∷ l) s = List·Memᴰ·tail (stands-mem x i l s)
 
+  -- a member stands at some number
+  pub mem-stands : {l : List A} {x : A} → List·Memᴰ x l → (i : ℕ) × StandsAt x i l
+  mem-stands (List·Memᴰ·head e) = (zero, e)
+  mem-stands (List·Memᴰ·tail j) = let r = mem-stands j in (suc (r .0), r .1)
+
   pub stands-below : (x : A) (i : ℕ) (l : List A) → StandsAt x i l → i < length l
   stands-below x i [] s = absurd s
   stands-below x zero (a ∷ l) s = omega arith

@@ -11,7 +11,7 @@ use Rattle.reading_score.specs.declared.ScoringResult.{ScoringResult}
 use Rattle.reading_score.specs.Score.{rank}
 use Rattle.choice.specs.declared.ScoreAnswer.{ScoreAnswer}
 
--- ---- what is answered: a number alone, or the number of a reading, counted from 0, and its score
+-- ---- what is answered: a refusal's number alone, or 0 with the number of a reading, counted from 0, and its score
 abbrev pub noScore : ScoringResult
 noScore =
     record {
@@ -39,7 +39,7 @@ pub data Choice : Type 0 where
   none : Choice
   chosen : ℕ → ScoringResult → Choice
 
--- the first score of the rank b by f, with its number, counted from i
+-- the first of the scores that f gives the rank b, with its number, counted from i
 abbrev pub first : (ScoringResult → ℕ) → ℕ → ℕ → List ScoringResult → Choice
 first f b i [] = none
 first f b i (x ∷ xs) = cond (eqb (f x) b) (chosen i x) (first f b (suc i) xs)

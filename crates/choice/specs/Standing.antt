@@ -1,4 +1,4 @@
--- What stands at a number of a list. A definition.
+-- What stands at a number of a list. This is a definition.
 use mathlib.Core.Path.{_≡_}
 use mathlib.Core.List.{List, [], _∷_}
 use Prim.Native.Nat.{ℕ, zero, suc}

@@ -1,35 +1,25 @@
 -- In a room that plays with fewer tiles: where each tile of the hand and of the calls is in play, so is each tile of each reading.
 -- Assumes nothing.
-use mathlib.Core.Path.{_≡_, refl, sym, ap, subst}
+use mathlib.Core.Path.{_≡_, sym, ap, subst}
 use mathlib.Core.Logic.{⊎-elim}
 use mathlib.Core.Bool.{Bool, true, false, _&&_, _||_, not, cond}
-use mathlib.Core.List.{List, [], _∷_, _++_, List·Memᴰ, List·Memᴰ·head, List·Memᴰ·tail, List·Memᴰ·append-cases}
+use mathlib.Core.List.{List, _++_, List·Memᴰ, List·Memᴰ·append-cases}
 use Prim.Native.Nat.{ℕ, _+_, _<_, _≤_}
 use native.Mathlib.Omega.{arith}
 use lib.Dec.{T, eqb, ltb, leb, eqb→eq, ltb→lt, leb→le, eqb-refl}
 use Rattle.lists.specs.Fold.{any, one, sum}
 use Rattle.lists.proofs.Finite.{and-right, or-elim, or-skip, T→true}
-use Rattle.lists.proofs.Members.{all-mem}
+use Rattle.lists.proofs.Members.{all-mem, any-elim}
+use Rattle.lists.proofs.Sums.{sum-in}
 use Rattle.lists.proofs.Arranged.{any-mem, pick-mem}
+use Rattle.lists.proofs.Counted.{times-in, in-arranged}
 use Rattle.tile.specs.Tile.{isTerminalOrHonor}
 use Rattle.meld.specs.declared.Meld.{Meld}
 use Rattle.meld.specs.Meld.{isSequence, isKan, isMeld, setSize, runUses, uses, eqMeld, melds, sorted}
 use Rattle.meld.proofs.Melds.{allMelds, melds-at, meld-tile, is-meld, eqMeld→eq, eqMeld-refl, arrange-pick}
 use Rattle.hand.specs.Reading.{Reading, pairs, orphans, standard, AdmitsPairs, AdmitsOrphans, AdmitsStandard, Admits}
 use Rattle.complete.specs.Tiles.{inReading, HandAllowed, CallsAllowed}
-use Rattle.complete.proofs.Counted.{times-in, in-arranged}
 use Rattle.complete.proofs.Complete.{orphan-lt}
-
-module _ {A : Type 0} where
-  -- an element that passes the test
-  any-elim : (p : A → Bool) (l : List A) → T (any p l) → (a : A) × List·Memᴰ a l × T (p a)
-  any-elim p [] t = absurd t
-  any-elim p (a ∷ l) t =
-      or-elim (p a) (any p l) t (λ s. (a, List·Memᴰ·head refl, s)) (λ s. let r = any-elim p l s in (r .0, List·Memᴰ·tail (r .1), r .2))
-
-  sum-in : (f : A → ℕ) {l : List A} {a : A} → List·Memᴰ a l → f a ≤ sum f l
-  sum-in f (List·Memᴰ·head e) = let h = ap f e in omega arith
-  sum-in f (List·Memᴰ·tail i) = let h = sum-in f i in omega arith
 
 -- ---- the tiles that a meld has are tiles
 one-yes : (b : Bool) → 1 ≤ one b → T b

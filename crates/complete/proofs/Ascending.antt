@@ -9,20 +9,19 @@ use lib.ListN.{length}
 use Rattle.lists.specs.Fold.{flat, keep}
 use Rattle.lists.specs.Order.{Pairwise, Lex, times}
 use Rattle.lists.proofs.Members.{flat-mem, length-perm}
-use Rattle.lists.proofs.Arranged.{pick-mem}
 use Rattle.lists.proofs.Relations.{pairwise-append, pairwise-map, pairwise-flat, pairwise-single, cond-pairwise}
+use Rattle.lists.proofs.Counted.{arranged-length}
+use Rattle.lists.proofs.Kept.{keep-ascends}
 use Rattle.tile.specs.Tile.{tiles}
 use Rattle.tile.proofs.Tiles.{tiles-ascend}
 use Rattle.meld.specs.declared.Meld.{Meld}
 use Rattle.meld.specs.Meld.{isHandMeld, eqMeld, handMelds, melds, sorted}
-use Rattle.meld.proofs.Melds.{handMelds-nodup, melds-nodup, is-handMeld, arrange-perm}
+use Rattle.meld.proofs.Melds.{handMelds-nodup, is-handMeld, picked-melds, sorted-perm}
 use Rattle.hand.specs.Reading.{Reading, pairs, orphans, standard}
 use Rattle.hand.specs.Readings.{meldLists, lessPair, standardsAt, twos, isPairs, sevenPairs, isOrphans, thirteenOrphans, uncalled, readings}
 use Rattle.hand.specs.Records.{kindOf, bodyOf, Before}
 use Rattle.hand.proofs.Search.{find-sound}
-use Rattle.complete.proofs.Counted.{arranged-length}
-use Rattle.complete.proofs.Kept.{keep-ascends}
-use Rattle.complete.proofs.Listed.{hand-melds, Hand, in-uncalled, in-standardsAt, seven-kind, orphan-kind, special-kind, standard-kind}
+use Rattle.complete.proofs.Listed.{Hand, in-uncalled, in-standardsAt, seven-kind, orphan-kind, special-kind, standard-kind}
 use Rattle.complete.proofs.Lower.{Lower, none-of, find-lower, lower-append, lower-melds, lower-first}
 
 -- a reading of a lower kind comes first, and of two of one kind the one whose first byte is less
@@ -39,7 +38,7 @@ module _ (c : ℕ → ℕ) (k : List Meld) where
       omega (
         arith,
         arranged-length eqMeld melds k l,
-        length-perm (arrange-perm melds melds-nodup l (λ x i. hand-melds x (pick-mem (f .picked) i))),
+        length-perm (sorted-perm l (picked-melds (f .picked))),
         f .long,
       )
 

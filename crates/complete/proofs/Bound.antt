@@ -3,36 +3,33 @@
 use mathlib.Core.Path.{_≡_, refl, sym, ap, _∙_}
 use mathlib.Core.Logic.{⊎-elim}
 use mathlib.Core.Bool.{Bool, true, false, cond}
-use mathlib.Core.List.{List, [], _∷_, _++_, map, List·Memᴰ, List·Memᴰ·head, List·Memᴰ·tail, List·Memᴰ·append-cases, Memᴰ·of-map}
+use mathlib.Core.List.{List, [], _∷_, _++_, map, List·Memᴰ, List·Memᴰ·head, List·Memᴰ·tail, Memᴰ·of-map}
 use Prim.Native.Nat.{ℕ, _+_, _-_, _*_, _^_, _<_, _≤_}
 use native.Mathlib.Nat.{pow-le-pow-right}
 use native.Mathlib.Omega.{arith}
-use lib.Dec.{T, eqb, leb, leb→le, eqb→eq, eqb-refl, lit<}
+use lib.Dec.{T, eqb, leb, leb→le, eqb→eq, lit<}
 use lib.ListN.{length, length-append, length-map}
 use Rattle.lists.specs.Fold.{all, flat, keep, one, sum}
-use Rattle.lists.specs.Order.{Nodup}
-use Rattle.lists.proofs.Finite.{T→true}
-use Rattle.lists.proofs.Members.{all-mem, length-perm}
-use Rattle.lists.proofs.Arranged.{pick-mem}
-use Rattle.tile.specs.Tile.{isTerminalOrHonor, tiles}
+use Rattle.lists.proofs.Members.{all-append, length-perm, at-most-one}
+use Rattle.lists.proofs.Sums.{sum-append}
+use Rattle.lists.proofs.Kept.{kept, keep-nodup, keep-none}
+use Rattle.tile.specs.Tile.{tiles}
 use Rattle.tile.proofs.Tiles.{tile-lt, tiles-nodup}
 use Rattle.meld.specs.declared.Meld.{Meld}
-use Rattle.meld.specs.Meld.{isMeld, handMelds, melds, sorted}
-use Rattle.meld.proofs.Melds.{melds-nodup, in-melds, arrange-perm}
+use Rattle.meld.specs.Meld.{isMeld, handMelds, sorted}
+use Rattle.meld.proofs.Melds.{picked-melds, sorted-perm}
 use Rattle.hand.specs.Reading.{Reading, pairs, orphans, standard}
 use Rattle.hand.specs.Readings.{meldLists, lessPair, standardsAt, twos, isPairs, sevenPairs, isOrphans, thirteenOrphans, uncalled, readings}
 use Rattle.hand.specs.Records.{twoBytes, meldBytes, kindOf, bodyOf, recordOf, records}
 use Rattle.hand.proofs.Search.{Found, find-sound}
 use Rattle.hand.proofs.Lowest.{few}
-use Rattle.complete.proofs.Counted.{sum-append}
-use Rattle.complete.proofs.Kept.{kept, keep-nodup}
-use Rattle.complete.proofs.Listed.{none-or-two, seven-twos, orphans-exact, hand-melds}
+use Rattle.hand.proofs.Tests.{none-or-two, seven-twos, orphans-exact, one-doubled}
 
 -- ---- the bytes of records
-abbrev size : Reading → ℕ
+abbrev pub size : Reading → ℕ
 size r = length (bodyOf r) + 4
 
-record-length : (r : Reading) → length (recordOf r) ≡ size r
+pub record-length : (r : Reading) → length (recordOf r) ≡ size r
 unfolding recordOf
 record-length r =
     omega (
@@ -45,9 +42,9 @@ records-length : (rs : List Reading) → length (records rs) ≡ sum size rs
 records-length [] = refl
 records-length (r ∷ rs) = omega (arith, length-append (recordOf r) (records rs), record-length r, records-length rs)
 
-melds-length : (ms : List Meld) → length (meldBytes ms) ≡ 2 * length ms
-melds-length [] = refl
-melds-length (m ∷ ms) = let e = melds-length ms in omega arith
+pub meldBytes-length : (ms : List Meld) → length (meldBytes ms) ≡ 2 * length ms
+meldBytes-length [] = refl
+meldBytes-length (m ∷ ms) = let e = meldBytes-length ms in omega arith
 
 -- ---- a pair: at most 16 readings of 13 bytes
 each-thirteen : (l : List Reading) → ((r : Reading) → List·Memᴰ r l → size r ≡ 13) → sum size l ≡ 13 * length l
@@ -58,17 +55,12 @@ each-thirteen (r ∷ l) f =
     omega arith
 
 module _ (c : ℕ → ℕ) (k : List Meld) (calls : T (all isMeld k)) (four : length k ≤ 4) where
-  good : (l : List Meld) {n : ℕ} {d : ℕ → ℕ} → Found n d handMelds l → (x : Meld) → List·Memᴰ x (k ++ l) → List·Memᴰ x melds
-  good l f x i =
-      ⊎-elim (λ j. in-melds x (all-mem isMeld calls j)) (λ j. hand-melds x (pick-mem (f .picked) j))
-      (List·Memᴰ·append-cases k i)
-
   standard-size : (p : ℕ) (l : List Meld) {d : ℕ → ℕ} → Found (4 - length k) d handMelds l → size (standard p (sorted (k ++ l))) ≡ 13
   standard-size p l f =
       omega (
         arith,
-        melds-length (sorted (k ++ l)),
-        length-perm (arrange-perm melds melds-nodup (k ++ l) (good l f)),
+        meldBytes-length (sorted (k ++ l)),
+        length-perm (sorted-perm (k ++ l) (all-append isMeld k l calls (picked-melds (f .picked)))),
         length-append k l,
         f .long,
       )
@@ -110,26 +102,10 @@ module _ (c : ℕ → ℕ) (k : List Meld) (calls : T (all isMeld k)) (four : le
 
 -- ---- seven pairs or thirteen orphans: at most 11 bytes
 module _ (c : ℕ → ℕ) where
-  -- one tile is doubled
-  one-doubled : (p q : ℕ) → p < 34 → T (isOrphans c p) → T (isOrphans c q) → p ≡ q
-  one-doubled p q h s t = go (eqb p q) (eqb→eq p q) (sym (orphans-exact c p s p h) ∙ orphans-exact c q t p h)
-    where
-      two : one (eqb p p) ≡ 1
-      two = ap one (T→true (eqb p p) (eqb-refl p))
-
-      go : (b : Bool) → (T b → p ≡ q) → one (isTerminalOrHonor p) + one (eqb p p) ≡ one (isTerminalOrHonor p) + one b → p ≡ q
-      go true f e = f tt
-      go false f e = let g = two in absurd (omega arith)
-
-  at-most-one : (l : List ℕ) → Nodup l → ((p q : ℕ) → List·Memᴰ p l → List·Memᴰ q l → p ≡ q) → length l ≤ 1
-  at-most-one [] n f = omega arith
-  at-most-one (p ∷ []) n f = omega arith
-  at-most-one (p ∷ q ∷ l) n f = absurd (n .0 (List·Memᴰ·head (f p q (List·Memᴰ·head refl) (List·Memᴰ·tail (List·Memᴰ·head refl)))))
-
   doubled : length (keep (isOrphans c) tiles) ≤ 1
   doubled =
       at-most-one (keep (isOrphans c) tiles) (keep-nodup (isOrphans c) tiles tiles-nodup)
-      (λ p q i j. let a = kept (isOrphans c) tiles i in one-doubled p q (tile-lt (a .0)) (a .1) (kept (isOrphans c) tiles j .1))
+      (λ p q i j. let a = kept (isOrphans c) tiles i in one-doubled c p q (tile-lt (a .0)) (a .1) (kept (isOrphans c) tiles j .1))
 
   -- of seven pairs each tile is there twice or not at all, of thirteen orphans one of man 1 and man 9 once
   even : T (isPairs c) → (t : ℕ) → t < 34 → (c t ≡ 1 → ⊥)
@@ -149,10 +125,6 @@ module _ (c : ℕ → ℕ) where
   orphans-size [] = refl
   orphans-size (p ∷ l) = let e = orphans-size l in omega arith
 
-  none : (l : List ℕ) → ((p : ℕ) → List·Memᴰ p l → ⊥) → length l ≡ 0
-  none [] f = refl
-  none (p ∷ l) f = absurd (f p (List·Memᴰ·head refl))
-
   special-size : sum size (sevenPairs c ++ thirteenOrphans c) ≤ 11
   unfolding sevenPairs thirteenOrphans
   special-size =
@@ -160,7 +132,7 @@ module _ (c : ℕ → ℕ) where
     where
       go : (b : Bool) → (T b → T (isPairs c)) → sum size (cond b (pairs (twos c) ∷ []) []) + 5 * length (keep (isOrphans c) tiles) ≤ 11
       go true f =
-          let a = none (keep (isOrphans c) tiles) (λ p i. not-both (f tt) p (kept (isOrphans c) tiles i .1)) in
+          let a = ap length (keep-none (isOrphans c) tiles (λ p i. not-both (f tt) p)) in
           let b = seven-twos c (f tt) in
           omega arith
       go false f = let h = doubled in omega arith

@@ -11,6 +11,8 @@ use Rattle.lists.specs.Order.{arrange}
 use Rattle.lists.proofs.Finite.{and-left, and-right, and-both, or-elim, or-left, or-right}
 use Rattle.lists.proofs.Permuted.{total-perm, map-perm}
 use Rattle.lists.proofs.Members.{all-mem, all-intro, flat-in, in-true, length-perm}
+use Rattle.lists.proofs.Counted.{times-in, in-times, times-once}
+use Rattle.lists.proofs.Kept.{in-keep, kept, keep-ascends, ascending-nodup, ascending-eq}
 use Rattle.tile.specs.Tile.{isTerminal, isHonor, isTerminalOrHonor, tiles}
 use Rattle.tile.proofs.Tiles.{in-tiles, tile-lt, tiles-ascend}
 use Rattle.meld.specs.declared.Meld.{Meld}
@@ -19,8 +21,6 @@ use Rattle.meld.proofs.Melds.{handMelds-nodup, in-handMelds, arrange-same, arra
 use Rattle.hand.specs.Reading.{Reading, pairs, orphans, standard, AdmitsPairs, AdmitsOrphans, AdmitsStandard, Admits}
 use Rattle.hand.specs.Readings.{meldLists, lessPair, standardsAt, twos, isPairs, sevenPairs, isOrphans, thirteenOrphans, uncalled, readings}
 use Rattle.hand.proofs.Search.{find-complete}
-use Rattle.complete.proofs.Counted.{times-in, in-times, times-once}
-use Rattle.complete.proofs.Kept.{in-keep, kept, keep-ascends, ascending-nodup, ascending-eq}
 
 pub orphan-lt : (p : ℕ) → T (isTerminalOrHonor p) → p < 34
 orphan-lt p t =

@@ -1,5 +1,3 @@
-pub mod Counted
-pub mod Kept
 pub mod Listed
 pub mod Sound
 pub mod Complete

@@ -1,17 +1,16 @@
 -- What stands in the list of readings, part by part. Assumes nothing.
 use mathlib.Core.Path.{_≡_, refl, sym, ap}
-use mathlib.Core.Logic.{_⊎_, inl, inr, ⊎-elim}
-use mathlib.Core.Bool.{_||_}
+use mathlib.Core.Logic.{⊎-elim}
 use mathlib.Core.List.{List, [], _∷_, _++_, map, List·Memᴰ, List·Memᴰ·not-nil, List·Memᴰ·append-cases, Memᴰ·of-map}
-use Prim.Native.Nat.{ℕ, _+_, _-_, _<_, _≤_}
+use Prim.Native.Nat.{ℕ, _-_, _<_, _≤_}
 use native.Mathlib.Omega.{arith}
-use lib.Dec.{T, eqb, leb, leb→le, eqb→eq}
+use lib.Dec.{T, leb, leb→le}
 use lib.ListN.{length}
-use Rattle.lists.specs.Fold.{all, flat, keep, one}
-use Rattle.lists.proofs.Finite.{and-left, and-right, or-elim}
-use Rattle.lists.proofs.Members.{all-mem, flat-mem, in-cond, in-single}
-use Rattle.tile.specs.Tile.{isTerminalOrHonor, tiles}
-use Rattle.tile.proofs.Tiles.{in-tiles}
+use Rattle.lists.specs.Fold.{flat, keep}
+use Rattle.lists.proofs.Finite.{and-left}
+use Rattle.lists.proofs.Members.{flat-mem, in-cond, in-single}
+use Rattle.lists.proofs.Kept.{kept}
+use Rattle.tile.specs.Tile.{tiles}
 use Rattle.meld.specs.declared.Meld.{Meld}
 use Rattle.meld.specs.Meld.{isMeld, handMelds, melds, sorted}
 use Rattle.meld.proofs.Melds.{in-melds, is-handMeld}
@@ -19,23 +18,6 @@ use Rattle.hand.specs.Reading.{Reading, pairs, orphans, standard}
 use Rattle.hand.specs.Readings.{find, meldLists, lessPair, standardsAt, twos, isPairs, sevenPairs, isOrphans, thirteenOrphans, uncalled, readings}
 use Rattle.hand.specs.Records.{kindOf}
 use Rattle.hand.proofs.Search.{Found, find-sound}
-use Rattle.complete.proofs.Kept.{kept}
-
--- ---- what the tests say of each tile
-module _ (c : ℕ → ℕ) where
-  pub none-or-two : T (isPairs c) → (t : ℕ) → t < 34 → (c t ≡ 0) ⊎ (c t ≡ 2)
-  none-or-two s t h =
-      or-elim (eqb (c t) 0) (eqb (c t) 2)
-      (all-mem (λ t. eqb (c t) 0 || eqb (c t) 2) (and-left (all (λ t. eqb (c t) 0 || eqb (c t) 2) tiles) _ s) (in-tiles t h))
-      (λ z. inl (eqb→eq (c t) 0 z)) (λ z. inr (eqb→eq (c t) 2 z))
-
-  pub seven-twos : T (isPairs c) → length (twos c) ≡ 7
-  seven-twos s = eqb→eq (length (twos c)) 7 (and-right (all (λ t. eqb (c t) 0 || eqb (c t) 2) tiles) _ s)
-
-  pub orphans-exact : (p : ℕ) → T (isOrphans c p) → (t : ℕ) → t < 34 → c t ≡ one (isTerminalOrHonor t) + one (eqb t p)
-  orphans-exact p s t h =
-      eqb→eq (c t) _
-      (all-mem (λ t. eqb (c t) (one (isTerminalOrHonor t) + one (eqb t p))) (and-right (isTerminalOrHonor p) _ s) (in-tiles t h))
 
 -- melds of a hand are melds
 pub hand-melds : (x : Meld) → List·Memᴰ x handMelds → List·Memᴰ x melds

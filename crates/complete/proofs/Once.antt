@@ -8,6 +8,10 @@ use lib.ListN.{length}
 use Rattle.lists.specs.Fold.{one, flat, keep}
 use Rattle.lists.specs.Order.{Nodup, Pick, times}
 use Rattle.lists.proofs.Members.{nodup-append, nodup-map, nodup-flat, cond-nodup, nodup-single, flat-mem}
+use Rattle.lists.proofs.Sums.{sum-append}
+use Rattle.lists.proofs.Arranged.{arranged-alike}
+use Rattle.lists.proofs.Counted.{times-arranged}
+use Rattle.lists.proofs.Kept.{keep-nodup}
 use Rattle.tile.specs.Tile.{tiles}
 use Rattle.tile.proofs.Tiles.{tiles-nodup}
 use Rattle.meld.specs.declared.Meld.{Meld}
@@ -16,8 +20,6 @@ use Rattle.meld.proofs.Melds.{eqMeld→eq, eqMeld-refl, handMelds-nodup, melds-
 use Rattle.hand.specs.Reading.{Reading, pairs, orphans, standard}
 use Rattle.hand.specs.Readings.{meldLists, lessPair, standardsAt, twos, isPairs, sevenPairs, isOrphans, thirteenOrphans, uncalled, readings}
 use Rattle.hand.proofs.Search.{find-sound, find-nodup}
-use Rattle.complete.proofs.Counted.{sum-append, times-arranged, arranged-alike}
-use Rattle.complete.proofs.Kept.{keep-nodup}
 use Rattle.complete.proofs.Listed.{hand-melds, in-uncalled, in-standardsAt, seven-kind, orphan-kind, special-kind, standard-kind}
 
 -- the reading's pair, and its melds

@@ -11,6 +11,8 @@ use Rattle.lists.specs.Fold.{count}
 use Rattle.lists.proofs.Finite.{and-left}
 use Rattle.lists.proofs.Members.{all-intro}
 use Rattle.lists.proofs.Arranged.{pick-mem, times-zero}
+use Rattle.lists.proofs.Counted.{times-in, times-once}
+use Rattle.lists.proofs.Kept.{in-keep, kept, keep-nodup, keep-ascends}
 use Rattle.tile.specs.Tile.{isTerminalOrHonor, tiles}
 use Rattle.tile.proofs.Tiles.{in-tiles, tile-lt, tiles-nodup, tiles-ascend}
 use Rattle.meld.specs.declared.Meld.{Meld}
@@ -18,9 +20,8 @@ use Rattle.meld.specs.Meld.{isHandMeld, sorted}
 use Rattle.meld.proofs.Melds.{is-handMeld}
 use Rattle.hand.specs.Reading.{Reading, AdmitsPairs, AdmitsOrphans, AdmitsStandard, Admits}
 use Rattle.hand.specs.Readings.{twos, isPairs, isOrphans, readings}
-use Rattle.complete.proofs.Counted.{times-in, times-once}
-use Rattle.complete.proofs.Kept.{in-keep, kept, keep-nodup, keep-ascends}
-use Rattle.complete.proofs.Listed.{none-or-two, seven-twos, orphans-exact, Hand, Listed, as-pairs, as-orphans, as-standard, listed}
+use Rattle.hand.proofs.Tests.{none-or-two, seven-twos, orphans-exact}
+use Rattle.complete.proofs.Listed.{Hand, Listed, as-pairs, as-orphans, as-standard, listed}
 
 module _ (c : ℕ → ℕ) where
   -- ---- seven pairs

@@ -6,6 +6,7 @@ use Rattle.tile.specs.declared.Renaming.{Renaming}
 use Rattle.tile.specs.Renaming.{ren}
 use Rattle.context.specs.declared.GameContext.{GameContext}
 
+-- the winning tile was drawn by the winner; else it is ron, on another player's tile
 abbrev pub isTsumo : GameContext → Bool
 isTsumo w = eqb (w .«win_type») 1
 
@@ -13,7 +14,7 @@ isTsumo w = eqb (w .«win_type») 1
 abbrev pub isDealer : GameContext → Bool
 isDealer w = eqb (w .«seat_wind») 27
 
--- ron or tsumo, and both winds are winds
+-- the win type is 0, ron, or 1, tsumo, and the round wind and the seat wind are winds
 abbrev pub inRange : GameContext → Bool
 inRange w = ltb (w .«win_type») 2 && (isWind (w .«round_wind») && isWind (w .«seat_wind»))
 

@@ -2,3 +2,4 @@ pub mod Search
 pub mod Lowest
 pub mod Weights
 pub mod Sums
+pub mod Tests

@@ -14,6 +14,7 @@ use borrow.Author.Tests.{le-leb, lt-leb, lt-ltb, le-ltb, eq-eqb, ne-eqb, ltb-tru
 use Rattle.lists.specs.Fold.{all, flat, one, upFrom}
 use Rattle.lists.proofs.Finite.{at, and-left, and-right, and-both, T→true, ¬T→false, T-eq, allBelow-intro}
 use Rattle.lists.proofs.Members.{all-intro, flat-mem}
+use Rattle.lists.proofs.Ranges.{upFrom-split, in-upFrom}
 use Rattle.lists.proofs.Arranged.{pick-mem}
 use Rattle.tile.specs.Tile.{isStart, tiles}
 use Rattle.meld.specs.declared.Meld.{Meld}
@@ -60,22 +61,6 @@ pub set-out : (u t : ℕ) → (t ≡ u → ⊥) → uses (meld u 2) t ≡ 0
 set-out u t f = ap (λ (b : Bool). cond b 3 0) (ne-eqb t u f)
 
 -- ---- the melds of a hand below, at and above a tile
-pub upFrom-split : (a b s : ℕ) → upFrom (a + b) s ≡ upFrom a s ++ upFrom b (a + s)
-upFrom-split zero b s =
-    let e : zero + b ≡ b = omega arith in
-    let f : s ≡ zero + s = omega arith in
-    ap₂ upFrom e f
-upFrom-split (suc a) b s =
-    let e : suc a + b ≡ suc (a + b) = omega arith in
-    let f : a + suc s ≡ suc a + s = omega arith in
-    ap (λ (n : ℕ). upFrom n s) e ∙ ap (λ (r : List ℕ). s ∷ r) (upFrom-split a b (suc s) ∙ ap (λ (n : ℕ). upFrom a (suc s) ++ upFrom b n) f)
-
-pub in-upFrom : (n a t : ℕ) → List·Memᴰ t (upFrom n a) → (a ≤ t) × (t < a + n)
-in-upFrom zero a t i = absurd (List·Memᴰ·not-nil i)
-in-upFrom (suc n) a t i =
-    ⊎-elim {C = (a ≤ t) × (t < a + suc n)} (λ e. (omega arith, omega arith))
-    (λ j. let r = in-upFrom n (suc a) t j in let h = r .0 in let k = r .1 in (omega arith, omega arith)) (List·Memᴰ·cases-cons i)
-
 pub flat-append : {A B : Type 0} (g : A → List B) (l m : List A) → flat g (l ++ m) ≡ flat g l ++ flat g m
 flat-append g [] m = refl
 flat-append g (a ∷ l) m = ap (λ (r : List _). g a ++ r) (flat-append g l m) ∙ sym (append-assoc (g a) (flat g l) (flat g m))

@@ -1,17 +1,16 @@
 -- Where each meld of a hand weighs a multiple of 3, a hand weighs by 3 as its pair does. Assumes nothing.
 use mathlib.Core.Path.{_≡_, refl, sym, ap, _∙_}
-use mathlib.Core.Logic.{⊎-elim}
 use mathlib.Core.Bool.{Bool, cond}
-use mathlib.Core.List.{List, [], _∷_, List·Memᴰ, List·Memᴰ·head, List·Memᴰ·tail, List·Memᴰ·not-nil, List·Memᴰ·cases-cons, Memᴰ·cast}
+use mathlib.Core.List.{List, List·Memᴰ}
 use Prim.Native.Nat.{ℕ, _+_, _-_, _*_, _%_, _<_, _≤_}
 use native.Mathlib.Nat.{mul-add}
 use native.Mathlib.Omega.{arith}
 use lib.Dec.{T, eqb, eqb→eq}
 use borrow.Author.Tests.{eq-eqb, ne-eqb}
 use Rattle.lists.specs.Fold.{sum, total}
-use Rattle.lists.specs.Order.{Nodup}
 use Rattle.lists.proofs.Members.{all-mem, map-members}
 use Rattle.lists.proofs.Arranged.{pick-mem}
+use Rattle.lists.proofs.Sums.{sum-times, sum-threes, sum-more, sum-exchange}
 use Rattle.tile.specs.Tile.{tiles}
 use Rattle.tile.proofs.Tiles.{in-tiles, tile-lt, tiles-nodup}
 use Rattle.meld.specs.declared.Meld.{Meld}
@@ -39,48 +38,6 @@ honors-weighed = tt
 pub numbers-weighed : T (isWeighed byThree)
 unfolding isWeighed byThree
 numbers-weighed = tt
-
--- ---- sums of sums
-module _ {A : Type 0} where
-  pub sum-zero : (l : List A) → sum (λ (a : A). 0) l ≡ 0
-  sum-zero [] = refl
-  sum-zero (a ∷ l) = let e = sum-zero l in omega arith
-
-  pub sum-plus : (f g : A → ℕ) (l : List A) → sum (λ a. f a + g a) l ≡ sum f l + sum g l
-  sum-plus f g [] = refl
-  sum-plus f g (a ∷ l) = let e = sum-plus f g l in omega arith
-
-  pub sum-times : (k : ℕ) (f : A → ℕ) (l : List A) → k * sum f l ≡ sum (λ a. k * f a) l
-  sum-times k f [] = omega arith
-  sum-times k f (a ∷ l) = mul-add k (f a) (sum f l) ∙ ap (λ (n : ℕ). k * f a + n) (sum-times k f l)
-
-  -- each a multiple of 3
-  sum-threes : (f : A → ℕ) (l : List A) → ((a : A) → List·Memᴰ a l → f a % 3 ≡ 0) → sum f l % 3 ≡ 0
-  sum-threes f [] h = refl
-  sum-threes f (a ∷ l) h =
-      let e = h a (List·Memᴰ·head refl) in
-      let r = sum-threes f l (λ b i. h b (List·Memᴰ·tail i)) in
-      omega arith
-
-  -- two functions that agree on a list but for one member, where one is more by k
-  sum-more :
-      (f g : A → ℕ) (k : ℕ) (p : A) (l : List A) → Nodup l → List·Memᴰ p l → f p ≡ k + g p
-      → ((a : A) → (a ≡ p → ⊥) → f a ≡ g a) → sum f l ≡ k + sum g l
-  sum-more f g k p [] d i e same = absurd (List·Memᴰ·not-nil i)
-  sum-more f g k p (a ∷ l) d i e same = ⊎-elim here (λ j. there j (sum-more f g k p l (d .1) j e same)) (List·Memᴰ·cases-cons i)
-    where
-      here : p ≡ a → sum f (a ∷ l) ≡ k + sum g (a ∷ l)
-      here x =
-          let y : f a ≡ k + g a = sym (ap f x) ∙ e ∙ ap (λ (b : A). k + g b) x in
-          let z = ap total (map-members f g l (λ b j. same b (λ w. d .0 (Memᴰ·cast (sym (w ∙ x)) j)))) in
-          omega arith
-
-      there : List·Memᴰ p l → sum f l ≡ k + sum g l → sum f (a ∷ l) ≡ k + sum g (a ∷ l)
-      there j z = let y = same a (λ w. d .0 (Memᴰ·cast w j)) in omega arith
-
-pub sum-exchange : {A B : Type 0} (f : A → B → ℕ) (l : List A) (m : List B) → sum (λ b. sum (λ a. f a b) l) m ≡ sum (λ a. sum (f a) m) l
-sum-exchange f [] m = sum-zero m
-sum-exchange f (a ∷ l) m = sum-plus (f a) (λ b. sum (λ a. f a b) l) m ∙ ap (λ (n : ℕ). sum (f a) m + n) (sum-exchange f l m)
 
 -- ---- what is left when the pair is taken
 pub lessPair-at : (c : ℕ → ℕ) (p : ℕ) → lessPair c p p ≡ c p - 2

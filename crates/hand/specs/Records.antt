@@ -1,4 +1,4 @@
--- Records (a term of the scope paper): the bytes that stand for a reading in a lent buffer, and their order. These are definitions.
+-- Records (a term of the scope paper): the bytes that stand for a reading in a buffer that the caller lends, and their order. These are definitions.
 use mathlib.Core.List.{List, [], _∷_, _++_}
 use Prim.Native.Nat.{ℕ, _+_, _/_, _%_}
 use lib.ListN.{length}

@@ -1,4 +1,4 @@
--- The calls that stand in a list of melds. These are definitions.
+-- The calls that the caller lends as a list of melds. These are definitions.
 use mathlib.Core.List.{List, [], _∷_}
 use Prim.Native.Nat.{ℕ}
 use lib.ListN.{length, getD}

@@ -1,17 +1,16 @@
 -- Ascending lists, and each element as often as it stands in a list, in the order of a list of candidates. Assumes nothing.
 use mathlib.Core.Path.{_≡_, refl, sym, ap, ap₂, _∙_, subst}
 use mathlib.Core.Logic.{_⊎_, inl, inr, ⊎-elim}
-use mathlib.Core.Bool.{Bool, true, false, _&&_, _||_, not, cond}
-use mathlib.Core.List.{List, [], _∷_, _++_, map, List·Memᴰ, List·Memᴰ·head, List·Memᴰ·tail, List·Memᴰ·not-nil, List·Memᴰ·cases-cons, Memᴰ·cast, List·Permᴰ, List·Permᴰ·nil, List·Permᴰ·cons, List·Permᴰ·trans, Permᴰ·refl, Permᴰ·symm, Permᴰ·append-left, Permᴰ·middle}
-use Prim.Native.Nat.{ℕ, zero, suc, _+_, _<_}
+use mathlib.Core.Bool.{Bool, true, false, not}
+use mathlib.Core.List.{List, [], _∷_, _++_, List·Memᴰ, List·Memᴰ·head, List·Memᴰ·tail, List·Memᴰ·not-nil, List·Memᴰ·cases-cons, Memᴰ·cast, List·Permᴰ, List·Permᴰ·nil, List·Permᴰ·cons, List·Permᴰ·trans, Permᴰ·refl, Permᴰ·append-left, Permᴰ·middle}
+use Prim.Native.Nat.{ℕ, zero, suc, _+_}
 use native.Mathlib.Omega.{arith}
 use lib.Dec.{T, T-not}
-use lib.ListN.{replicate, length}
-use Rattle.lists.specs.Fold.{any, count, one, total, flat}
+use lib.ListN.{replicate}
+use Rattle.lists.specs.Fold.{any, one}
 use Rattle.lists.specs.Order.{Pick, done, skip, pick, Nodup, times, arrange, distinct}
 use Rattle.lists.proofs.Finite.{and-left, and-right, T→true, ¬T→false, or-elim, or-left, or-right}
 use Rattle.lists.proofs.Permuted.{total-perm, map-perm}
-use Rattle.lists.proofs.Members.{perm-mem}
 
 module _ {A : Type 0} where
   pub pick-head : {ms l : List A} {x : A} → Pick ms (x ∷ l) → List·Memᴰ x ms
@@ -27,6 +26,13 @@ module _ {A : Type 0} where
   repeat-pick zero d = d
   repeat-pick (suc n) d = pick refl (repeat-pick n d)
 
+module _ {A : Type 0} (eq : A → A → Bool) where
+  -- two lists of which each candidate stands equally often in both
+  pub arranged-alike : (ms a b : List A) → ((m : A) → List·Memᴰ m ms → times eq m a ≡ times eq m b) → arrange eq ms a ≡ arrange eq ms b
+  arranged-alike [] a b e = refl
+  arranged-alike (m ∷ ms) a b e =
+      ap₂ (λ (n : ℕ) (r : List A). replicate n m ++ r) (e m (List·Memᴰ·head refl)) (arranged-alike ms a b (λ x i. e x (List·Memᴰ·tail i)))
+
 module _ {A : Type 0} (eq : A → A → Bool) (sound : (a b : A) → T (eq a b) → a ≡ b) (self : (a : A) → T (eq a a)) where
   eq-true : {m x : A} → x ≡ m → eq m x ≡ true
   eq-true {m} {x} e = T→true (eq m x) (subst (λ (y : A). T (eq m y)) (sym e) (self m))
@@ -37,13 +43,9 @@ module _ {A : Type 0} (eq : A → A → Bool) (sound : (a b : A) → T (eq a b) 
   pub times-perm : (m : A) {a b : List A} → List·Permᴰ a b → times eq m a ≡ times eq m b
   times-perm m d = total-perm (map-perm (λ x. one (eq m x)) d)
 
-  pub arrange-times : (ms a b : List A) → ((m : A) → times eq m a ≡ times eq m b) → arrange eq ms a ≡ arrange eq ms b
-  arrange-times [] a b e = refl
-  arrange-times (m ∷ ms) a b e = ap₂ (λ (n : ℕ) (r : List A). replicate n m ++ r) (e m) (arrange-times ms a b e)
-
-  -- the arrange of a list does not depend on the list's own
+  -- the same list in another order is arranged alike
   pub arrange-same : (ms : List A) {a b : List A} → List·Permᴰ a b → arrange eq ms a ≡ arrange eq ms b
-  arrange-same ms {a} {b} d = arrange-times ms a b (λ m. times-perm m d)
+  arrange-same ms {a} {b} d = arranged-alike eq ms a b (λ m i. times-perm m d)
 
   -- ---- an element more
   pub times-yes : {m x : A} (l : List A) → x ≡ m → times eq m (x ∷ l) ≡ suc (times eq m l)
@@ -78,19 +80,19 @@ module _ {A : Type 0} (eq : A → A → Bool) (sound : (a b : A) → T (eq a b) 
   arrange-none [] = refl
   arrange-none (m ∷ ms) = arrange-none ms
 
-  -- the arrange of a list of candidates is the list, in another arrange
+  -- a list of candidates, arranged, is the list in another order
   pub arrange-perm : (ms : List A) → Nodup ms → (l : List A) → ((x : A) → List·Memᴰ x l → List·Memᴰ x ms) → List·Permᴰ (arrange eq ms l) l
   arrange-perm ms n [] f = subst (λ (r : List A). List·Permᴰ r []) (sym (arrange-none ms)) List·Permᴰ·nil
   arrange-perm ms n (x ∷ l) f =
       List·Permᴰ·trans (arrange-more ms l n (f x (List·Memᴰ·head refl)))
       (List·Permᴰ·cons refl (arrange-perm ms n l (λ y i. f y (List·Memᴰ·tail i))))
 
-  -- ---- it is ascending
+  -- ---- an arranged list is ascending
   pub arrange-pick : (ms l : List A) → Pick ms (arrange eq ms l)
   arrange-pick [] l = done
   arrange-pick (m ∷ ms) l = repeat-pick (times eq m l) (skip (arrange-pick ms l))
 
-  -- ---- and an ascending list is in arrange
+  -- ---- and an ascending list is arranged
   pub times-zero : (m : A) (l : List A) → (List·Memᴰ m l → ⊥) → times eq m l ≡ 0
   times-zero m [] f = refl
   times-zero m (x ∷ l) f = times-no l (λ e. f (List·Memᴰ·head (sym e))) ∙ times-zero m l (λ i. f (List·Memᴰ·tail i))
@@ -116,12 +118,3 @@ module _ {A : Type 0} (eq : A → A → Bool) (sound : (a b : A) → T (eq a b) 
   distinct-nodup [] t = tt
   distinct-nodup (m ∷ l) t =
       (λ i. T-not (any (eq m) l) (and-left (not (any (eq m) l)) _ t) (any-in i), distinct-nodup l (and-right (not (any (eq m) l)) _ t))
-
--- what a filter keeps is ascending and out of the list
-pub filter-pick : (p : ℕ → Bool) (l : List ℕ) → Pick l (flat (λ t. cond (p t) (t ∷ []) []) l)
-filter-pick p [] = done
-filter-pick p (t ∷ l) = go (p t) (filter-pick p l)
-  where
-    go : (b : Bool) → Pick l (flat (λ t. cond (p t) (t ∷ []) []) l) → Pick (t ∷ l) (cond b (t ∷ []) [] ++ flat (λ t. cond (p t) (t ∷ []) []) l)
-    go true d = pick refl (skip d)
-    go false d = skip d

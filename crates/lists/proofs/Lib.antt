@@ -1,5 +1,9 @@
 pub mod Finite
 pub mod Permuted
 pub mod Members
+pub mod Ranges
+pub mod Sums
 pub mod Arranged
+pub mod Counted
 pub mod Relations
+pub mod Kept

@@ -1,14 +1,15 @@
 -- Members of lists, lists without repetition, and when two lists are permutations of one another. Assumes nothing.
 use mathlib.Core.Path.{_≡_, refl, sym, ap, ap₂, _∙_, subst}
-use mathlib.Core.Logic.{_⊎_, inl, inr, ⊎-elim}
-use mathlib.Core.List.{List, [], _∷_, _++_, map, List·Memᴰ, List·Memᴰ·head, List·Memᴰ·tail, List·Memᴰ·not-nil, List·Memᴰ·cases-cons, List·Memᴰ·append-cases, Memᴰ·cast, Memᴰ·append-left, Memᴰ·append-right, Memᴰ·map, Memᴰ·of-map, List·Permᴰ, List·Permᴰ·nil, List·Permᴰ·cons, List·Permᴰ·swap, List·Permᴰ·trans, Permᴰ·refl, Permᴰ·symm, Permᴰ·append-left, Permᴰ·append-right, Permᴰ·middle, append-assoc, append-nil}
+use mathlib.Core.Logic.{_⊎_, ⊎-elim}
+use mathlib.Core.List.{List, [], _∷_, _++_, map, List·Memᴰ, List·Memᴰ·head, List·Memᴰ·tail, List·Memᴰ·not-nil, List·Memᴰ·cases-cons, List·Memᴰ·append-cases, Memᴰ·cast, Memᴰ·append-left, Memᴰ·append-right, Memᴰ·of-map, List·Permᴰ, List·Permᴰ·nil, List·Permᴰ·cons, List·Permᴰ·swap, List·Permᴰ·trans, Permᴰ·refl, Permᴰ·symm, Permᴰ·append-left, Permᴰ·append-right, Permᴰ·middle, append-assoc, append-nil}
 use mathlib.Core.Bool.{Bool, true, false, cond}
-use Prim.Native.Nat.{ℕ, suc}
-use lib.ListN.{length}
+use Prim.Native.Nat.{ℕ, zero, suc, _<_, _≤_}
+use native.Mathlib.Omega.{arith}
+use lib.ListN.{length, length-append, getD, take}
 use lib.Dec.{T}
 use Rattle.lists.specs.Fold.{all, any, flat}
 use Rattle.lists.specs.Order.{Nodup}
-use Rattle.lists.proofs.Finite.{and-left, and-right, and-both}
+use Rattle.lists.proofs.Finite.{and-left, and-right, and-both, or-elim}
 
 module _ {A : Type 0} where
   pub perm-mem : {a : A} {l m : List A} → List·Permᴰ l m → List·Memᴰ a l → List·Memᴰ a m
@@ -108,6 +109,21 @@ module _ {A : Type 0} where
   all-intro p [] f = tt
   all-intro p (a ∷ l) f = and-both (p a) (all p l) (f a (List·Memᴰ·head refl)) (all-intro p l (λ b i. f b (List·Memᴰ·tail i)))
 
+  pub all-append : (p : A → Bool) (l m : List A) → T (all p l) → T (all p m) → T (all p (l ++ m))
+  all-append p l m s t = all-intro p (l ++ m) (λ a i. ⊎-elim (all-mem p s) (all-mem p t) (List·Memᴰ·append-cases l i))
+
+  -- an element that passes the test
+  pub any-elim : (p : A → Bool) (l : List A) → T (any p l) → (a : A) × List·Memᴰ a l × T (p a)
+  any-elim p [] t = absurd t
+  any-elim p (a ∷ l) t =
+      or-elim (p a) (any p l) t (λ s. (a, List·Memᴰ·head refl, s)) (λ s. let r = any-elim p l s in (r .0, List·Memᴰ·tail (r .1), r .2))
+
+-- where f takes what passes p to what passes q
+pub all-map : {A B : Type 0} (p : A → Bool) (q : B → Bool) (f : A → B) → ((a : A) → T (p a) → T (q (f a))) → (l : List A) → T (all p l) → T (all q (map f l))
+all-map p q f law [] t = tt
+all-map p q f law (a ∷ l) t =
+    and-both (q (f a)) (all q (map f l)) (law a (and-left (p a) (all p l) t)) (all-map p q f law l (and-right (p a) (all p l) t))
+
 module _ {A B : Type 0} (g : A → List B) where
   pub flat-perm : {l m : List A} → List·Permᴰ l m → List·Permᴰ (flat g l) (flat g m)
   flat-perm List·Permᴰ·nil = List·Permᴰ·nil
@@ -173,6 +189,59 @@ cond-nodup false l n = tt
 pub nodup-single : {A : Type 0} (a : A) → Nodup (a ∷ [])
 nodup-single a = (λ i. List·Memᴰ·not-nil i, tt)
 
+-- where any two members are equal
+pub at-most-one : {A : Type 0} (l : List A) → Nodup l → ((a b : A) → List·Memᴰ a l → List·Memᴰ b l → a ≡ b) → length l ≤ 1
+at-most-one [] n f = omega arith
+at-most-one (a ∷ []) n f = omega arith
+at-most-one (a ∷ b ∷ l) n f = absurd (n .0 (List·Memᴰ·head (f a b (List·Memᴰ·head refl) (List·Memᴰ·tail (List·Memᴰ·head refl)))))
+
 pub in-single : {A : Type 0} {x a : A} (b : Bool) → List·Memᴰ x (cond b (a ∷ []) []) → x ≡ a
 in-single {x = x} {a = a} b i =
     ⊎-elim (λ e. e) (λ j. absurd (List·Memᴰ·not-nil j)) (List·Memᴰ·cases-cons (in-cond b (a ∷ []) i .1))
+
+-- ---- what is not empty
+pub not-empty : {A : Type 0} (a : A) (l : List A) → (a ∷ l) ≡ [] → ⊥
+not-empty a l e = let z : _≡_ {A = ℕ} 0 1 = cc in omega arith
+
+pub empty-map : {A B : Type 0} (f : A → B) (l : List A) → map f l ≡ [] → l ≡ []
+empty-map f [] e = refl
+empty-map f (a ∷ l) e = absurd (not-empty (f a) (map f l) e)
+
+-- ---- lists under a condition
+cond-perm : {A : Type 0} (a b : Bool) (l m : List A) → a ≡ b → List·Permᴰ l m → List·Permᴰ (cond a l []) (cond b m [])
+cond-perm a true l m e d = subst (λ (x : Bool). List·Permᴰ (cond x l []) m) (sym e) d
+cond-perm a false l m e d = subst (λ (x : Bool). List·Permᴰ (cond x l []) []) (sym e) List·Permᴰ·nil
+
+map-cond : {A B : Type 0} (h : A → B) (b : Bool) (l : List A) → map h (cond b l []) ≡ cond b (map h l) []
+map-cond h true l = refl
+map-cond h false l = refl
+
+pub cond-moved :
+    {A B : Type 0} (h : A → B) (a b : Bool) (l : List B) (m : List A) → a ≡ b → List·Permᴰ l (map h m)
+    → List·Permᴰ (cond a l []) (map h (cond b m []))
+cond-moved h a b l m e d = List·Permᴰ·trans (cond-perm a b l (map h m) e d) (perm-eq (sym (map-cond h b m)))
+
+-- ---- mapped lists
+pub flat-length :
+    {A B : Type 0} (g : A → List B) (h : A → A) (l : List A) → ((a : A) → List·Memᴰ a l → length (g (h a)) ≡ length (g a))
+    → length (flat g (map h l)) ≡ length (flat g l)
+flat-length g h [] e = refl
+flat-length g h (a ∷ l) e =
+    omega (
+      arith,
+      length-append (g (h a)) (flat g (map h l)),
+      length-append (g a) (flat g l),
+      e a (List·Memᴰ·head refl),
+      flat-length g h l (λ b i. e b (List·Memᴰ·tail i)),
+    )
+
+pub take-map : {A B : Type 0} (h : A → B) (n : ℕ) (l : List A) → take n (map h l) ≡ map h (take n l)
+take-map h zero l = refl
+take-map h (suc n) [] = refl
+take-map h (suc n) (a ∷ l) = ap (λ (r : List _). h a ∷ r) (take-map h n l)
+
+-- what stands at a place of the list; the defaults past the ends do not matter
+pub at-map : {A B : Type 0} (f : A → B) (l : List A) (n : ℕ) (d : A) (e : B) → n < length l → getD (map f l) n e ≡ f (getD l n d)
+at-map f [] n d e h = absurd (omega arith)
+at-map f (a ∷ l) zero d e h = refl
+at-map f (a ∷ l) (suc n) d e h = at-map f l n d e (omega arith)

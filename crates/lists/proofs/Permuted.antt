@@ -1,8 +1,8 @@
 -- Permutations leave the folds of a list as they are; a test for permutations. Assumes nothing.
 use mathlib.Core.Path.{_≡_, refl, sym, ap, ap₂, _∙_, subst}
-use mathlib.Core.Bool.{Bool, true, false, _&&_, _||_, not, cond}
-use mathlib.Core.List.{List, [], _∷_, _++_, map, List·Permᴰ, List·Permᴰ·nil, List·Permᴰ·cons, List·Permᴰ·swap, List·Permᴰ·trans, Permᴰ·refl, Permᴰ·symm}
-use Prim.Native.Nat.{ℕ, zero, suc, _+_, _<_}
+use mathlib.Core.Bool.{Bool, true, false, _&&_, _||_, cond}
+use mathlib.Core.List.{List, [], _∷_, map, List·Permᴰ, List·Permᴰ·nil, List·Permᴰ·cons, List·Permᴰ·swap, List·Permᴰ·trans, Permᴰ·refl, Permᴰ·symm}
+use Prim.Native.Nat.{ℕ, _+_}
 use native.Mathlib.Omega.{arith}
 use lib.Dec.{T, eqb, eqb→eq}
 use Rattle.lists.specs.Fold.{every, some, total, all, any, sum}
@@ -55,10 +55,6 @@ module _ {A B : Type 0} (good : A → Bool) (f : A → A) (p q : A → B) (law :
   map-moved (a ∷ l) t = ap₂ _∷_ (law a (and-left (good a) _ t)) (map-moved l (and-right (good a) _ t))
 
 -- ---- a test for a permutation of a list of numbers
-abbrev pub has : ℕ → List ℕ → Bool
-has n [] = false
-has n (x ∷ xs) = eqb n x || has n xs
-
 abbrev pub less : ℕ → List ℕ → List ℕ
 less n [] = []
 less n (x ∷ xs) = cond (eqb n x) xs (x ∷ less n xs)
@@ -66,14 +62,14 @@ less n (x ∷ xs) = cond (eqb n x) xs (x ∷ less n xs)
 abbrev pub isPerm : List ℕ → List ℕ → Bool
 isPerm [] [] = true
 isPerm [] (y ∷ ys) = false
-isPerm (x ∷ xs) ys = has x ys && isPerm xs (less x ys)
+isPerm (x ∷ xs) ys = any (eqb x) ys && isPerm xs (less x ys)
 
-less-perm : (n : ℕ) (ys : List ℕ) → T (has n ys) → List·Permᴰ (n ∷ less n ys) ys
+less-perm : (n : ℕ) (ys : List ℕ) → T (any (eqb n) ys) → List·Permᴰ (n ∷ less n ys) ys
 less-perm n [] t = absurd t
 less-perm n (x ∷ xs) t = go (eqb n x) refl t (less-perm n xs)
   where
     go :
-        (b : Bool) → eqb n x ≡ b → T (b || has n xs) → (T (has n xs) → List·Permᴰ (n ∷ less n xs) xs)
+        (b : Bool) → eqb n x ≡ b → T (b || any (eqb n) xs) → (T (any (eqb n) xs) → List·Permᴰ (n ∷ less n xs) xs)
         → List·Permᴰ (n ∷ cond b xs (x ∷ less n xs)) (x ∷ xs)
     go true e t r = List·Permᴰ·cons (eqb→eq n x (subst T (sym e) tt)) (Permᴰ·refl xs)
     go false e t r = List·Permᴰ·trans (List·Permᴰ·swap refl refl) (List·Permᴰ·cons refl (r t))
@@ -82,8 +78,8 @@ pub isPerm-perm : (xs ys : List ℕ) → T (isPerm xs ys) → List·Permᴰ xs y
 isPerm-perm [] [] t = List·Permᴰ·nil
 isPerm-perm [] (y ∷ ys) t = absurd t
 isPerm-perm (x ∷ xs) ys t =
-    List·Permᴰ·trans (List·Permᴰ·cons refl (isPerm-perm xs (less x ys) (and-right (has x ys) _ t)))
-    (less-perm x ys (and-left (has x ys) _ t))
+    List·Permᴰ·trans (List·Permᴰ·cons refl (isPerm-perm xs (less x ys) (and-right (any (eqb x) ys) _ t)))
+    (less-perm x ys (and-left (any (eqb x) ys) _ t))
 
 -- ---- folds over a list of numbers that a renaming r puts in another order
 pub record Shuffled (r : ℕ → ℕ) (good : ℕ → Bool) (l : List ℕ) : Type 0 where

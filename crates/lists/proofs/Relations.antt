@@ -1,5 +1,5 @@
 -- Lists in which each element stands in a relation to each later one. Assumes nothing.
-use mathlib.Core.Path.{_≡_, refl, sym, subst}
+use mathlib.Core.Path.{refl, subst}
 use mathlib.Core.Logic.{⊎-elim}
 use mathlib.Core.Bool.{Bool, true, false, _&&_, cond}
 use mathlib.Core.List.{List, [], _∷_, _++_, map, List·Memᴰ, List·Memᴰ·head, List·Memᴰ·tail, List·Memᴰ·not-nil, List·Memᴰ·append-cases, Memᴰ·of-map}
@@ -37,14 +37,18 @@ pairwise-flat R S g (a ∷ l) c f h =
     pairwise-append S (g a) (flat g l) (f a) (pairwise-flat R S g l (c .1) f h)
     (λ x y i j. let r = flat-mem g l j in h a (r .0) x y (c .0 (r .0) (r .1)) i (r .2))
 
-abbrev pub up : List ℕ → Bool
-up [] = true
-up (n ∷ l) = all (λ m. ltb n m) l && up l
+-- a test that f rises along the list
+module _ {A : Type 0} (f : A → ℕ) where
+  abbrev pub rising : List A → Bool
+  rising [] = true
+  rising (a ∷ l) = all (λ b. ltb (f a) (f b)) l && rising l
 
-pub up-pairwise : (l : List ℕ) → T (up l) → Pairwise _<_ l
-up-pairwise [] t = tt
-up-pairwise (n ∷ l) t =
-    (λ m i. ltb→lt n m (all-mem (λ m. ltb n m) (and-left (all (λ m. ltb n m) l) _ t) i), up-pairwise l (and-right (all (λ m. ltb n m) l) _ t))
+  pub rising-pairwise : (l : List A) → T (rising l) → Pairwise (λ a b. f a < f b) l
+  rising-pairwise [] t = tt
+  rising-pairwise (a ∷ l) t = (
+    λ b i. ltb→lt (f a) (f b) (all-mem (λ b. ltb (f a) (f b)) (and-left (all (λ b. ltb (f a) (f b)) l) _ t) i),
+    rising-pairwise l (and-right (all (λ b. ltb (f a) (f b)) l) _ t),
+  )
 
 pub pairwise-single : {A : Type 0} (R : A → A → Type 0) (a : A) → Pairwise R (a ∷ [])
 pairwise-single R a = (λ y i. absurd (List·Memᴰ·not-nil i), tt)

@@ -3,7 +3,7 @@ use mathlib.Core.Bool.{Bool, true, false, _&&_, _||_, cond}
 use mathlib.Core.List.{List, [], _∷_, _++_, map}
 use Prim.Native.Nat.{ℕ, zero, suc, _+_}
 
--- each is true; one is true; the sum
+-- each of a list of answers is yes; one of them is yes; the sum of a list of numbers
 abbrev pub every : List Bool → Bool
 every [] = true
 every (b ∷ bs) = b && every bs
@@ -21,6 +21,7 @@ abbrev pub one : Bool → ℕ
 one true = 1
 one false = 0
 
+-- the test p passes at each element; at one of them; the sum of f of each; how many pass the test p
 module _ {A : Type 0} where
   abbrev pub all : (A → Bool) → List A → Bool
   all p l = every (map p l)

@@ -1,17 +1,18 @@
 -- Melds as a list: which they are, each once and ascending; a test over all of them; and the general laws of order for melds.
 -- Assumes nothing.
 use mathlib.Core.Path.{_≡_}
-use mathlib.Core.Bool.{Bool, true, _&&_, _||_, not}
-use mathlib.Core.List.{List, [], _∷_, List·Memᴰ, List·Permᴰ}
+use mathlib.Core.Bool.{Bool, _||_, not}
+use mathlib.Core.List.{List, List·Memᴰ, List·Permᴰ}
 use Prim.Native.Nat.{_<_}
 use lib.Dec.{T, eqb, ltb, eqb→eq, ltb→lt, eqb-refl}
 use Rattle.lists.specs.Fold.{allBelow, all, any}
 use Rattle.lists.specs.Order.{Pick, Nodup, Pairwise, arrange, distinct}
 use Rattle.lists.proofs.Finite.{at, and-left, and-right, and-both, or-skip}
-use Rattle.lists.proofs.Members.{all-mem}
+use Rattle.lists.proofs.Members.{all-mem, all-intro}
+use Rattle.lists.proofs.Relations.{rising-pairwise}
 use Rattle.lists.proofs.Arranged as general
 use Rattle.meld.specs.declared.Meld.{Meld}
-use Rattle.meld.specs.Meld.{isMeld, isHandMeld, key, eqMeld, meld, melds, handMelds}
+use Rattle.meld.specs.Meld.{isMeld, isHandMeld, key, eqMeld, meld, melds, handMelds, sorted}
 
 -- ---- equal melds
 meld-path : {m x : Meld} → m .tile ≡ x .tile → m .kind ≡ x .kind → m ≡ x
@@ -88,20 +89,20 @@ is-handMeld m i = all-mem isHandMeld {l = handMelds} tt i
 pub is-meld : (m : Meld) → List·Memᴰ m melds → T (isMeld m)
 is-meld m i = all-mem isMeld {l = melds} tt i
 
+-- melds of a hand are melds
+pub closed-melds : (l : List Meld) → T (all isHandMeld l) → T (all isMeld l)
+closed-melds l v = all-intro isMeld l (λ m i. and-left (isMeld m) _ (all-mem isHandMeld v i))
+
+pub picked-melds : {l : List Meld} → Pick handMelds l → T (all isMeld l)
+picked-melds {l} d = closed-melds l (all-intro isHandMeld l (λ m i. is-handMeld m (general.pick-mem d i)))
+
+-- melds in ascending order are the melds, in another order
+pub sorted-perm : (ms : List Meld) → T (all isMeld ms) → List·Permᴰ (sorted ms) ms
+sorted-perm ms v = arrange-perm melds melds-nodup ms (λ x i. in-melds x (all-mem isMeld v i))
+
 -- ---- they ascend
-abbrev rising : List Meld → Bool
-rising [] = true
-rising (m ∷ l) = all (λ x. ltb (key m) (key x)) l && rising l
-
-rising-pairwise : (l : List Meld) → T (rising l) → Pairwise (λ m x. key m < key x) l
-rising-pairwise [] t = tt
-rising-pairwise (m ∷ l) t = (
-  λ x i. ltb→lt (key m) (key x) (all-mem (λ x. ltb (key m) (key x)) (and-left (all (λ x. ltb (key m) (key x)) l) _ t) i),
-  rising-pairwise l (and-right (all (λ x. ltb (key m) (key x)) l) _ t),
-)
-
 pub melds-ascend : Pairwise (λ m x. key m < key x) melds
-melds-ascend = rising-pairwise melds tt
+melds-ascend = rising-pairwise key melds tt
 
 pub handMelds-ascend : Pairwise (λ m x. key m < key x) handMelds
-handMelds-ascend = rising-pairwise handMelds tt
+handMelds-ascend = rising-pairwise key handMelds tt

@@ -22,6 +22,7 @@ isKan m = leb 4 (m .kind) && ltb (m .kind) 7
 abbrev pub isConcealed : Meld → Bool
 isConcealed m = eqb (m .kind) 0 || (eqb (m .kind) 2 || eqb (m .kind) 4)
 
+-- a tile of it was called from another player
 abbrev pub isOpen : Meld → Bool
 isOpen m = eqb (m .kind) 1 || (eqb (m .kind) 3 || (eqb (m .kind) 5 || eqb (m .kind) 6))
 
@@ -41,7 +42,7 @@ isCall m = isMeld m && not (eqb (m .kind) 0 || eqb (m .kind) 2)
 abbrev pub key : Meld → ℕ
 key m = m .tile * 7 + m .kind
 
--- how many of the tile t the meld holds: a sequence one each of three, a kan four, a triplet three
+-- how many of the tile t a meld holds: a sequence one each of three tiles from its first on, a kan four of its tile, a triplet three
 abbrev pub runUses : ℕ → ℕ → ℕ
 runUses first t = one (leb first t && ltb t (first + 3))
 

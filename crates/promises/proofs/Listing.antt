@@ -1,12 +1,9 @@
 -- Listing readings: what a hand that passes the checks 1 to 6 gets. Assumes nothing.
-use mathlib.Core.Path.{_≡_, refl, sym, ap, _∙_, subst}
-use mathlib.Core.Bool.{Bool, true, false, cond, _&&_}
-use mathlib.Core.List.{List, [], _++_, List·Memᴰ}
-use Prim.Native.Nat.{ℕ, _+_, _-_, _*_, _≤_, _<_}
+use mathlib.Core.Path.{_≡_, refl, sym}
+use mathlib.Core.List.{List, List·Memᴰ}
+use Prim.Native.Nat.{ℕ, _-_, _≤_, _<_}
 use native.Mathlib.Omega.{arith}
-use lib.Dec.{T, eqb, leb}
-use lib.ListN.{length, drop}
-use Rattle.lists.specs.Fold.{all, sum}
+use lib.ListN.{length}
 use Rattle.lists.specs.Order.{Nodup, Pairwise}
 use Rattle.tile.specs.Tile.{tiles}
 use Rattle.hand.specs.Counts.{held}
@@ -20,16 +17,16 @@ use Rattle.complete.proofs.Ascending.{readings-ascend}
 use Rattle.complete.proofs.Bound.{enough}
 use Rattle.checks.specs.declared.Calls.{Calls}
 use Rattle.checks.specs.Checks.{called, handCheck}
-use Rattle.checks.proofs.Passed.{passed, called-length}
+use Rattle.checks.proofs.Passed.{passed, few-called}
 use Rattle.unit.specs.declared.Listing.the-variants.{Listed, Refused}
-use Rattle.unit.specs.Listing.{handReadings, handRecords, listing, written}
+use Rattle.unit.specs.Listing.{handReadings, handRecords, listing}
 use Rattle.unit.proofs.Answers.{listed-answer, short-answer}
 use Rattle.unit.proofs.Listed.{melds-called}
 
 -- a hand that passes the checks; the four melds of the calls are four (an array of four in the code)
 module _ (cs : List ℕ) (k : Calls) (four : length (k .melds) ≡ 4) (passes : handCheck cs k ≡ 0) where
   few : length (called k) ≤ 4
-  few = let e = called-length k (passed cs k passes .few) four in let h = passed cs k passes .few in omega arith
+  few = few-called cs k four passes
 
   -- each listed reading is one that the tiles admit
   pub admitted : (r : Reading) → List·Memᴰ r (handReadings cs k) → Admits (held cs) (called k) r

@@ -16,7 +16,7 @@ use Rattle.scoring.specs.Level.{level, basicPoints}
 use Rattle.scoring.specs.Payment.{payment, totalAt}
 use Rattle.reading_score.specs.declared.ScoringResult.{ScoringResult}
 
--- what yaku, han and fu come to
+-- what yaku, han and fu come to; ts are the tallies: for each yaku, by its place, how often it counts
 unfoldable pub result : GameContext → List ℕ → ℕ → ℕ → Bool → ScoringResult
 result w ts han fu yakuman =
     record {
@@ -36,7 +36,7 @@ scoreOf w opened s r = result w (tallies w opened s r) (han w opened s r) (fu w 
 abbrev pub hasYaku : ScoringResult → Bool
 hasYaku x = any (λ n. not (eqb n 0)) (x .tallies)
 
--- a yakuman before none
+-- 1 with a yakuman, 0 without
 abbrev pub yakumanFirst : Bool → ℕ
 yakumanFirst yakuman = cond yakuman 1 0
 

@@ -2,7 +2,7 @@
 -- number is reading the record at that place. Assumes nothing.
 use mathlib.Core.Path.{_≡_, refl, sym, subst, ap, ap₂, _∙_}
 use mathlib.Core.List.{List, [], _∷_, _++_, append-assoc, List·Memᴰ, List·Memᴰ·head, List·Memᴰ·tail}
-use Prim.Native.Nat.{ℕ, zero, suc, _+_, _<_, _≤_}
+use Prim.Native.Nat.{ℕ, zero, suc, _+_, _<_}
 use native.Mathlib.Omega.{arith}
 use lib.ListN.{length, length-append}
 use lib.Seq.{getD-append-add}
@@ -70,6 +70,11 @@ begins (orphans p) rest h = orphans-begin p rest
 begins (standard p ms) rest h = standard-begins p ms rest h
 
 -- ---- records one after the other
+-- as many readings as records
+pub read-many : (b : List ℕ) (m i : ℕ) → length (readingsIn b m i) ≡ m
+read-many b zero i = refl
+read-many b (suc m) i = ap suc (read-many b m (i + byteAt b i))
+
 -- the record's own bytes go before the rest
 split : (front : List ℕ) (r : Reading) (rs : List Reading) (rest : List ℕ) →
     front ++ (records (r ∷ rs) ++ rest) ≡ front ++ (recordOf r ++ (records rs ++ rest))
@@ -97,16 +102,9 @@ pub read-back :
     (rs : List Reading) (rest : List ℕ) → ((r : Reading) → List·Memᴰ r rs → Sized r) → readingsIn (records rs ++ rest) (length rs) 0 ≡ rs
 read-back rs rest sized = read-behind rs [] rest sized
 
--- ---- picking by number among the readings of records
+-- picking by number among the readings of records is reading the record at that place
 module _ {B : Type 0} (z : B) (f : Reading → B) (b : List ℕ) where
-  -- it is reading the record at that place
   pub picked : (m n i : ℕ) → n < m → pickAt z f (readingsIn b m i) n ≡ f (readingAt b (placeOf b n i))
   picked zero n i h = absurd (omega arith)
   picked (suc m) zero i h = refl
   picked (suc m) (suc n) i h = picked m n (i + byteAt b i) (omega arith)
-
-  -- past the last there is nothing to pick
-  pub not-picked : (m n i : ℕ) → m ≤ n → pickAt z f (readingsIn b m i) n ≡ z
-  not-picked zero n i h = refl
-  not-picked (suc m) zero i h = absurd (omega arith)
-  not-picked (suc m) (suc n) i h = not-picked m n (i + byteAt b i) (omega arith)

@@ -1,3 +1,4 @@
 pub mod Places
+pub mod Pick
 pub mod Back
 pub mod Sized

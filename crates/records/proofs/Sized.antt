@@ -1,38 +1,27 @@
 -- Every listed reading has seven pairs or four melds. The calls have to be melds: putting melds in order drops anything else.
 -- Assumes nothing.
 use mathlib.Core.Path.{_≡_, ap}
-use mathlib.Core.Logic.{⊎-elim}
-use mathlib.Core.List.{List, _++_, List·Memᴰ, List·Memᴰ·append-cases}
+use mathlib.Core.List.{List, _++_, List·Memᴰ}
 use Prim.Native.Nat.{ℕ, _≤_}
 use native.Mathlib.Omega.{arith}
 use lib.Dec.{T}
 use lib.ListN.{length, length-append}
 use Rattle.lists.specs.Fold.{all}
-use Rattle.lists.proofs.Finite.{and-left}
-use Rattle.lists.proofs.Members.{all-mem, length-perm}
+use Rattle.lists.proofs.Members.{all-append, length-perm}
 use Rattle.meld.specs.declared.Meld.{Meld}
-use Rattle.meld.specs.Meld.{isMeld, isHandMeld, melds, sorted}
-use Rattle.meld.proofs.Melds.{melds-nodup, in-melds, arrange-perm}
+use Rattle.meld.specs.Meld.{isMeld}
+use Rattle.meld.proofs.Melds.{closed-melds, sorted-perm}
 use Rattle.hand.specs.Reading.{Reading, pairs, orphans, standard, Admits, AdmitsStandard}
 use Rattle.hand.specs.Readings.{readings}
 use Rattle.complete.proofs.Sound.{listed-admitted}
 use Rattle.records.proofs.Back.{Sized}
-
--- putting melds in order keeps their number
-sorted-length : (l : List Meld) → ((m : Meld) → List·Memᴰ m l → T (isMeld m)) → length (sorted l) ≡ length l
-sorted-length l good = length-perm (arrange-perm melds melds-nodup l (λ m i. in-melds m (good m i)))
-
--- the calls and the hand's melds are melds
-members : (k hand : List Meld) → T (all isMeld k) → T (all isHandMeld hand) → (m : Meld) → List·Memᴰ m (k ++ hand) → T (isMeld m)
-members k hand calls closed m i =
-    ⊎-elim (λ j. all-mem isMeld calls j) (λ j. and-left (isMeld m) _ (all-mem isHandMeld closed j)) (List·Memᴰ·append-cases k i)
 
 four-melds : (c : ℕ → ℕ) (k : List Meld) → T (all isMeld k) → (p : ℕ) (ms : List Meld) → AdmitsStandard c k p ms → length ms ≡ 4
 four-melds c k calls p ms a =
     omega (
       arith,
       ap length (a .whole),
-      sorted-length (k ++ a .hand) (members k (a .hand) calls (a .closed)),
+      length-perm (sorted-perm (k ++ a .hand) (all-append isMeld k (a .hand) calls (closed-melds (a .hand) (a .closed)))),
       length-append k (a .hand),
       a .four,
     )

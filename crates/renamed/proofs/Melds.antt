@@ -4,15 +4,14 @@ use mathlib.Core.List.{List, map, List·Memᴰ, Memᴰ·cast, Memᴰ·map, Mem�
 use Prim.Native.Nat.{ℕ, _<_}
 use lib.Dec.{T}
 use lib.ListN.{length-map}
-use Rattle.lists.specs.Fold.{all, sum}
+use Rattle.lists.specs.Fold.{sum}
 use Rattle.lists.specs.Order.{Pick, arrange}
-use Rattle.lists.proofs.Finite.{and-left}
 use Rattle.lists.proofs.Permuted.{total-perm, map-perm}
-use Rattle.lists.proofs.Members.{same-perm, nodup-map-id, length-perm, all-intro, map-members, map-map, map-id}
+use Rattle.lists.proofs.Members.{same-perm, nodup-map-id, length-perm, all-mem, map-members, map-map, map-id}
 use Rattle.lists.proofs.Arranged.{pick-mem}
 use Rattle.meld.specs.declared.Meld.{Meld}
 use Rattle.meld.specs.Meld.{isHandMeld, isMeld, eqMeld, handMelds, uses}
-use Rattle.meld.proofs.Melds.{handMelds-nodup, in-handMelds, is-handMeld, arrange-same, arrange-perm, arrange-pick, arrange-id}
+use Rattle.meld.proofs.Melds.{handMelds-nodup, in-handMelds, is-handMeld, picked-melds, arrange-same, arrange-perm, arrange-pick, arrange-id}
 use Rattle.hand.specs.Readings.{find, meldLists}
 use Rattle.hand.proofs.Search.{Exact, Found, find-sound, find-complete, find-nodup}
 use Rattle.renamed.proofs.Keeps.{InStep, Keeps, SameCounts, turned, counts-back, uses-moved}
@@ -20,12 +19,6 @@ use Rattle.renamed.proofs.Keeps.{InStep, Keeps, SameCounts, turned, cou
 -- melds of a hand with g at each, in ascending order again
 abbrev pub renHand : (Meld → Meld) → List Meld → List Meld
 renHand g l = arrange eqMeld handMelds (map g l)
-
-pub picked-meld : {l : List Meld} → Pick handMelds l → (m : Meld) → List·Memᴰ m l → T (isMeld m)
-picked-meld d m i = and-left (isMeld m) _ (is-handMeld m (pick-mem d i))
-
-pub picked-melds : {l : List Meld} → Pick handMelds l → T (all isMeld l)
-picked-melds {l} d = all-intro isMeld l (picked-meld d)
 
 module _ {f : ℕ → ℕ} {g : Meld → Meld} (s : InStep f g) {l : List Meld} (d : Pick handMelds l) where
   renamed-in : (x : Meld) → List·Memᴰ x (map g l) → List·Memᴰ x handMelds
@@ -41,7 +34,7 @@ module _ {f f′ : ℕ → ℕ} {g g′ : Meld → Meld} (k : Keeps f f′ g g�
   renHand-undo {l} d =
       arrange-same handMelds (map-perm g′ (renHand-perm (k .forth) d))
       ∙ ap (arrange eqMeld handMelds)
-      (map-map g g′ l ∙ map-members (λ m. g′ (g m)) (λ m. m) l (λ m i. k .meld-forth m (picked-meld d m i)) ∙ map-id l)
+      (map-map g g′ l ∙ map-members (λ m. g′ (g m)) (λ m. m) l (λ m i. k .meld-forth m (all-mem isMeld (picked-melds d) i)) ∙ map-id l)
       ∙ arrange-id d handMelds-nodup
 
   module _ (c d : ℕ → ℕ) (e : SameCounts f c d) where

@@ -1,16 +1,16 @@
--- The readings of a renamed hand are the readings of the hand, renamed, each once. Assumes nothing.
+-- The readings of a renamed hand are the readings of the hand, renamed. Assumes nothing.
 use mathlib.Core.Path.{_≡_, refl, sym, ap, ap₂, _∙_, subst}
-use mathlib.Core.Logic.{⊎-elim}
-use mathlib.Core.Bool.{Bool, true, false, _&&_, _||_, cond}
-use mathlib.Core.List.{List, [], _∷_, _++_, map, List·Memᴰ·append-cases, List·Permᴰ, List·Permᴰ·nil, List·Permᴰ·trans, Permᴰ·symm, Permᴰ·append-left}
+use mathlib.Core.Bool.{Bool, _&&_, _||_, cond}
+use mathlib.Core.List.{List, [], _∷_, _++_, map, List·Permᴰ, List·Permᴰ·nil, List·Permᴰ·trans, Permᴰ·symm, Permᴰ·append-left}
 use Prim.Native.Nat.{ℕ, _+_, _-_, _<_}
 use lib.Dec.{T, eqb, ltb, leb, eqb→eq, ltb→lt, eqb-refl}
 use lib.ListN.{length, length-map}
 use Rattle.lists.specs.Fold.{all, flat, keep, one}
-use Rattle.lists.specs.Order.{Nodup, Pick, arrange}
+use Rattle.lists.specs.Order.{Pick, arrange}
 use Rattle.lists.proofs.Permuted.{all-over, map-perm}
-use Rattle.lists.proofs.Members.{perm-nodup, perm-eq, append-both, map-append, map-members, map-map, length-perm, flat-perm, flat-moved, all-mem, all-intro}
-use Rattle.lists.proofs.Arranged.{arrange-same, arrange-id, filter-pick}
+use Rattle.lists.proofs.Members.{perm-eq, append-both, map-append, map-members, map-map, length-perm, flat-perm, flat-moved, all-append, cond-moved}
+use Rattle.lists.proofs.Arranged.{arrange-same, arrange-id}
+use Rattle.lists.proofs.Kept.{keep-pick}
 use Rattle.tile.specs.Tile.{isTerminalOrHonor, tiles}
 use Rattle.tile.specs.declared.Renaming.{Renaming}
 use Rattle.tile.specs.Renaming.{ren}
@@ -22,34 +22,15 @@ use Rattle.meld.proofs.Melds as meld
 use Rattle.hand.specs.Reading.{Reading, pairs, orphans, standard}
 use Rattle.hand.specs.Readings.{meldLists, lessPair, standardsAt, twos, isPairs, sevenPairs, isOrphans, thirteenOrphans, uncalled, readings}
 use Rattle.hand.proofs.Search.{find-sound}
-use Rattle.complete.proofs.Once.{readings-once}
 use Rattle.renamed.specs.Renamed.{changed, renReading}
 use Rattle.renamed.proofs.Keeps.{Keeps, SameCounts, tiles-eqb, tiles-perm, tiles-over, each-stays, keeps}
-use Rattle.renamed.proofs.Melds.{picked-meld, renHand, renHand-perm, find-moved}
-
--- ---- lists under a condition
-cond-perm : {A : Type 0} (a b : Bool) (l m : List A) → a ≡ b → List·Permᴰ l m → List·Permᴰ (cond a l []) (cond b m [])
-cond-perm a true l m e d = subst (λ (x : Bool). List·Permᴰ (cond x l []) m) (sym e) d
-cond-perm a false l m e d = subst (λ (x : Bool). List·Permᴰ (cond x l []) []) (sym e) List·Permᴰ·nil
-
-map-cond : {A B : Type 0} (h : A → B) (b : Bool) (l : List A) → map h (cond b l []) ≡ cond b (map h l) []
-map-cond h true l = refl
-map-cond h false l = refl
-
-cond-moved :
-    {A B : Type 0} (h : A → B) (a b : Bool) (l : List B) (m : List A) → a ≡ b → List·Permᴰ l (map h m)
-    → List·Permᴰ (cond a l []) (map h (cond b m []))
-cond-moved h a b l m e d = List·Permᴰ·trans (cond-perm a b l (map h m) e d) (perm-eq (sym (map-cond h b m)))
+use Rattle.renamed.proofs.Melds.{renHand, renHand-perm, find-moved}
 
 uncalled-moved :
     (g : Meld → Meld) (h : Reading → Reading) (k : List Meld) (l m : List Reading) → List·Permᴰ l (map h m)
     → List·Permᴰ (uncalled (map g k) l) (map h (uncalled k m))
 uncalled-moved g h [] l m d = d
 uncalled-moved g h (x ∷ k) l m d = List·Permᴰ·nil
-
--- melds in ascending order are the melds
-pub sorted-perm : (ms : List Meld) → T (all isMeld ms) → List·Permᴰ (sorted ms) ms
-sorted-perm ms v = meld.arrange-perm melds meld.melds-nodup ms (λ x i. meld.in-melds x (all-mem isMeld v i))
 
 module _ {f f′ : ℕ → ℕ} {g g′ : Meld → Meld} (s : Keeps f f′ g g′) where
   -- where q answers of a renamed tile as p of the tile, q keeps of the tiles what p keeps, renamed
@@ -67,7 +48,7 @@ module _ {f f′ : ℕ → ℕ} {g g′ : Meld → Meld} (s : Keeps f f′ g g�
 
     twos-arranged : twos d ≡ arrange eqb tiles (map f (twos c))
     twos-arranged =
-        sym (arrange-id eqb eqb→eq eqb-refl (filter-pick (λ t. eqb (d t) 2) tiles) tiles-nodup)
+        sym (arrange-id eqb eqb→eq eqb-refl (keep-pick (λ t. eqb (d t) 2) tiles) tiles-nodup)
         ∙ arrange-same eqb eqb→eq eqb-refl tiles twos-moved
 
     pairs-test : isPairs d ≡ isPairs c
@@ -112,10 +93,7 @@ module _ {f f′ : ℕ → ℕ} {g g′ : Meld → Meld} (s : Keeps f f′ g g�
       melds-moved {l} p =
           meld.arrange-same melds
           (List·Permᴰ·trans (Permᴰ·append-left (map g k) (renHand-perm (s .forth) p))
-          (List·Permᴰ·trans (perm-eq (sym (map-append g k l))) (map-perm g (Permᴰ·symm (sorted-perm (k ++ l) whole)))))
-        where
-          whole : T (all isMeld (k ++ l))
-          whole = all-intro isMeld (k ++ l) (λ x i. ⊎-elim (all-mem isMeld calls) (picked-meld p x) (List·Memᴰ·append-cases k i))
+          (List·Permᴰ·trans (perm-eq (sym (map-append g k l))) (map-perm g (Permᴰ·symm (meld.sorted-perm (k ++ l) (all-append isMeld k l calls (meld.picked-melds p)))))))
 
       found-moved :
           (p : ℕ) → p < 34 → (n : ℕ)
@@ -159,22 +137,8 @@ module _ {f f′ : ℕ → ℕ} {g g′ : Meld → Meld} (s : Keeps f f′ g g�
           standards-moved)
           (perm-eq (sym (map-append (changed f g) (uncalled k (sevenPairs c ++ thirteenOrphans c)) (flat (standardsAt c k) tiles))))
 
-  -- each once
-  pub changed-once : (c : ℕ → ℕ) (k : List Meld) → T (all isMeld k) → Nodup (map (changed f g) (readings c k))
-  changed-once c k calls =
-      perm-nodup (readings-moved c (λ t. c (f′ t)) (λ t h. ap c (s .tile-forth t h)) k calls) (readings-once (λ t. c (f′ t)) (map g k))
-
 -- ---- the 24 renamings
 pub readings-renamed :
     (ρ : Renaming) (c d : ℕ → ℕ) → ((t : ℕ) → t < 34 → d (ren ρ t) ≡ c t) → (k : List Meld) → T (all isMeld k)
     → List·Permᴰ (readings d (map (renMeld ρ) k)) (map (renReading ρ) (readings c k))
 readings-renamed ρ = readings-moved (keeps ρ)
-
-pub renamed-once : (ρ : Renaming) (c : ℕ → ℕ) (k : List Meld) → T (all isMeld k) → Nodup (map (renReading ρ) (readings c k))
-renamed-once ρ = changed-once (keeps ρ)
-
--- as many readings
-pub length-renamed :
-    (ρ : Renaming) (c d : ℕ → ℕ) → ((t : ℕ) → t < 34 → d (ren ρ t) ≡ c t) → (k : List Meld) → T (all isMeld k)
-    → length (readings d (map (renMeld ρ) k)) ≡ length (readings c k)
-length-renamed ρ c d e k calls = length-perm (readings-renamed ρ c d e k calls) ∙ length-map (readings c k) (renReading ρ)

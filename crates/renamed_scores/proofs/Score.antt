@@ -1,19 +1,16 @@
 -- A reading and its renamed one have the same score and the same waits by sort. Assumes nothing.
-use mathlib.Core.Path.{_≡_, sym, subst}
-use mathlib.Core.Bool.{Bool, not}
+use mathlib.Core.Path.{_≡_}
+use mathlib.Core.Bool.{Bool}
 use Prim.Native.Nat.{ℕ, _<_}
 use lib.Dec.{T}
 use Rattle.tile.specs.declared.Renaming.{Renaming}
-use Rattle.tile.specs.Renaming.{ren}
 use Rattle.context.specs.declared.GameContext.{GameContext}
 use Rattle.context.specs.Context.{inRange, isDealer, isTsumo, renWin}
 use Rattle.hand.specs.Reading.{Reading}
-use Rattle.renamed.specs.Renamed.{renReading, allGreen}
-use Rattle.renamed.proofs.Keeps.{SameCounts}
+use Rattle.renamed.specs.Renamed.{renReading}
 use Rattle.renamed.proofs.Records.{isReading}
 use Rattle.wait.specs.Wait.{waits}
 use Rattle.tile_yaku.specs.declared.TileYaku.{TileYaku}
-use Rattle.tile_yaku.specs.Tiles.{tileYaku}
 use Rattle.yaku.specs.Tally.{isYakuman}
 use Rattle.yaku.specs.Han.{han}
 use Rattle.scoring.specs.declared.ScoreLevel.{ScoreLevel}
@@ -21,7 +18,6 @@ use Rattle.scoring.specs.declared.Payment.{Payment}
 use Rattle.scoring.specs.Fu.{fu}
 use Rattle.scoring.specs.Level.{level, basicPoints}
 use Rattle.scoring.specs.Payment.{payment}
-use Rattle.renamed_scores.proofs.Tiles.{tileYaku-renamed}
 use Rattle.renamed_scores.proofs.Waits.{ren-isDealer, waits-renamed}
 use Rattle.renamed_scores.proofs.Han.{isYakuman-renamed, han-renamed}
 use Rattle.renamed_scores.proofs.Fu.{fu-renamed}
@@ -62,11 +58,3 @@ module _ (ρ : Renaming) (w : GameContext) (winds : T (inRange w)) (h : w .«win
         same-payment = λ i. payment (isTsumo w) (ren-isDealer ρ w winds i) (basicPoints (n i) (f i) (y i));
         same-waits = waits-renamed ρ (w .«winning_tile») h r v;
       }
-
-  -- c and d count all tiles of the hand and of the renamed hand, calls included, and neither is all green
-  pub score-renamed :
-      (c d : ℕ → ℕ) → SameCounts (ren ρ) c d → T (not (allGreen c)) → T (not (allGreen d))
-      → SameScore opened w (renWin ρ w) (tileYaku c (w .«winning_tile»)) (tileYaku d (renWin ρ w .«winning_tile»)) r (renReading ρ r)
-  score-renamed c d e m n =
-      subst (λ (u : TileYaku). SameScore opened w (renWin ρ w) (tileYaku c (w .«winning_tile»)) u r (renReading ρ r))
-      (sym (tileYaku-renamed ρ c d e m n (w .«winning_tile») h)) (score-alike (tileYaku c (w .«winning_tile»)))

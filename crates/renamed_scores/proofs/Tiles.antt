@@ -11,11 +11,11 @@ use Rattle.lists.proofs.Permuted.{isPerm, isPerm-perm, Shuffled, all-over, any-
 use Rattle.tile.specs.Tile.{isGreen, isHonor, isSimple, isTerminal, isTerminalOrHonor, tiles}
 use Rattle.tile.specs.declared.Renaming.{Renaming}
 use Rattle.tile.specs.Renaming.{ren, suitTo}
-use Rattle.tile.proofs.Renamings.{allRen, ren-at, tiles-at, tiles-over, ren-isHonor, ren-isSimple, ren-isTerminal, ren-isTerminalOrHonor}
+use Rattle.tile.proofs.Renamings.{allRen, ren-at, tiles-at, ren-isHonor, ren-isSimple, ren-isTerminal, ren-isTerminalOrHonor}
 use Rattle.tile_yaku.specs.Tiles.{only, some, tanyao, honroutou, tsuuiisou, chinroutou, ryuuiisou, suits, ofSuit, oneSuit, honitsu, chinitsu, gate, nineGates, pureWait, tileYaku}
 use Rattle.tile_yaku.proofs.Below.{all-tiles}
 use Rattle.renamed.specs.Renamed.{allGreen}
-use Rattle.renamed.proofs.Keeps.{SameCounts}
+use Rattle.renamed.proofs.Keeps.{SameCounts, tiles-over, sum-stays, keeps}
 
 -- ---- the suits, in another order
 abbrev renSuit : Renaming → ℕ → ℕ
@@ -46,12 +46,12 @@ module _ (ρ : Renaming) (c d : ℕ → ℕ) (e : SameCounts (ren ρ) c d) where
   -- q answers of a renamed tile what p answers of the tile
   only-moved : (p q : ℕ → Bool) → ((t : ℕ) → t < 34 → q (ren ρ t) ≡ p t) → only q d ≡ only p c
   only-moved p q law =
-      all-over (tiles-over ρ) (λ t. eqb (c t) 0 || p t) (λ t. eqb (d t) 0 || q t)
+      all-over (tiles-over (keeps ρ)) (λ t. eqb (c t) 0 || p t) (λ t. eqb (d t) 0 || q t)
       (λ t h. ap₂ (λ (n : ℕ) (b : Bool). eqb n 0 || b) (e t (ltb→lt t 34 h)) (law t (ltb→lt t 34 h)))
 
   some-moved : (p q : ℕ → Bool) → ((t : ℕ) → t < 34 → q (ren ρ t) ≡ p t) → some q d ≡ some p c
   some-moved p q law =
-      any-over (tiles-over ρ) (λ t. leb 1 (c t) && p t) (λ t. leb 1 (d t) && q t)
+      any-over (tiles-over (keeps ρ)) (λ t. leb 1 (c t) && p t) (λ t. leb 1 (d t) && q t)
       (λ t h. ap₂ (λ (n : ℕ) (b : Bool). leb 1 n && b) (e t (ltb→lt t 34 h)) (law t (ltb→lt t 34 h)))
 
   -- ---- each tile asked alone
@@ -101,8 +101,8 @@ module _ (ρ : Renaming) (c d : ℕ → ℕ) (e : SameCounts (ren ρ) c d) where
   ren-nineGates =
       ap₂ (λ (b : Bool) (n : ℕ). b && eqb n 14)
       (any-over (suits-over ρ) (λ s. all (gate c s) tiles) (λ s. all (gate d s) tiles)
-      (λ s k. all-over (tiles-over ρ) (gate c s) (gate d (renSuit ρ s)) (λ t h. gate-moved s k t (ltb→lt t 34 h))))
-      (sum-over (tiles-over ρ) c d (λ t h. e t (ltb→lt t 34 h)))
+      (λ s k. all-over (tiles-over (keeps ρ)) (gate c s) (gate d (renSuit ρ s)) (λ t h. gate-moved s k t (ltb→lt t 34 h))))
+      (sum-stays (keeps ρ) c d e)
 
   pub ren-pureWait : (t : ℕ) → t < 34 → pureWait d (ren ρ t) ≡ pureWait c t
   unfolding pureWait

@@ -1,17 +1,16 @@
 -- Loops over the tiles: the tiles from i on, and what one turn does to a test or to a list over them. Assumes nothing.
 use mathlib.Core.Path.{_≡_, refl, sym, ap, _∙_}
-use mathlib.Core.Logic.{⊎-elim}
 use mathlib.Core.Bool.{Bool, true, false, _&&_, cond}
-use mathlib.Core.List.{List, [], _∷_, _++_, List·Memᴰ, List·Memᴰ·head, List·Memᴰ·tail, List·Memᴰ·not-nil, List·Memᴰ·cases-cons}
-use Prim.Native.Nat.{ℕ, zero, suc, _+_, _-_, _≤_, _<_}
+use mathlib.Core.List.{List, [], _∷_, _++_, List·Memᴰ}
+use Prim.Native.Nat.{ℕ, _+_, _-_, _≤_, _<_}
 use native.Mathlib.Numerals.{add-one}
 use native.Mathlib.Omega.{arith}
-use lib.Dec.{T}
 use lib.ListN.{length, set, length-set}
 use lib.Seq.{sets}
 use Rattle.lists.specs.Fold.{all, keep, upFrom}
-use Rattle.lists.proofs.Finite.{¬T→false}
+use Rattle.lists.proofs.Ranges.{in-upFrom}
 use Rattle.tile.specs.Tile.{tiles}
+use Rattle.hand.proofs.Sums.{upFrom-next, upFrom-end}
 
 -- the tiles from i on
 unfoldable pub rest : ℕ → List ℕ
@@ -23,21 +22,15 @@ rest-first = refl
 
 pub rest-next : (i : ℕ) → i < 34 → rest i ≡ i ∷ rest (i + 1)
 unfolding rest
-rest-next i h =
-    let e : 34 - i ≡ suc (34 - (i + 1)) = omega arith in
-    ap (λ (n : ℕ). upFrom n i) e ∙ ap (λ (a : ℕ). i ∷ upFrom (34 - (i + 1)) a) (sym (add-one i))
+rest-next i h = upFrom-next i 34 h
 
 pub rest-end : (i : ℕ) → 34 ≤ i → rest i ≡ []
 unfolding rest
-rest-end i h = let e : 34 - i ≡ 0 = omega arith in ap (λ (n : ℕ). upFrom n i) e
-
-from-on : (n a : ℕ) {t : ℕ} → List·Memᴰ t (upFrom n a) → a ≤ t
-from-on zero a m = absurd (List·Memᴰ·not-nil m)
-from-on (suc n) a m = ⊎-elim (λ e. omega (arith, e)) (λ j. omega (arith, from-on n (suc a) j)) (List·Memᴰ·cases-cons m)
+rest-end i h = upFrom-end i 34 h
 
 pub rest-on : (i : ℕ) {t : ℕ} → List·Memᴰ t (rest i) → i ≤ t
 unfolding rest
-rest-on i m = from-on (34 - i) i m
+rest-on i {t} m = in-upFrom (34 - i) i t m .0
 
 module _ (p : ℕ → Bool) where
   -- ---- a test at each tile
@@ -65,12 +58,6 @@ module _ (p : ℕ → Bool) where
 
   pub keep-end : (i : ℕ) → 34 ≤ i → keep p (rest i) ≡ []
   keep-end i h = ap (λ (l : List ℕ). keep p l) (rest-end i h)
-
-  pub keep-none : (l : List ℕ) → ((t : ℕ) → List·Memᴰ t l → T (p t) → ⊥) → keep p l ≡ []
-  keep-none [] f = refl
-  keep-none (t ∷ l) f =
-      ap (λ (b : Bool). cond b (t ∷ []) [] ++ keep p l) (¬T→false (p t) (f t (List·Memᴰ·head refl)))
-      ∙ keep-none l (λ u m. f u (List·Memᴰ·tail m))
 
   -- ---- such tiles written out: to write those from i on finishes the work
   abbrev pub Writing : (out₀ : List ℕ) (at : ℕ) (out : List ℕ) (pos i : ℕ) → Type 0

@@ -1,9 +1,8 @@
 -- Seven pairs and thirteen orphans by the number of kinds that are there, and the bytes of their records. Assumes nothing.
 use mathlib.Core.Path.{_≡_, refl, sym, ap, _∙_, subst}
-use mathlib.Core.Bool.{Bool, true, false, _&&_, _||_, not, cond}
+use mathlib.Core.Bool.{Bool, true, false, _&&_, _||_, not, cond, and-true, and-false}
 use mathlib.Core.List.{List, [], _∷_, _++_, map, append-nil, List·Memᴰ}
 use Prim.Native.Nat.{ℕ, suc, _+_, _≤_, _<_}
-use native.Mathlib.Decide.{ℕ-discrete}
 use native.Mathlib.Omega.{arith}
 use lib.Dec.{T, eqb, ltb, eqb→eq}
 use lib.Count.{ones}
@@ -12,15 +11,17 @@ use lib.Seq.{sets}
 use borrow.Author.Tests.{eq-eqb, ne-eqb, lt-ltb}
 use Rattle.lists.specs.Fold.{all, count, keep, one, total}
 use Rattle.lists.proofs.Finite.{and-left, and-right, true→T, or-elim}
-use Rattle.lists.proofs.Members.{all-mem, map-members}
+use Rattle.lists.proofs.Members.{map-members}
+use Rattle.lists.proofs.Kept.{keep-none}
 use Rattle.tile.specs.Tile.{isTerminalOrHonor, tiles}
-use Rattle.tile.proofs.Tiles.{in-tiles}
+use Rattle.tile.proofs.Tiles.{tile-lt}
 use Rattle.hand.specs.Reading.{pairs, orphans}
 use Rattle.hand.specs.Records.{recordOf, records, twoBytes}
 use Rattle.hand.specs.Readings.{twos, isPairs, sevenPairs, isOrphans, thirteenOrphans}
+use Rattle.hand.proofs.Tests.{seven-twos, orphans-exact, one-doubled}
 use Rattle.special.specs.Kinds.{kindsWord}
 use Rattle.special.proofs.Words.{there, ones-kinds}
-use Rattle.special.proofs.Loops.{rest, rest-on, keep-pass, keep-end, keep-none}
+use Rattle.special.proofs.Loops.{rest, rest-on, keep-pass, keep-end}
 
 -- ---- seven pairs
 
@@ -45,14 +46,6 @@ length-twos c (t ∷ l) h =
 beside : (b : Bool) (m n : ℕ) → (T b → m ≡ n) → b && eqb m 7 ≡ b && eqb n 7
 beside true m n f = ap (λ (k : ℕ). eqb k 7) (f tt)
 beside false m n f = refl
-
-and-false : (b : Bool) → b && false ≡ false
-and-false true = refl
-and-false false = refl
-
-and-true : (b : Bool) → b && true ≡ b
-and-true true = refl
-and-true false = refl
 
 kinds-there : (c : ℕ → ℕ) (kinds : ℕ) → kinds ≡ kindsWord c → ones kinds ≡ count (there c) tiles
 kinds-there c kinds e = ap ones e ∙ ones-kinds c
@@ -85,14 +78,10 @@ module _ (c : ℕ → ℕ) (p : ℕ) (h : T (isOrphans c p)) where
   orphan-doubled : T (isTerminalOrHonor p)
   orphan-doubled = and-left (isTerminalOrHonor p) (all (orphanCount c p) tiles) h
 
-  orphan-count : (t : ℕ) → List·Memᴰ t tiles → c t ≡ one (isTerminalOrHonor t) + one (eqb t p)
-  orphan-count t m =
-      eqb→eq (c t) _ (all-mem (orphanCount c p) (and-right (isTerminalOrHonor p) (all (orphanCount c p) tiles) h) m)
-
   -- the kinds that are there are the terminals and the honors
   orphan-there : (t : ℕ) → List·Memᴰ t tiles → there c t ≡ isTerminalOrHonor t
   orphan-there t m =
-      ap (λ (x : ℕ). not (eqb x 0)) (orphan-count t m)
+      ap (λ (x : ℕ). not (eqb x 0)) (orphans-exact c p h t (tile-lt m))
       ∙ some-there (isTerminalOrHonor t) (eqb t p)
       (λ d. subst (λ (u : ℕ). T (isTerminalOrHonor u)) (sym (eqb→eq t p d)) orphan-doubled)
 
@@ -100,24 +89,9 @@ module _ (c : ℕ → ℕ) (p : ℕ) (h : T (isOrphans c p)) where
   orphan-kinds =
       ap total (map-members (λ t. one (there c t)) (λ t. one (isTerminalOrHonor t)) tiles (λ t m. ap one (orphan-there t m)))
 
--- no other tile is doubled
-one-doubled : (c : ℕ → ℕ) (p q : ℕ) → T (isOrphans c p) → T (isOrphans c q) → p < 34 → q ≡ p
-one-doubled c p q h k l = go (ℕ-discrete q p)
-  where
-    go : Dec (q ≡ p) → q ≡ p
-    go (yes e) = e
-    go (no f) =
-        absurd (omega (
-          arith,
-          orphan-count c p h p (in-tiles p l),
-          orphan-count c q k p (in-tiles p l),
-          ap one (eq-eqb p p refl),
-          ap one (ne-eqb p q (λ e. f (sym e))),
-        ))
-
 none-later : (c : ℕ → ℕ) (p : ℕ) → T (isOrphans c p) → p < 34 → keep (isOrphans c) (rest (p + 1)) ≡ []
 none-later c p h l =
-    keep-none (isOrphans c) (rest (p + 1)) (λ q m k. absurd (omega (arith, rest-on (p + 1) m, one-doubled c p q h k l)))
+    keep-none (isOrphans c) (rest (p + 1)) (λ q m k. absurd (omega (arith, rest-on (p + 1) m, one-doubled c p q l h k)))
 
 module _ (c : ℕ → ℕ) where
   -- another number of kinds than thirteen
@@ -158,15 +132,12 @@ orphans-written out out′ at p e =
     ap (λ (o : List ℕ). set o (at + 4) p) e ∙ ap (λ (n : ℕ). set (sets out at (5 ∷ 0 ∷ 2 ∷ 0 ∷ [])) n p) (behind-head at)
 
 module _ (c : ℕ → ℕ) (h : isPairs c ≡ true) where
-  pub seven-twos : length (twos c) ≡ 7
-  seven-twos = eqb→eq (length (twos c)) 7 (and-right (all (noneOrTwo c) tiles) (eqb (length (twos c)) 7) (true→T (isPairs c) h))
-
   seven-record : records (sevenPairs c) ≡ 11 ∷ 0 ∷ 1 ∷ 0 ∷ twos c
   unfolding sevenPairs recordOf
   seven-record =
       ap (λ (b : Bool). records (cond b (pairs (twos c) ∷ []) [])) h
       ∙ append-nil (recordOf (pairs (twos c)))
-      ∙ ap (λ (n : ℕ). twoBytes (n + 4) ++ (twoBytes 1 ++ twos c)) seven-twos
+      ∙ ap (λ (n : ℕ). twoBytes (n + 4) ++ (twoBytes 1 ++ twos c)) (seven-twos c (true→T (isPairs c) h))
 
   pub pairs-written :
       (out out′ out″ : List ℕ) (at : ℕ) → out′ ≡ sets out at (11 ∷ 0 ∷ 1 ∷ 0 ∷ []) → out″ ≡ sets out′ (at + 4) (twos c)

@@ -1,4 +1,4 @@
--- The kinds present, as set bits of one word. These are definitions.
+-- The kinds of tile that a hand holds, as set bits of one word; c t is how many of the tile t it holds. These are definitions.
 use mathlib.Core.Bool.{cond}
 use Prim.Native.Nat.{ℕ, zero, suc, _+_, _*_}
 use lib.Dec.{eqb}

@@ -1,9 +1,10 @@
 -- A list is its elements; and over a list of four, as the melds of a reading, a question of each, a question of one, a count and
 -- a sum are the expressions that the code writes out. Assumes nothing.
 use mathlib.Core.Path.{_≡_, refl, sym, ap, _∙_}
-use mathlib.Core.Bool.{Bool, true, false, _&&_, _||_}
+use mathlib.Core.Bool.{Bool, true, false, _&&_, _||_, or-false}
 use mathlib.Core.List.{List, [], _∷_, map}
 use Prim.Native.Nat.{ℕ, zero, suc, _+_}
+use native.Mathlib.Nat.{add-zero}
 use native.Mathlib.Omega.{arith}
 use lib.ListN.{length, getD}
 use Rattle.lists.specs.Fold.{all, any, count, sum, one, upFrom}
@@ -12,13 +13,6 @@ use Rattle.lists.specs.Fold.{all, any, count, sum, one, upFrom}
 pub and-true : (a : Bool) → (a && true) ≡ a
 and-true true = refl
 and-true false = refl
-
-pub or-false : (a : Bool) → (a || false) ≡ a
-or-false true = refl
-or-false false = refl
-
-pub add-zero : (n : ℕ) → n + 0 ≡ n
-add-zero n = omega arith
 
 -- ---- a list of n is what stands at 0, 1, and so on
 module _ {A : Type 0} (d : A) where

@@ -1,12 +1,12 @@
 -- Over a list of seven, as the pairs of a reading, a question of each and a question of one are the expressions that the code
 -- writes out. Assumes nothing.
 use mathlib.Core.Path.{_≡_, sym, ap, _∙_}
-use mathlib.Core.Bool.{Bool, _&&_, _||_}
+use mathlib.Core.Bool.{Bool, _&&_, _||_, or-false}
 use mathlib.Core.List.{List, [], _∷_}
 use Prim.Native.Nat.{ℕ}
 use lib.ListN.{length, getD}
 use Rattle.lists.specs.Fold.{all, any}
-use Rattle.structure.proofs.Four.{and-true, or-false, elements}
+use Rattle.structure.proofs.Four.{and-true, elements}
 
 module _ {A : Type 0} where
   pub seven :

@@ -1,17 +1,15 @@
 -- Tests over all 24 renamings and all tiles that antt computes, and the laws of renamed tiles that they give. Assumes nothing.
 use mathlib.Core.Path.{_≡_}
 use mathlib.Core.Bool.{Bool, true, false, _&&_, _||_, not, Bool·beq}
-use mathlib.Core.List.{map, List·Permᴰ}
 use Prim.Native.Nat.{ℕ, _<_}
 use lib.Dec.{T, eqb, ltb, eqb→eq, ltb→lt}
 use Rattle.lists.specs.Fold.{allBelow}
 use Rattle.lists.proofs.Finite.{at, beq→eq, and-left, and-right, or-skip}
-use Rattle.lists.proofs.Permuted.{isPerm, isPerm-perm, Shuffled}
 use Rattle.tile.specs.declared.Suits.{Suits}
 use Rattle.tile.specs.declared.Suits.the-variants.{ManPinSou, ManSouPin, PinManSou, PinSouMan, SouManPin, SouPinMan}
 use Rattle.tile.specs.declared.Renaming.{Renaming}
 use Rattle.tile.specs.Renaming.{ren, back}
-use Rattle.tile.specs.Tile.{tiles, isSuited, isHonor, isWind, isDragon, isTerminal, isSimple, isTerminalOrHonor}
+use Rattle.tile.specs.Tile.{isSuited, isHonor, isWind, isDragon, isTerminal, isSimple, isTerminalOrHonor}
 
 -- ---- the test p passes at each renaming
 abbrev pub allSuits : (Suits → Bool) → Bool
@@ -111,10 +109,3 @@ ren-isSimple = tile-law isSimple tt
 
 pub ren-isTerminalOrHonor : (ρ : Renaming) (t : ℕ) → t < 34 → isTerminalOrHonor (ren ρ t) ≡ isTerminalOrHonor t
 ren-isTerminalOrHonor = tile-law isTerminalOrHonor tt
-
--- ---- the 34 tiles, renamed
-pub tiles-perm : (ρ : Renaming) → List·Permᴰ (map (ren ρ) tiles) tiles
-tiles-perm ρ = isPerm-perm (map (ren ρ) tiles) tiles (ren-at (λ ρ. isPerm (map (ren ρ) tiles) tiles) tt ρ)
-
-pub tiles-over : (ρ : Renaming) → Shuffled (ren ρ) (λ t. ltb t 34) tiles
-tiles-over ρ = record { each = tt; same = tiles-perm ρ }

@@ -1,13 +1,13 @@
 -- The 34 tiles: which numbers they are, each once and ascending. Assumes nothing.
-use mathlib.Core.List.{List·Memᴰ}
+use mathlib.Core.List.{List, List·Memᴰ, List·Permᴰ}
 use Prim.Native.Nat.{ℕ, _<_}
 use lib.Dec.{T, eqb, ltb, eqb→eq, ltb→lt, eqb-refl}
-use Rattle.lists.specs.Fold.{allBelow, any}
-use Rattle.lists.specs.Order.{Nodup, Pairwise}
+use Rattle.lists.specs.Fold.{all, allBelow, any}
+use Rattle.lists.specs.Order.{Nodup, Pairwise, arrange}
 use Rattle.lists.proofs.Finite.{at}
 use Rattle.lists.proofs.Members.{all-mem}
-use Rattle.lists.proofs.Arranged.{any-mem, distinct-nodup}
-use Rattle.lists.proofs.Relations.{up-pairwise}
+use Rattle.lists.proofs.Arranged.{any-mem, arrange-perm, distinct-nodup}
+use Rattle.lists.proofs.Relations.{rising-pairwise}
 use Rattle.tile.specs.Tile.{tiles}
 
 tiles-test : T (allBelow 34 (λ t. any (eqb t) tiles))
@@ -22,5 +22,10 @@ tile-lt {t} i = ltb→lt t 34 (all-mem (λ u. ltb u 34) {l = tiles} tt i)
 pub tiles-nodup : Nodup tiles
 tiles-nodup = distinct-nodup eqb eqb→eq eqb-refl tiles tt
 
+-- tiles in ascending order are the tiles, in another order
+pub tiles-arranged : (ts : List ℕ) → T (all (λ t. ltb t 34) ts) → List·Permᴰ (arrange eqb tiles ts) ts
+tiles-arranged ts v =
+    arrange-perm eqb eqb→eq eqb-refl tiles tiles-nodup ts (λ t i. in-tiles t (ltb→lt t 34 (all-mem (λ t. ltb t 34) v i)))
+
 pub tiles-ascend : Pairwise _<_ tiles
-tiles-ascend = up-pairwise tiles tt
+tiles-ascend = rising-pairwise (λ t. t) tiles tt

@@ -9,7 +9,7 @@ use Rattle.tile.specs.declared.Numbers.{Numbers}
 use Rattle.tile.specs.declared.Honors.{Honors}
 use Rattle.tile.specs.declared.Renaming.{Renaming}
 
--- one of three, by a suit
+-- one of three numbers: the first for the suit man (0), the second for pin (1), the third for sou (2)
 abbrev pub three : ℕ → ℕ → ℕ → ℕ → ℕ
 three man pin sou s = cond (eqb s 0) man (cond (eqb s 1) pin sou)
 
@@ -30,6 +30,7 @@ renNumber ν t = suitTo (ν .suits) (t / 9) * 9 + cond (ν .mirror) (8 - t % 9) 
 abbrev pub renHonor : Honors → ℕ → ℕ
 renHonor η t = cond (η .dragons && (eqb t 31 || eqb t 33)) (64 - t) t
 
+-- the tile that a tile becomes
 abbrev pub ren : Renaming → ℕ → ℕ
 ren ρ t = cond (ltb t 27) (renNumber (ρ .numbers) t) (renHonor (ρ .honors) t)
 

@@ -17,7 +17,7 @@ levelNumber Baiman = 3
 levelNumber Sanbaiman = 4
 levelNumber (Yakuman n) = 5 + n
 
--- a settlement as three numbers: its kind, and its one or two amounts
+-- a settlement (who pays what, Payment in the code) as three numbers: its kind, and its one or two amounts
 abbrev pub kindOf : Payment → ℕ
 kindOf (Ron n) = 0
 kindOf (DealerTsumo n) = 1

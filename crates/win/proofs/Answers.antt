@@ -1,8 +1,8 @@
 -- The answers of the three operations, by the ways they end. Assumes nothing.
-use mathlib.Core.Path.{_≡_, refl, sym, _∙_}
+use mathlib.Core.Path.{_≡_, sym, _∙_}
 use mathlib.Core.Bool.{Bool, true, false}
-use mathlib.Core.List.{List, [], _∷_, map}
-use Prim.Native.Nat.{ℕ, zero, suc, _≤_, _<_}
+use mathlib.Core.List.{List, map}
+use Prim.Native.Nat.{ℕ, _≤_, _<_}
 use lib.Dec.{eqb}
 use borrow.Author.Tests.{eq-eqb, ne-eqb}
 use Rattle.context.specs.declared.GameContext.{GameContext}
@@ -13,16 +13,14 @@ use Rattle.checks.specs.declared.Calls.{Calls}
 use Rattle.unit.specs.Listing.{handReadings}
 use Rattle.records.specs.Buffer.{readingAt, readingsIn, placeOf}
 use Rattle.records.specs.Pick.{pickAt}
+use Rattle.records.proofs.Pick.{pick-map}
 use Rattle.reading_score.specs.Score.{scoreOf}
 use Rattle.choice.specs.declared.ScoreAnswer.{ScoreAnswer}
 use Rattle.choice.specs.Choice.{refused, scored, choice, numbered}
+use Rattle.choice.specs.Standing.{StandsAt}
+use Rattle.choice.proofs.Standing.{stands-picked}
 use Rattle.win.specs.Win.{isOpened, tilesTogether, winCheck, scoreIn, scores, scoreWin, scoreReading, refusedWaits, namedWaits, nameWaits}
 use Rattle.win.proofs.Readings.{pick-there, pick-none}
-
-pick-map : {A B C : Type 0} (z : C) (f : B → C) (g : A → B) (l : List A) (n : ℕ) → pickAt z f (map g l) n ≡ pickAt z (λ a. f (g a)) l n
-pick-map z f g [] n = refl
-pick-map z f g (a ∷ l) zero = refl
-pick-map z f g (a ∷ l) (suc n) = pick-map z f g l n
 
 module _ (cs : List ℕ) (k : Calls) (w : GameContext) where
   -- ---- refused by a check
@@ -42,42 +40,57 @@ module _ (cs : List ℕ) (k : Calls) (w : GameContext) where
     unfolding nameWaits
     waits-refused n = sym (rw (fails, ← is))
 
-  -- ---- passed, with a buffer b that holds the m readings
-  module _ (passes : winCheck cs k w ≡ 0) (b : List ℕ) (m : ℕ) (holds : readingsIn b m 0 ≡ handReadings cs k) where
+  -- ---- passed: the definitions without the check
+  module _ (passes : winCheck cs k w ≡ 0) where
     ok : eqb (winCheck cs k w) 0 ≡ true
     ok = eq-eqb (winCheck cs k w) 0 passes
 
+    pub win-choice : scoreWin cs k w ≡ choice (scores cs k w)
+    unfolding scoreWin
+    win-choice = rw ok
+
+    -- by number: the score of the reading n and its waits, or none
+    pub reading-picked : (n : ℕ) → scoreReading cs k w n ≡ pickAt (refused 12) (λ r. scored n (scoreIn cs k w r)) (handReadings cs k) n
+    unfolding scoreReading numbered scores
+    reading-picked n = rw ok (pick-map (refused 12) (scored n) (scoreIn cs k w) (handReadings cs k) n)
+
+    pub waits-picked :
+        (n : ℕ) → nameWaits cs k w n ≡ pickAt (refusedWaits 12) (λ r. namedWaits (waits (w .«winning_tile») r)) (handReadings cs k) n
+    unfolding nameWaits
+    waits-picked n = rw ok
+
+    -- the reading r at the number n
+    module _ (n : ℕ) (r : Reading) (i : StandsAt r n (handReadings cs k)) where
+      pub scored-at : scoreReading cs k w n ≡ scored n (scoreIn cs k w r)
+      scored-at = reading-picked n ∙ stands-picked (refused 12) (λ q. scored n (scoreIn cs k w q)) r n (handReadings cs k) i
+
+      pub named-at : nameWaits cs k w n ≡ namedWaits (waits (w .«winning_tile») r)
+      named-at = waits-picked n ∙ stands-picked (refusedWaits 12) (λ q. namedWaits (waits (w .«winning_tile») q)) r n (handReadings cs k) i
+
+  -- ---- passed, with a buffer b that holds the m readings
+  module _ (passes : winCheck cs k w ≡ 0) (b : List ℕ) (m : ℕ) (holds : readingsIn b m 0 ≡ handReadings cs k) where
     -- the choice among all readings; s is what all tiles together are
     pub win-chosen :
         (s : TileYaku) (opened : Bool) → s ≡ tilesTogether cs k w → opened ≡ isOpened k → (a : ScoreAnswer)
         → a ≡ choice (map (scoreOf w opened s) (readingsIn b m 0)) → a ≡ scoreWin cs k w
-    unfolding scoreWin scores scoreIn
-    win-chosen s opened e f a is = is ∙ sym (rw (ok, e, f, holds))
+    unfolding scores scoreIn
+    win-chosen s opened e f a is = is ∙ sym (win-choice passes ∙ rw (e, f, holds))
 
     -- reading number n, or none
-    by-number : (n : ℕ) → scoreReading cs k w n ≡ pickAt (refused 12) (λ r. scored n (scoreIn cs k w r)) (handReadings cs k) n
-    unfolding scoreReading numbered scores
-    by-number n = rw ok (pick-map (refused 12) (scored n) (scoreIn cs k w) (handReadings cs k) n)
-
     pub reading-none : (n : ℕ) → m ≤ n → refused 12 ≡ scoreReading cs k w n
-    reading-none n h = sym (by-number n ∙ pick-none cs k b m holds (refused 12) (λ r. scored n (scoreIn cs k w r)) n h)
+    reading-none n h = sym (reading-picked passes n ∙ pick-none cs k b m holds (refused 12) (λ r. scored n (scoreIn cs k w r)) n h)
 
     pub reading-scored :
         (n : ℕ) → n < m → (s : TileYaku) (opened : Bool) → s ≡ tilesTogether cs k w → opened ≡ isOpened k → (r : Reading) → r ≡ readingAt b (placeOf b n 0)
         → scored n (scoreOf w opened s r) ≡ scoreReading cs k w n
     unfolding scoreIn
     reading-scored n h s opened e f r g =
-        rw (e, f, g) (sym (by-number n ∙ pick-there cs k b m holds (refused 12) (λ q. scored n (scoreIn cs k w q)) n h))
-
-    waits-by-number :
-        (n : ℕ) → nameWaits cs k w n ≡ pickAt (refusedWaits 12) (λ r. namedWaits (waits (w .«winning_tile») r)) (handReadings cs k) n
-    unfolding nameWaits
-    waits-by-number n = rw ok
+        rw (e, f, g) (sym (reading-picked passes n ∙ pick-there cs k b m holds (refused 12) (λ q. scored n (scoreIn cs k w q)) n h))
 
     pub waits-none : (n : ℕ) → m ≤ n → refusedWaits 12 ≡ nameWaits cs k w n
-    waits-none n h = sym (waits-by-number n ∙ pick-none cs k b m holds (refusedWaits 12) (λ r. namedWaits (waits (w .«winning_tile») r)) n h)
+    waits-none n h = sym (waits-picked passes n ∙ pick-none cs k b m holds (refusedWaits 12) (λ r. namedWaits (waits (w .«winning_tile») r)) n h)
 
     pub waits-named :
         (n : ℕ) → n < m → (r : Reading) → r ≡ readingAt b (placeOf b n 0) → namedWaits (waits (w .«winning_tile») r) ≡ nameWaits cs k w n
     waits-named n h r g =
-        rw g (sym (waits-by-number n ∙ pick-there cs k b m holds (refusedWaits 12) (λ q. namedWaits (waits (w .«winning_tile») q)) n h))
+        rw g (sym (waits-picked passes n ∙ pick-there cs k b m holds (refusedWaits 12) (λ q. namedWaits (waits (w .«winning_tile») q)) n h))

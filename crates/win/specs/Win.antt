@@ -59,7 +59,7 @@ scoreWin cs k w = cond (eqb (winCheck cs k w) 0) (choice (scores cs k w)) (refus
 unfoldable pub scoreReading : List ℕ → Calls → GameContext → ℕ → ScoreAnswer
 scoreReading cs k w n = cond (eqb (winCheck cs k w) 0) (numbered (scores cs k w) n) (refused (winCheck cs k w))
 
--- ---- naming the waits of reading number n, a tally for each
+-- ---- naming the waits of reading number n: a number for each of the six waits, as `waits` counts them
 abbrev pub refusedWaits : ℕ → WaitsAnswer
 refusedWaits m = record { number = m; waits = replicate 6 0 }
 

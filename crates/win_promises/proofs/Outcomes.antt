@@ -3,6 +3,7 @@ use mathlib.Core.Path.{_≡_, refl, ap}
 use mathlib.Core.List.{List, [], _∷_, List·Memᴰ}
 use Prim.Native.Nat.{ℕ, _<_, _≤_}
 use native.Mathlib.Omega.{arith}
+use Rattle.lists.proofs.Members.{not-empty}
 use Rattle.reading_score.specs.declared.ScoringResult.{ScoringResult}
 use Rattle.reading_score.specs.Score.{rank}
 use Rattle.choice.specs.Choice.{refused, scored, answerOf, choice}
@@ -20,9 +21,6 @@ pub data Outcome (xs : List ScoringResult) : Type 0 where
   without-score : xs ≡ [] → choice xs ≡ refused 10 → Outcome xs
   without-yaku : (xs ≡ [] → ⊥) → ((y : ScoringResult) → List·Memᴰ y xs → rank y ≡ 0) → choice xs ≡ refused 11 → Outcome xs
   with-score : (i : ℕ) (x : ScoringResult) → IsChosen xs i x → choice xs ≡ scored i x → Outcome xs
-
-not-empty : {A : Type 0} (x : A) (xs : List A) → (x ∷ xs) ≡ [] → ⊥
-not-empty x xs e = let z : _≡_ {A = ℕ} 0 1 = cc in omega arith
 
 some-outcome : (x : ScoringResult) (xs : List ScoringResult) → ChosenOrNone rank (x ∷ xs) → Outcome (x ∷ xs)
 unfolding choice

@@ -1,71 +1,40 @@
 -- Scoring a win: what the answer is of a win that passes the checks. Assumes nothing.
-use mathlib.Core.Path.{_≡_, refl, sym, ap, subst, _∙_}
-use mathlib.Core.List.{List, [], _∷_, map, List·Memᴰ, List·Memᴰ·not-nil, Memᴰ·map}
-use Prim.Native.Nat.{ℕ, zero, suc, _<_, _≤_}
+use mathlib.Core.Path.{_≡_, sym, ap, subst, _∙_}
+use mathlib.Core.List.{List, [], List·Memᴰ, List·Memᴰ·not-nil, Memᴰ·map}
+use Prim.Native.Nat.{ℕ, _<_, _≤_}
 use native.Mathlib.Omega.{arith}
 use lib.Dec.{T}
-use lib.ListN.{length, length-map}
-use borrow.Author.Tests.{eq-eqb}
+use lib.ListN.{length}
+use Rattle.lists.proofs.Members.{empty-map}
 use Rattle.context.specs.declared.GameContext.{GameContext}
-use Rattle.hand.specs.Counts.{held}
-use Rattle.hand.specs.Reading.{Reading, pairs, orphans, standard}
+use Rattle.hand.specs.Reading.{Reading}
 use Rattle.wait.specs.Wait.{waits}
-use Rattle.yaku.proofs.Laws.{Short}
 use Rattle.scoring.specs.Payment.{totalAt}
 use Rattle.checks.specs.declared.Calls.{Calls}
-use Rattle.checks.specs.Checks.{called}
-use Rattle.checks.proofs.Passed.{passed, called-length}
 use Rattle.unit.specs.Listing.{handReadings}
-use Rattle.unit.proofs.Listed.{melds-called}
-use Rattle.records.specs.Pick.{pickAt}
-use Rattle.records.proofs.Back.{Sized}
-use Rattle.records.proofs.Sized.{listed-sized}
+use Rattle.records.proofs.Pick.{pick-past, past-end}
 use Rattle.reading_score.specs.declared.ScoringResult.{ScoringResult}
 use Rattle.reading_score.specs.Score.{hasYaku, rank}
 use Rattle.reading_score.proofs.Ranks.{Small, Preferred, rank-yaku, yaku-rank, rank-total, rank-order, score-small}
 use Rattle.choice.specs.declared.ScoreAnswer.{ScoreAnswer}
-use Rattle.choice.specs.Choice.{refused, scored, choice, numbered}
+use Rattle.choice.specs.Choice.{refused, scored, choice}
 use Rattle.choice.specs.Standing.{StandsAt}
-use Rattle.choice.proofs.Standing.{stands-mem, stands-map, stands-of-map, stands-picked}
+use Rattle.choice.proofs.Standing.{stands-mem, stands-map, stands-of-map}
 use Rattle.win.specs.declared.WaitsAnswer.{WaitsAnswer}
 use Rattle.win.specs.Win.{winCheck, isOpened, tilesTogether, scoreIn, scores, scoreWin, scoreReading, refusedWaits, namedWaits, nameWaits}
 use Rattle.win.proofs.Checked.{win-passes}
+use Rattle.win.proofs.Readings.{listed-short}
+use Rattle.win.proofs.Answers.{win-choice, reading-picked, waits-picked, scored-at}
 use Rattle.win_promises.proofs.Outcomes.{IsChosen, Outcome, without-score, without-yaku, with-score, outcome}
-
--- ---- the readings of a hand have at most four melds, so han and fu of their scores are bytes
-short : (r : Reading) → Sized r → Short r
-short (pairs ps) h = tt
-short (orphans p) h = tt
-short (standard p ms) h = omega arith
-
-empty-map : {A B : Type 0} (f : A → B) (l : List A) → map f l ≡ [] → l ≡ []
-empty-map f [] e = refl
-empty-map f (a ∷ l) e = absurd (let z : _≡_ {A = ℕ} 0 1 = cc in omega arith)
-
--- ---- picking by a number: past the end of the list, and only there, none is found
-module _ {A B : Type 0} (z : B) (f : A → B) where
-  pick-past : (l : List A) (n : ℕ) → length l ≤ n → pickAt z f l n ≡ z
-  pick-past [] n h = refl
-  pick-past (a ∷ l) zero h = absurd (omega arith)
-  pick-past (a ∷ l) (suc n) h = pick-past l n (omega arith)
-
-  past-end : (l : List A) (n : ℕ) → ((a : A) → pickAt z f l n ≡ f a → ⊥) → length l ≤ n
-  past-end [] n h = omega arith
-  past-end (a ∷ l) zero h = absurd (h a refl)
-  past-end (a ∷ l) (suc n) h = let m = past-end l n h in omega arith
 
 abbrev answer : ℕ → ℕ → ScoringResult → ScoreAnswer
 answer n i x = record { number = n; reading = i; score = x }
 
 -- ---- a win that passes the checks
 module _ (cs : List ℕ) (k : Calls) (w : GameContext) (passes : winCheck cs k w ≡ 0) where
-  by-choice : scoreWin cs k w ≡ choice (scores cs k w)
-  unfolding scoreWin
-  by-choice = rw (eq-eqb (winCheck cs k w) 0 passes)
-
   -- the number answered, by what the choice answers
   number-is : (a : ScoreAnswer) → choice (scores cs k w) ≡ a → scoreWin cs k w .number ≡ a .number
-  number-is a e = ap (λ (b : ScoreAnswer). b .number) (by-choice ∙ e)
+  number-is a e = ap (λ (b : ScoreAnswer). b .number) (win-choice cs k w passes ∙ e)
 
   -- a reading of the hand and its score
   score-listed : (r : Reading) → List·Memᴰ r (handReadings cs k) → List·Memᴰ (scoreIn cs k w r) (scores cs k w)
@@ -153,7 +122,7 @@ module _ (cs : List ℕ) (k : Calls) (w : GameContext) (passes : winCheck cs k w
         go : Outcome (scores cs k w) → IsChosen (scores cs k w) (scoreWin cs k w .reading) (scoreWin cs k w .score)
         go (without-score f a) = absurd (let e = number-is (refused 10) a in omega arith)
         go (without-yaku f g a) = absurd (let e = number-is (refused 11) a in omega arith)
-        go (with-score i x c a) = subst (λ (b : ScoreAnswer). IsChosen (scores cs k w) (b .reading) (b .score)) (sym (by-choice ∙ a)) c
+        go (with-score i x c a) = subst (λ (b : ScoreAnswer). IsChosen (scores cs k w) (b .reading) (b .score)) (sym (win-choice cs k w passes ∙ a)) c
 
     -- the score answered has a yaku, and it is the score of the reading at the number answered
     pub record ChosenReading : Type 0 where
@@ -170,13 +139,8 @@ module _ (cs : List ℕ) (k : Calls) (w : GameContext) (passes : winCheck cs k w
     -- ---- the four melds of the calls are four (an array of four in the code)
     module _ (four : length (k .melds) ≡ 4) where
       small : (r : Reading) → List·Memᴰ r (handReadings cs k) → Small (scoreIn cs k w r)
-      unfolding handReadings scoreIn
-      small r i =
-          let ok = win-passes cs k w passes .hand in
-          let count = passed cs k ok .few in
-          let few = called-length k count four in
-          score-small w (isOpened k) (tilesTogether cs k w) r
-          (short r (listed-sized (held cs) (called k) (melds-called cs k ok) (omega arith) r i))
+      unfolding scoreIn
+      small r i = score-small w (isOpened k) (tilesTogether cs k w) r (listed-short cs k four (win-passes cs k w passes .hand) r i)
 
       small-chosen : Small (scoreWin cs k w .score)
       small-chosen =
@@ -207,33 +171,19 @@ module _ (cs : List ℕ) (k : Calls) (w : GameContext) (passes : winCheck cs k w
           (is-chosen .first j (scoreIn cs k w r) l (score-stands r j s))
 
   -- ---- scoring by number: 12 exactly where there are not more than n readings
-  numbered-by : (n : ℕ) → scoreReading cs k w n ≡ numbered (scores cs k w) n
-  unfolding scoreReading
-  numbered-by n = rw (eq-eqb (winCheck cs k w) 0 passes)
-
-  as-many : length (scores cs k w) ≡ length (handReadings cs k)
-  unfolding scores
-  as-many = length-map (handReadings cs k) (scoreIn cs k w)
-
   pub by-number : (n : ℕ) → length (handReadings cs k) ≤ n → scoreReading cs k w n .number ≡ 12
-  unfolding numbered
   by-number n h =
-      let e = as-many in
-      ap (λ (b : ScoreAnswer). b .number) (numbered-by n ∙ pick-past (refused 12) (scored n) (scores cs k w) n (omega arith))
+      ap (λ (b : ScoreAnswer). b .number)
+      (reading-picked cs k w passes n ∙ pick-past (refused 12) (λ r. scored n (scoreIn cs k w r)) (handReadings cs k) n h)
 
   pub twelve-by-number : (n : ℕ) → scoreReading cs k w n .number ≡ 12 → length (handReadings cs k) ≤ n
-  unfolding numbered
   twelve-by-number n e =
-      let m = as-many in
-      let l =
-      past-end (refused 12) (scored n) (scores cs k w) n
-      (λ x q. let z = ap (λ (b : ScoreAnswer). b .number) (numbered-by n ∙ q) in omega arith) in
-      omega arith
+      past-end (refused 12) (λ r. scored n (scoreIn cs k w r)) (handReadings cs k) n
+      (λ r q. let z = ap (λ (b : ScoreAnswer). b .number) (reading-picked cs k w passes n ∙ q) in omega arith)
 
   -- the reading with the number n, where there is one
   pub scored-by-number : (n : ℕ) (r : Reading) → StandsAt r n (handReadings cs k) → scoreReading cs k w n ≡ scored n (scoreIn cs k w r)
-  unfolding numbered
-  scored-by-number n r s = numbered-by n ∙ stands-picked (refused 12) (scored n) (scoreIn cs k w r) n (scores cs k w) (score-stands r n s)
+  scored-by-number n r s = scored-at cs k w passes n r s
 
   -- the reading that scoring the win chooses, scored by its number, has the answer of scoring the win
   pub same-by-number : scoreWin cs k w .number ≡ 0 → scoreReading cs k w (scoreWin cs k w .reading) ≡ scoreWin cs k w
@@ -244,16 +194,12 @@ module _ (cs : List ℕ) (k : Calls) (w : GameContext) (passes : winCheck cs k w
       ∙ sym (ap (λ (n : ℕ). answer n (scoreWin cs k w .reading) (scoreWin cs k w .score)) e)
 
   -- ---- naming waits by number: the same
-  named-by : (n : ℕ) → nameWaits cs k w n ≡ pickAt (refusedWaits 12) (λ r. namedWaits (waits (w .«winning_tile») r)) (handReadings cs k) n
-  unfolding nameWaits
-  named-by n = rw (eq-eqb (winCheck cs k w) 0 passes)
-
   pub waits-by-number : (n : ℕ) → length (handReadings cs k) ≤ n → nameWaits cs k w n .number ≡ 12
   waits-by-number n h =
       ap (λ (b : WaitsAnswer). b .number)
-      (named-by n ∙ pick-past (refusedWaits 12) (λ r. namedWaits (waits (w .«winning_tile») r)) (handReadings cs k) n h)
+      (waits-picked cs k w passes n ∙ pick-past (refusedWaits 12) (λ r. namedWaits (waits (w .«winning_tile») r)) (handReadings cs k) n h)
 
   pub twelve-waits-by-number : (n : ℕ) → nameWaits cs k w n .number ≡ 12 → length (handReadings cs k) ≤ n
   twelve-waits-by-number n e =
       past-end (refusedWaits 12) (λ r. namedWaits (waits (w .«winning_tile») r)) (handReadings cs k) n
-      (λ r q. let z = ap (λ (b : WaitsAnswer). b .number) (named-by n ∙ q) in omega arith)
+      (λ r q. let z = ap (λ (b : WaitsAnswer). b .number) (waits-picked cs k w passes n ∙ q) in omega arith)

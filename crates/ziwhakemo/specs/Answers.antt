@@ -16,6 +16,7 @@ use Rattle.ziwhakemo.specs.declared.PaymentValues.{PaymentValues}
 use Rattle.ziwhakemo.specs.declared.ScoreValues.{ScoreValues}
 use Rattle.ziwhakemo.specs.declared.WaitsValues.{WaitsValues}
 
+-- the refusal's number, or 0 with how many readings and how many bytes were written
 abbrev pub listingAnswer : Listing → ListingAnswer
 listingAnswer a = record { number = numberOf a; readings = readingsOf a; bytes = bytesOf a }
 

@@ -5,12 +5,12 @@ use Prim.Native.Nat.{ℕ}
 use native.Mathlib.Omega.{arith}
 use lib.Dec.{leb}
 use lib.ListN.{take}
-use Rattle.lists.specs.Fold.{all}
+use Rattle.lists.specs.Fold.{all, every}
 use Rattle.lists.proofs.Finite.{T→true}
+use Rattle.lists.proofs.Members.{map-members}
 use Rattle.tile.specs.Tile.{tiles}
 use Rattle.hand.specs.Counts.{held}
 use Rattle.checks.specs.Checks.{called, together}
-use Rattle.checks.proofs.Turns.{test-same}
 use Rattle.checks.proofs.Added.{usesOf}
 use Rattle.checks.proofs.Passed.{four-test}
 use borrow.Author.Needs.{needs}
@@ -40,7 +40,9 @@ returns-2 c =
     let w = c .before .before .with-calls in
     let a = c .before .before .before .before .before .before .args in
     c .at-most-four .ensures
-    ∙ test-same (λ t. leb (held (w .result) t) 4) (λ t. leb (together (a .counts .now) (called (a .k)) t) 4) (λ t. ap (λ (n : ℕ). leb n 4) (w .ensures t)) tiles
+    ∙ ap every
+    (map-members (λ t. leb (held (w .result) t) 4) (λ t. leb (together (a .counts .now) (called (a .k)) t) 4) tiles
+    (λ t i. ap (λ (n : ℕ). leb n 4) (w .ensures t)))
 
 pub together-at-most-four-spec : {M : Type 1} → statement M
 together-at-most-four-spec =

@@ -1,8 +1,11 @@
 -- `special::write_chiitoitsu` meets its contract. Assumes nothing.
 use native.Mathlib.Omega.{arith}
 use borrow.Author.Needs.{needs}
+use Rattle.lists.proofs.Finite.{true→T}
 use Rattle.hand.specs.Counts.{held}
-use Rattle.special.proofs.Special.{seven-twos, pairs-written}
+use Rattle.hand.specs.Readings.{isPairs}
+use Rattle.hand.proofs.Tests.{seven-twos}
+use Rattle.special.proofs.Special.{pairs-written}
 use Rattle.special.proofs.write_chiitoitsu.Statement.{statement}
 use Rattle.special.proofs.write_chiitoitsu.Tie as tie
 
@@ -15,7 +18,8 @@ add-write-twos c = search needs
 write-twos-requires : tie.Need-write-twos-requires
 write-twos-requires c κs =
     let s = c .before .before .before .before .before .before .before in
-    (s .pre .0, omega (arith, s .pre .1 .1, seven-twos (held (s .args .counts .now)) (s .pre .1 .0)))
+    let h = held (s .args .counts .now) in
+    (s .pre .0, omega (arith, s .pre .1 .1, seven-twos h (true→T (isPairs h) (s .pre .1 .0))))
 
 same-length : tie.Need-same-length
 same-length c = search needs
@@ -25,7 +29,7 @@ returns c =
     let s = c .before .before .before .before .before .before .before .before .before .before in
     let w = c .before .before .write-twos .ensures in
     let h = held (s .args .counts .now) in (
-      omega (arith, w .0, seven-twos h (s .pre .1 .0)),
+      omega (arith, w .0, seven-twos h (true→T (isPairs h) (s .pre .1 .0))),
       pairs-written h (s .pre .1 .0) (s .args .out .now) _ _ (s .args .at) (c .before .before .before .before .before .before .write-head .ensures) (w .1),
     )
 

@@ -1,15 +1,16 @@
 -- What a test keeps of a list, and ascending lists with the same members. Assumes nothing.
-use mathlib.Core.Path.{_≡_, refl, sym, ap₂, _∙_, subst}
+use mathlib.Core.Path.{_≡_, refl, sym, ap, ap₂, _∙_, subst}
 use mathlib.Core.Logic.{_⊎_, inl, inr, ⊎-elim}
-use mathlib.Core.Bool.{Bool, cond}
-use mathlib.Core.List.{List, [], _∷_, List·Memᴰ, List·Memᴰ·head, List·Memᴰ·tail, List·Memᴰ·not-nil, List·Memᴰ·cases-cons}
+use mathlib.Core.Bool.{Bool, true, false, cond}
+use mathlib.Core.List.{List, [], _∷_, _++_, List·Memᴰ, List·Memᴰ·head, List·Memᴰ·tail, List·Memᴰ·not-nil, List·Memᴰ·cases-cons}
 use Prim.Native.Nat.{ℕ, _<_}
 use native.Mathlib.Omega.{arith}
 use lib.Dec.{T}
 use Rattle.lists.specs.Fold.{keep}
-use Rattle.lists.specs.Order.{Nodup, Pairwise}
+use Rattle.lists.specs.Order.{Pick, done, skip, pick, Nodup, Pairwise}
+use Rattle.lists.proofs.Finite.{¬T→false}
 use Rattle.lists.proofs.Members.{flat-mem, flat-in, in-cond, in-true, in-single, nodup-flat, cond-nodup, nodup-single}
 use Rattle.lists.proofs.Relations.{pairwise-flat, pairwise-single, cond-pairwise}
 
 module _ {A : Type 0} (p : A → Bool) where
   pub in-keep : {l : List A} {a : A} → List·Memᴰ a l → T (p a) → List·Memᴰ a (keep p l)
@@ -25,6 +26,21 @@ module _ {A : Type 0} (p : A → Bool) where
   keep-nodup l n =
       nodup-flat (λ a. cond (p a) (a ∷ []) []) l n (λ a i. cond-nodup (p a) (a ∷ []) (nodup-single a))
       (λ a b x i j. sym (in-single (p a) i) ∙ in-single (p b) j)
+
+  pub keep-none : (l : List A) → ((a : A) → List·Memᴰ a l → T (p a) → ⊥) → keep p l ≡ []
+  keep-none [] f = refl
+  keep-none (a ∷ l) f =
+      ap (λ (b : Bool). cond b (a ∷ []) [] ++ keep p l) (¬T→false (p a) (f a (List·Memᴰ·head refl)))
+      ∙ keep-none l (λ b i. f b (List·Memᴰ·tail i))
+
+  -- it is ascending and out of the list
+  pub keep-pick : (l : List A) → Pick l (keep p l)
+  keep-pick [] = done
+  keep-pick (a ∷ l) = go (p a) (keep-pick l)
+    where
+      go : (b : Bool) → Pick l (keep p l) → Pick (a ∷ l) (cond b (a ∷ []) [] ++ keep p l)
+      go true d = pick refl (skip d)
+      go false d = skip d
 
 pub keep-ascends : (p : ℕ → Bool) (l : List ℕ) → Pairwise _<_ l → Pairwise _<_ (keep p l)
 keep-ascends p l c =

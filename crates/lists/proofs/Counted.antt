@@ -1,5 +1,5 @@
 -- How often an element stands in a list, in a list in order, and in two lists together. Assumes nothing.
-use mathlib.Core.Path.{_≡_, refl, sym, ap, ap₂, _∙_}
+use mathlib.Core.Path.{_≡_, refl, sym, ap, _∙_}
 use mathlib.Core.Logic.{_⊎_, inl, inr, ⊎-elim}
 use mathlib.Core.Bool.{Bool, true, false}
 use mathlib.Core.List.{List, [], _∷_, _++_, List·Memᴰ, List·Memᴰ·head, List·Memᴰ·tail, List·Memᴰ·not-nil, List·Memᴰ·cases-cons, List·Memᴰ·append-cases, Memᴰ·cast}
@@ -7,15 +7,12 @@ use Prim.Native.Nat.{ℕ, zero, suc, _+_, _≤_}
 use native.Mathlib.Omega.{arith}
 use lib.Dec.{T}
 use lib.ListN.{length, length-append, length-replicate, replicate}
-use Rattle.lists.specs.Fold.{one, sum}
+use Rattle.lists.specs.Fold.{one}
 use Rattle.lists.specs.Order.{Nodup, times, arrange}
 use Rattle.lists.proofs.Arranged.{times-yes, times-zero, pick-mem, arrange-pick}
+use Rattle.lists.proofs.Sums.{sum-append}
 
 module _ {A : Type 0} where
-  pub sum-append : (f : A → ℕ) (k l : List A) → sum f (k ++ l) ≡ sum f k + sum f l
-  sum-append f [] l = omega arith
-  sum-append f (a ∷ k) l = let e = sum-append f k l in omega arith
-
   -- a member of n times the same
   in-repeat : (n : ℕ) {x m : A} → List·Memᴰ x (replicate n m) → (x ≡ m) × (1 ≤ n)
   in-repeat zero i = absurd (List·Memᴰ·not-nil i)
@@ -37,12 +34,6 @@ module _ {A : Type 0} (eq : A → A → Bool) where
         length-replicate (times eq m k) m,
         length-replicate (times eq m l) m,
       )
-
-  -- two lists of which each candidate stands equally often in both
-  pub arranged-alike : (ms a b : List A) → ((m : A) → List·Memᴰ m ms → times eq m a ≡ times eq m b) → arrange eq ms a ≡ arrange eq ms b
-  arranged-alike [] a b e = refl
-  arranged-alike (m ∷ ms) a b e =
-      ap₂ (λ (n : ℕ) (r : List A). replicate n m ++ r) (e m (List·Memᴰ·head refl)) (arranged-alike ms a b (λ x i. e x (List·Memᴰ·tail i)))
 
 module _ {A : Type 0} (eq : A → A → Bool) (sound : (a b : A) → T (eq a b) → a ≡ b) (self : (a : A) → T (eq a a)) where
   pub times-in : {x : A} {l : List A} → List·Memᴰ x l → 1 ≤ times eq x l
