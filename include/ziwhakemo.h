@@ -19,7 +19,7 @@
  *     Bools cross this boundary in ziwhakemo_game_context, and as `is_yakuman` and `is_dealer`.
  *
  * No function keeps anything between calls or allocates memory, so any number of threads may call
- * at the same time. The deepest call, ziwhakemo_score_win, takes about 2,900 bytes of stack.
+ * at the same time. The deepest call, ziwhakemo_score_win, takes about 2,600 bytes of stack.
  */
 #ifndef ZIWHAKEMO_H
 #define ZIWHAKEMO_H

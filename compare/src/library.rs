@@ -129,7 +129,7 @@ pub struct Waits {
 }
 
 unsafe extern "C" {
-    fn ziwhakemo_list_readings(
+    pub fn ziwhakemo_list_readings(
         counts: *const u8,
         counts_len: usize,
         calls: *const Meld,
@@ -137,7 +137,7 @@ unsafe extern "C" {
         out: *mut u8,
         out_len: usize,
     ) -> Listing;
-    fn ziwhakemo_score_win(
+    pub fn ziwhakemo_score_win(
         counts: *const u8,
         counts_len: usize,
         calls: *const Meld,

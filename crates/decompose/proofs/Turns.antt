@@ -15,11 +15,9 @@ use Rattle.meld.specs.declared.Meld.{Meld}
 use Rattle.hand.specs.Readings.{lessPair, meldLists}
 use Rattle.hand.proofs.Sums.{upFrom-next, upFrom-end}
 use Rattle.search.specs.declared.Remaining.{Remaining}
-use Rattle.search.specs.Remaining.{left}
+use Rattle.search.specs.Remaining.{split, left}
 use Rattle.search.specs.Slots.{recordsWith}
 use Rattle.search.proofs.Slots.{sets-append}
-use Rattle.decompose.specs.declared.Packed.{Packed}
-use Rattle.decompose.specs.Packed.{inWords}
 use Rattle.decompose.specs.Pairs.{withPair, foundWith, recordsOver, OnlyAt}
 
 -- ---- what g gives at the tiles from p on, where it gives something only at every third tile from first on, below end
@@ -69,9 +67,9 @@ module _ (n : ℕ) (c : ℕ → ℕ) where
   pair-missing p h = ap (λ (b : Bool). cond b (meldLists n (lessPair c p)) []) (lt-leb 2 (c p) h)
 
   -- what the search finds without the pair
-  module _ (p : ℕ) (two : 2 ≤ c p) (h : Packed) (same : inWords h ≡ c) (r : Remaining) (less : left r ≡ lessPair (inWords h) p) where
-    pub found-there : meldLists n (left r) ≡ withPair n c p
-    found-there = ap (meldLists n) (less ∙ ap (λ (d : ℕ → ℕ). lessPair d p) same) ∙ sym (pair-there p two)
+  module _ (p : ℕ) (two : 2 ≤ c p) (r : Remaining) (less : left (split r) ≡ lessPair c p) where
+    pub found-there : meldLists n (left (split r)) ≡ withPair n c p
+    found-there = ap (meldLists n) less ∙ sym (pair-there p two)
 
   -- ---- what is found with the tiles from p on
   abbrev found : ℕ → List (List Meld)

@@ -1,20 +1,21 @@
 -- Counts packed in words: each is found again at its place, and a pair can be taken off. Assumes nothing.
-use mathlib.Core.Path.{_≡_, refl, sym, ap, _∙_, fun-ext}
+use mathlib.Core.Path.{_≡_, refl, sym, ap, _∙_, fun-ext, subst}
 use mathlib.Core.Logic.{inr}
 use mathlib.Core.Bool.{Bool, cond}
 use mathlib.Core.List.{List}
 use Prim.Native.Nat.{ℕ, zero, suc, _+_, _-_, _*_, _/_, _%_, _^_, _≤_, _<_}
 use native.Mathlib.Decide.{ℕ-discrete, decLt}
 use native.Mathlib.Omega.{arith}
-use lib.Dec.{eqb}
+use lib.Dec.{eqb, leb}
 use lib.ListN.{length, List·getD-eq-default}
 use lib.Pow.{pow-add, pow-mono, shl-exact}
 use borrow.Author.Tests.{lt-ltb, le-ltb, le-leb, lt-leb, eq-eqb, ne-eqb}
 use Rattle.hand.specs.Counts.{held, AtMostFour}
 use Rattle.hand.specs.Readings.{lessPair}
 use Rattle.search.specs.declared.Remaining.{Remaining}
-use Rattle.search.specs.Remaining.{digit, left, Fair}
-use Rattle.search.proofs.Digits.{digit-less, off-le}
+use Rattle.search.specs.Remaining.{Split, split, digit, left, Fair}
+use Rattle.search.proofs.Digits.{digit-less, digit-shift, no-digits, off-le}
+use Rattle.search.proofs.Left.{packed, split-none}
 use Rattle.decompose.specs.declared.Packed.{Packed}
 use Rattle.decompose.specs.Packed.{packFrom, inWords, Fit}
 
@@ -118,8 +119,35 @@ module _ (cs : List ℕ) (long : length cs ≡ 34) (few : AtMostFour cs) (h : Pa
       high = λ t k. ap (λ (w : ℕ). digit w t) high ∙ pack-past c few 16 18 t k;
     }
 
+-- ---- the count at a place, and words of so many counts
+digit-at : (w k n : ℕ) → n ≡ k * 3 → w / 2 ^ n % 8 ≡ digit w k
+unfolding digit
+digit-at w k n e =
+    let f : k * 3 ≡ 3 * k = omega arith in
+    let g : k + 0 ≡ k = omega arith in
+    ap (λ (m : ℕ). w / 2 ^ m % 8) (e ∙ f) ∙ digit-shift k w 0 ∙ ap (digit w) g
+
+word-small : (n w : ℕ) → ((t : ℕ) → n ≤ t → digit w t ≡ 0) → w < 2 ^ (3 * n)
+unfolding digit
+word-small zero w f = omega (arith, no-digits w (λ k. f k (omega arith)))
+word-small (suc n) w f =
+    let e : 3 * suc n ≡ 3 + 3 * n = omega arith in
+    let g : 2 ^ (3 * suc n) ≡ 8 * 2 ^ (3 * n) = ap (λ (k : ℕ). 2 ^ k) e ∙ pow-add 2 3 (3 * n) in
+    omega (arith, word-small n (w / 8) (λ t h. f (suc t) (omega arith)))
+
+-- the high word leaves room for a tile below its counts
+pub high-small : (h : Packed) → Fit h → h .high < 2 ^ 48
+high-small h fit = word-small 16 (h .high) (fit .high)
+
+-- ---- whether there are two of a tile
+pub low-pair : (h : Packed) (p : ℕ) → p < 18 → leb 2 (h .low / 2 ^ (p * 3) % 8) ≡ leb 2 (inWords h p)
+low-pair h p k = ap (leb 2) (digit-at (h .low) p (p * 3) refl ∙ sym (low-word h p k))
+
+pub high-pair : (h : Packed) (p : ℕ) → 18 ≤ p → leb 2 (h .high / 2 ^ ((p - 18) * 3) % 8) ≡ leb 2 (inWords h p)
+high-pair h p k = ap (leb 2) (digit-at (h .high) (p - 18) ((p - 18) * 3) refl ∙ sym (high-word h p k))
+
 -- ---- the words as the tiles that are left
-abbrev remaining : Packed → Remaining
+abbrev remaining : Packed → Split
 remaining h = record { word = h .low; rest = h .high; tile = 0 }
 
 module _ (h : Packed) (fit : Fit h) where
@@ -173,6 +201,13 @@ module _ (h : Packed) (fit : Fit h) (p : ℕ) where
       good : Fit k
       good = record { few = λ t. omega (arith, ap (λ (f : ℕ → ℕ). f t) e, fit .few t); low = low; high = high }
 
+  -- as the code makes them
+  abbrev Without : Remaining → Type 0
+  Without r = (left (split r) ≡ lessPair (inWords h) p) × Fair (split r)
+
+  made : (w r : ℕ) → (left (packed w r 0) ≡ lessPair (inWords h) p) × Fair (packed w r 0) → Without (record { word = w; behind = r * 64 })
+  made w r = subst (λ (s : Split). (left s ≡ lessPair (inWords h) p) × Fair s) (sym (split-none w r))
+
   -- taken from the low word
   module _ (small : p < 18) (two : 2 ≤ inWords h p) where
     abbrev off : ℕ
@@ -190,8 +225,8 @@ module _ (h : Packed) (fit : Fit h) (p : ℕ) where
     low-digit : (t : ℕ) → digit (h .low - off) t ≡ digit (h .low) t - cond (eqb t p) 2 0
     low-digit t = ap (λ (k : ℕ). digit (h .low - k) t) (shifted p small) ∙ digit-less p 2 (h .low) t there
 
-    pub low-less : (left (remaining less-low) ≡ lessPair (inWords h) p) × Fair (remaining less-low)
-    low-less = less less-low (by-words (inWords less-low) (lessPair (inWords h) p) below above) (λ t k. omega (arith, low-digit t, fit .low t k)) (fit .high)
+    pub low-less : Without (record { word = h .low - off; behind = h .high * 64 })
+    low-less = made (h .low - off) (h .high) (less less-low (by-words (inWords less-low) (lessPair (inWords h) p) below above) (λ t k. omega (arith, low-digit t, fit .low t k)) (fit .high))
       where
         below : (t : ℕ) → t < 18 → inWords less-low t ≡ lessPair (inWords h) p t
         below t k = omega (arith, low-word less-low t k, low-digit t, low-word h t k)
@@ -221,8 +256,8 @@ module _ (h : Packed) (fit : Fit h) (p : ℕ) where
     same-place t k (yes e) = eq-eqb (t - 18) (p - 18) (omega arith) ∙ sym (eq-eqb t p e)
     same-place t k (no f) = ne-eqb (t - 18) (p - 18) (λ e. f (omega arith)) ∙ sym (ne-eqb t p f)
 
-    pub high-less : (left (remaining less-high) ≡ lessPair (inWords h) p) × Fair (remaining less-high)
-    high-less = less less-high (by-words (inWords less-high) (lessPair (inWords h) p) below above) (fit .low) (λ t k. omega (arith, high-digit t, fit .high t k))
+    pub high-less : Without (record { word = h .low; behind = (h .high - off-high) * 64 })
+    high-less = made (h .low) (h .high - off-high) (less less-high (by-words (inWords less-high) (lessPair (inWords h) p) below above) (fit .low) (λ t k. omega (arith, high-digit t, fit .high t k)))
       where
         below : (t : ℕ) → t < 18 → inWords less-high t ≡ lessPair (inWords h) p t
         below t k = omega (arith, low-word less-high t k, low-word h t k, ap {B = ℕ} (λ (b : Bool). cond b 2 0) (ne-eqb t p (λ e. omega arith)))

@@ -2,13 +2,14 @@
 // that can be the pair, and the search for the melds. The counts are packed three bits a tile for the search.
 ghost use mathlib.Core.Path.{_≡_};
 ghost use Prim.Native.Nat.{_+_, _-_, _*_, _≤_, _<_};
+ghost use lib.Dec.{leb};
 ghost use lib.ListN.{length};
 ghost use lib.Seq.{sets};
 ghost use Rattle.tile.specs.Tile.{tiles};
 ghost use Rattle.hand.specs.Counts.{held, AtMostFour};
 ghost use Rattle.hand.specs.Readings.{lessPair};
 ghost use Rattle.hand.specs.Weights.{weight, byThree};
-ghost use Rattle.search.specs.Remaining.{left, Fair};
+ghost use Rattle.search.specs.Remaining.{split, left, Fair};
 ghost use Rattle.decompose.specs.Packed.{packFrom, inWords, Fit};
 ghost use Rattle.decompose.specs.Pairs.{foundWith, recordsOver, OnlyAt};
 
@@ -51,22 +52,31 @@ pub fn pack(counts: &[u8]) -> Packed
 }
 
 impl Packed {
+    // Are there two of the tile p?
+    fn has_pair(self, p: u32) -> bool
+        requires { ⌜ p < 34 ⌝ }
+        ensures { λ r. ⌜ r ≡ leb 2 (inWords self p) ⌝ }
+    {
+        if p < 18 {
+            return 2 <= (self.low >> (p * 3)) % 8;
+        }
+        2 <= (self.high >> ((p - 18) * 3)) % 8
+    }
+
     // The tiles left without the pair p.
-    pub fn without_pair(self, p: u32) -> search::Remaining
+    fn without_pair(self, p: u32) -> search::Remaining
         requires { ⌜ (p < 34) × (Fit self × (2 ≤ inWords self p)) ⌝ }
-        ensures { λ r. ⌜ (left r ≡ lessPair (inWords self) p) × Fair r ⌝ }
+        ensures { λ r. ⌜ (left (split r) ≡ lessPair (inWords self) p) × Fair (split r) ⌝ }
     {
         if p < 18 {
             return search::Remaining {
                 word: self.low - (2u64 << (p * 3)),
-                rest: self.high,
-                tile: 0,
+                behind: self.high * 64,
             };
         }
         search::Remaining {
             word: self.low,
-            rest: self.high - (2u64 << ((p - 18) * 3)),
-            tile: 0,
+            behind: (self.high - (2u64 << ((p - 18) * 3))) * 64,
         }
     }
 }
@@ -112,15 +122,15 @@ pub fn pair_places(counts: &[u8]) -> PairPlaces
 }
 
 // How many standard readings there are with `needed` melds of the hand itself.
-pub fn count_standard(counts: &[u8], h: Packed, places: PairPlaces, needed: u32) -> usize
-    requires { ⌜ (length (now counts) ≡ 34) × ((needed ≤ 4) × ((inWords h ≡ held (now counts)) × (Fit h × OnlyAt (held (now counts)) places))) ⌝ }
-    ensures { λ r. ⌜ (r ≡ length (foundWith needed (held (now (counts .entry))) tiles)) × (r ≤ 2176) ⌝ }
+pub fn count_standard(h: Packed, places: PairPlaces, needed: u32) -> usize
+    requires { ⌜ (needed ≤ 4) × (Fit h × OnlyAt (inWords h) places) ⌝ }
+    ensures { λ r. ⌜ (r ≡ length (foundWith needed (inWords h) tiles)) × (r ≤ 2176) ⌝ }
 {
     let end = places.end;
     let mut total = 0;
     let mut p = places.first;
     while p < end {
-        if 2 <= counts[p] {
+        if h.has_pair(p as u32) {
             total += search::count_meld_combinations(h.without_pair(p as u32), needed);
         }
         p += 3;
@@ -130,7 +140,6 @@ pub fn count_standard(counts: &[u8], h: Packed, places: PairPlaces, needed: u32)
 
 // Writes the records of all standard readings. Answers the place behind them.
 pub fn write_standards(
-    counts: &[u8],
     h: Packed,
     places: PairPlaces,
     needed: u32,
@@ -138,14 +147,14 @@ pub fn write_standards(
     out: &mut [u8],
     at: usize,
 ) -> usize
-    requires { ⌜ (length (now counts) ≡ 34) × ((needed ≤ 4) × ((inWords h ≡ held (now counts)) × (Fit h × (OnlyAt (held (now counts)) places × (at + length (recordsOver needed (held (now counts)) slots tiles) ≤ length (now out)))))) ⌝ }
-    ensures { λ r. ⌜ (r ≡ at + length (recordsOver needed (held (now (counts .entry))) slots tiles)) × (now (out .exit) ≡ sets (now (out .entry)) at (recordsOver needed (held (now (counts .entry))) slots tiles)) ⌝ }
+    requires { ⌜ (needed ≤ 4) × (Fit h × (OnlyAt (inWords h) places × (at + length (recordsOver needed (inWords h) slots tiles) ≤ length (now out)))) ⌝ }
+    ensures { λ r. ⌜ (r ≡ at + length (recordsOver needed (inWords h) slots tiles)) × (now (out .exit) ≡ sets (now (out .entry)) at (recordsOver needed (inWords h) slots tiles)) ⌝ }
 {
     let end = places.end;
     let mut pos = at;
     let mut p = places.first;
     while p < end {
-        if 2 <= counts[p] {
+        if h.has_pair(p as u32) {
             pos = search::write_meld_combinations(
                 h.without_pair(p as u32),
                 needed,

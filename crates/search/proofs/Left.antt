@@ -12,12 +12,24 @@ use Rattle.meld.specs.declared.Meld.{Meld}
 use Rattle.meld.specs.Meld.{meld, runUses, uses}
 use Rattle.hand.specs.Readings.{fits, isEmpty}
 use Rattle.hand.proofs.Lowest.{LowestAt, fits-sequence, run-in, run-before, run-after, set-in, set-out}
-use Rattle.search.specs.declared.Remaining.{Remaining}
-use Rattle.search.specs.Remaining.{digit, left, Fair, noneLeft, AtLowest, hasSequence, hasTriplet, Less}
+use Rattle.search.specs.Remaining.{Split, split, digit, left, Fair, noneLeft, AtLowest, hasSequence, hasTriplet, Less}
 use Rattle.search.proofs.Digits.{digit-zero, no-digits, digit-shift, Lowest}
 
-abbrev packed : ℕ → ℕ → ℕ → Remaining
+abbrev pub packed : ℕ → ℕ → ℕ → Split
 packed w r t = record { word = w; rest = r; tile = t }
+
+-- the words as the code holds them, the rest and the tile in one
+pub split-none : (w r : ℕ) → split (record { word = w; behind = r * 64 }) ≡ packed w r 0
+split-none w r =
+    let e : r * 64 / 64 ≡ r = omega arith in
+    let f : r * 64 % 64 ≡ 0 = omega arith in
+    ap₂ (packed w) e f
+
+pub split-on : (w b z : ℕ) → b % 64 + z < 64 → split (record { word = w; behind = b + z }) ≡ packed w (b / 64) (b % 64 + z)
+split-on w b z h =
+    let e : (b + z) / 64 ≡ b / 64 = omega arith in
+    let f : (b + z) % 64 ≡ b % 64 + z = omega arith in
+    ap₂ (packed w) e f
 
 -- a word w from the tile t on does not reach into the tiles of the rest r
 abbrev Apart : ℕ → ℕ → ℕ → Type 0
@@ -78,28 +90,28 @@ inWord-less t w v takes u f g = go (from-or-before t u)
 
 -- ---- nothing is left
 
-word-le : (s : Remaining) (k : ℕ) → digit (s .word) k ≤ left s (s .tile + k)
+word-le : (s : Split) (k : ℕ) → digit (s .word) k ≤ left s (s .tile + k)
 unfolding left
 word-le s k = omega (arith, inWord-on (s .tile) (s .word) k)
 
-rest-le : (s : Remaining) (k : ℕ) → digit (s .rest) k ≤ left s (18 + k)
+rest-le : (s : Split) (k : ℕ) → digit (s .rest) k ≤ left s (18 + k)
 unfolding left
 rest-le s k = omega (arith, inWord-on 18 (s .rest) k)
 
-all-none : (s : Remaining) → Fair s → T (isEmpty (left s)) → (u : ℕ) → left s u ≡ 0
+all-none : (s : Split) → Fair s → T (isEmpty (left s)) → (u : ℕ) → left s u ≡ 0
 all-none s f h u = go (from-or-before 34 u)
   where
     go : (34 ≤ u) ⊎ (u < 34) → left s u ≡ 0
     go (inl i) = f .ends u i
     go (inr i) = eqb→eq (left s u) 0 (at 34 (λ t. eqb (left s t) 0) h u i)
 
-none-at : (s : Remaining) → s .word ≡ 0 → s .rest ≡ 0 → (u : ℕ) → left s u ≡ 0
+none-at : (s : Split) → s .word ≡ 0 → s .rest ≡ 0 → (u : ℕ) → left s u ≡ 0
 unfolding left
 none-at s e f u =
     ap₂ (λ (w r : ℕ). inWord (s .tile) w u + inWord 18 r u) e f
     ∙ ap₂ (λ (a b : ℕ). a + b) (inWord-zero (s .tile) u) (inWord-zero 18 u)
 
-pub none-words : (s : Remaining) → Fair s → (eqb (s .word) 0 && eqb (s .rest) 0) ≡ noneLeft s
+pub none-words : (s : Split) → Fair s → (eqb (s .word) 0 && eqb (s .rest) 0) ≡ noneLeft s
 unfolding noneLeft
 none-words s f =
     T-eq
@@ -124,7 +136,7 @@ unfolding left
 swap-at r t u = omega (arith, inWord-zero 18 u, inWord-zero t u)
 
 -- fairness is kept where the same tiles are left
-same-fair : (s t : Remaining) → Fair s → left t ≡ left s → Apart (t .word) (t .rest) (t .tile) → Fair t
+same-fair : (s t : Split) → Fair s → left t ≡ left s → Apart (t .word) (t .rest) (t .tile) → Fair t
 same-fair s t f e a = record {
   few = λ u. subst (λ (c : ℕ → ℕ). c u ≤ 4) (sym e) (f .few u);
   ends = λ u h. ap (λ (c : ℕ → ℕ). c u) e ∙ f .ends u h;
@@ -132,10 +144,10 @@ same-fair s t f e a = record {
 }
 
 -- t are the tiles of s with one in the word
-abbrev pub Current : Remaining → Remaining → Type 0
+abbrev pub Current : Split → Split → Type 0
 Current s t = Fair t × ((left t ≡ left s) × (t .word ≡ 0 → ⊥))
 
-module _ (s : Remaining) (f : Fair s) (n : noneLeft s ≡ false) where
+module _ (s : Split) (f : Fair s) (n : noneLeft s ≡ false) where
   never : _≡_ {A = Bool} true false → ⊥
   never e = subst T e tt
 
@@ -153,8 +165,8 @@ module _ (s : Remaining) (f : Fair s) (n : noneLeft s ≡ false) where
 
 -- ---- from the lowest tile on
 
-module _ (s : Remaining) (f : Fair s) (z : ℕ) (l : Lowest (s .word) z) where
-  abbrev shifted : Remaining
+module _ (s : Split) (f : Fair s) (z : ℕ) (l : Lowest (s .word) z) where
+  abbrev shifted : Split
   shifted = packed (s .word / 2 ^ (3 * z)) (s .rest) (s .tile + z)
 
   shifted-same : left shifted ≡ left s
@@ -198,7 +210,7 @@ guarded true true x y f = f tt
 guarded true false x y f = refl
 guarded false b x y f = refl
 
-module _ (s : Remaining) (a : AtLowest s) where
+module _ (s : Split) (a : AtLowest s) where
   -- the rest has nothing of a tile below its own, and nothing at all once the word is among its tiles
   rest-none : (u : ℕ) → (18 ≤ s .tile) ⊎ (u < 18) → inWord 18 (s .rest) u ≡ 0
   unfolding digit
@@ -262,7 +274,7 @@ module _ (s : Remaining) (a : AtLowest s) where
 -- ---- without a meld
 
 -- what is left without a meld, where each place of the word is lower by what the meld uses
-less-of : (s : Remaining) (m : Meld) (w : ℕ) → Fair s → ((k : ℕ) → digit w k + uses m (s .tile + k) ≡ digit (s .word) k)
+less-of : (s : Split) (m : Meld) (w : ℕ) → Fair s → ((k : ℕ) → digit w k + uses m (s .tile + k) ≡ digit (s .word) k)
     → ((u : ℕ) → u < s .tile → uses m u ≡ 0)
     → Less s m (packed w (s .rest) (s .tile))
 unfolding left
@@ -310,7 +322,7 @@ set-off t w (suc k) h =
     let e : (w - 3) / 8 ≡ w / 8 = omega arith in
     omega (arith, ap (λ (v : ℕ). digit v k) e, set-out t (t + suc k) (λ i. omega arith))
 
-module _ (s : Remaining) (a : AtLowest s) where
+module _ (s : Split) (a : AtLowest s) where
   places : hasSequence s ≡ true → (1 ≤ s .word / 8 % 8) × (1 ≤ s .word / 64 % 8)
   places e = go (s .word / 8 % 8) (s .word / 64 % 8) (true→T _ (sequence-word s a ∙ e))
     where

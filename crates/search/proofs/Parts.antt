@@ -14,8 +14,7 @@ use Rattle.meld.specs.declared.Meld.{Meld}
 use Rattle.meld.specs.Meld.{key, meld}
 use Rattle.hand.specs.Readings.{meldLists, minus}
 use Rattle.hand.proofs.Lowest.{by-lowest, few, none-left, none-left-needed, some-left}
-use Rattle.search.specs.declared.Remaining.{Remaining}
-use Rattle.search.specs.Remaining.{left, Fair, noneLeft, AtLowest, hasSequence, hasTriplet}
+use Rattle.search.specs.Remaining.{Split, left, Fair, noneLeft, AtLowest, hasSequence, hasTriplet}
 use Rattle.search.specs.Slots.{put, putAll, slotRecord, recordsWith}
 use Rattle.search.proofs.Left.{lowest-at}
 use Rattle.search.proofs.Slots.{record-length, sets-append}
@@ -25,31 +24,31 @@ unfoldable pub part : Bool → ℕ → Meld → (ℕ → ℕ) → List (List Mel
 part b n m c = cond b (map (λ l. m ∷ l) (meldLists n (minus c m))) []
 
 -- at the lowest tile: those with the sequence, and those with the triplet
-abbrev pub first : ℕ → Remaining → List (List Meld)
+abbrev pub first : ℕ → Split → List (List Meld)
 first n t = part (hasSequence t) (n - 1) (meld (t .tile) 0) (left t)
 
-abbrev pub second : ℕ → Remaining → List (List Meld)
+abbrev pub second : ℕ → Split → List (List Meld)
 second n t = part (hasTriplet t) (n - 1) (meld (t .tile) 2) (left t)
 
 -- t are the tiles of s at their lowest, and n melds are to be found among them, one at least
-pub record Going (n : ℕ) (s t : Remaining) : Type 0 where
+pub record Going (n : ℕ) (s t : Split) : Type 0 where
   pub some : n ≡ 0 → ⊥
   pub lowest : AtLowest t
   pub same : left t ≡ left s
 
-parts-suc : (n : ℕ) (t : Remaining) → AtLowest t
+parts-suc : (n : ℕ) (t : Split) → AtLowest t
     → meldLists (suc n) (left t) ≡ part (hasSequence t) n (meld (t .tile) 0) (left t) ++ part (hasTriplet t) n (meld (t .tile) 2) (left t)
 unfolding part hasSequence hasTriplet
 parts-suc n t a = by-lowest n (left t) (t .tile) (lowest-at t a) (a .fair .few (t .tile))
 
-parts-at : (n : ℕ) (t : Remaining) → (n ≡ 0 → ⊥) → AtLowest t → meldLists n (left t) ≡ first n t ++ second n t
+parts-at : (n : ℕ) (t : Split) → (n ≡ 0 → ⊥) → AtLowest t → meldLists n (left t) ≡ first n t ++ second n t
 parts-at zero t f a = absurd (f refl)
 parts-at (suc n) t f a =
     let k : n ≡ suc n - 1 = omega arith in
     parts-suc n t a
     ∙ ap (λ (i : ℕ). part (hasSequence t) i (meld (t .tile) 0) (left t) ++ part (hasTriplet t) i (meld (t .tile) 2) (left t)) k
 
-pub parts : (n : ℕ) (s t : Remaining) → Going n s t → meldLists n (left s) ≡ first n t ++ second n t
+pub parts : (n : ℕ) (s t : Split) → Going n s t → meldLists n (left s) ≡ first n t ++ second n t
 parts n s t g = ap (meldLists n) (sym (g .same)) ∙ parts-at n t (g .some) (g .lowest)
 
 part-taken : (b : Bool) (n : ℕ) (m : Meld) (c d : ℕ → ℕ) → b ≡ true → d ≡ minus c m → part b n m c ≡ map (λ l. m ∷ l) (meldLists n d)
@@ -64,7 +63,7 @@ part-left b n m c e = ap (λ (x : Bool). cond x (map (λ l. m ∷ l) (meldLists 
 
 -- ---- nothing is left, or no meld is to be found
 
-module _ (n : ℕ) (s : Remaining) where
+module _ (n : ℕ) (s : Split) where
   pub at-end : n ≡ 0 → noneLeft s ≡ true → meldLists n (left s) ≡ [] ∷ []
   unfolding noneLeft
   at-end z e = ap (λ (k : ℕ). meldLists k (left s)) z ∙ none-left (left s) (true→T _ e)
@@ -81,7 +80,7 @@ module _ (n : ℕ) (s : Remaining) where
 
 -- ---- how many
 
-pub at-most-16 : (n : ℕ) (s : Remaining) → n ≤ 4 → Fair s → length (meldLists n (left s)) ≤ 16
+pub at-most-16 : (n : ℕ) (s : Split) → n ≤ 4 → Fair s → length (meldLists n (left s)) ≤ 16
 at-most-16 n s h f = le-trans (few n (left s) (λ u i. f .few u)) (pow-le-pow-right {n = 2} (lit< tt) h)
 
 pub counted-part : (b : Bool) (n : ℕ) (m : Meld) (c d : ℕ → ℕ) (r : ℕ) → b ≡ true → d ≡ minus c m → r ≡ length (meldLists n d)
@@ -91,7 +90,7 @@ counted-part b n m c d r e f h = h ∙ sym (ap length (part-taken b n m c d e f)
 pub counted-none : (b : Bool) (n : ℕ) (m : Meld) (c : ℕ → ℕ) → b ≡ false → 0 ≡ length (part b n m c)
 counted-none b n m c e = sym (ap length (part-left b n m c e))
 
-pub counted-all : (n : ℕ) (s t : Remaining) (x y r : ℕ) → n ≤ 4 → Fair s → Going n s t → x ≡ length (first n t) → y ≡ length (second n t) → r ≡ x + y
+pub counted-all : (n : ℕ) (s t : Split) (x y r : ℕ) → n ≤ 4 → Fair s → Going n s t → x ≡ length (first n t) → y ≡ length (second n t) → r ≡ x + y
     → (r ≡ length (meldLists n (left s))) × (r ≤ 16)
 counted-all n s t x y r h f g i j k =
     let e = ap length (parts n s t g) ∙ length-append (first n t) (second n t) in
@@ -184,7 +183,7 @@ wrote-both p slots out₀ out₁ out₂ at pos₁ pos₂ x y v w =
     (w .bytes ∙ ap (λ (l : List ℕ). sets l pos₁ b) (v .bytes) ∙ ap (λ (k : ℕ). sets (sets out₀ at a) k b) (v .place) ∙ sym (sets-append a b out₀ at))
     (w .long ∙ v .long)
 
-module _ (p : ℕ) (slots out₀ : List ℕ) (at n : ℕ) (s t : Remaining) (g : Going n s t) where
+module _ (p : ℕ) (slots out₀ : List ℕ) (at n : ℕ) (s t : Split) (g : Going n s t) where
   -- the whole of a search with melds to find
   pub wrote-all : (out₁ out₂ : List ℕ) (pos₁ pos₂ : ℕ) → Wrote p slots out₀ at (first n t) out₁ pos₁ → Wrote p slots out₁ pos₁ (second n t) out₂ pos₂
       → Wrote p slots out₀ at (meldLists n (left s)) out₂ pos₂

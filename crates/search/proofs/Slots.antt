@@ -59,3 +59,8 @@ sets-append [] b d i = ap (λ (k : ℕ). sets d k b) (sym (add-zero i))
 sets-append (x ∷ a) b d i =
     let e : suc i + length a ≡ i + suc (length a) = omega arith in
     sets-append a b (set d i x) (suc i) ∙ ap (λ (k : ℕ). sets (sets (set d i x) (suc i) a) k b) e
+
+-- what is written, under another name
+pub written-as :
+    (out₀ out : List ℕ) (at r : ℕ) {x y : List ℕ} → x ≡ y → (r ≡ at + length x) × (out ≡ sets out₀ at x) → (r ≡ at + length y) × (out ≡ sets out₀ at y)
+written-as out₀ out at r e w = (w .0 ∙ ap (λ (l : List ℕ). at + length l) e, w .1 ∙ ap (sets out₀ at) e)

@@ -2,42 +2,40 @@
 // sequence or a triplet, and calls itself with one meld fewer to find. The tiles left are counts packed three bits a tile.
 ghost use mathlib.Core.Path.{_≡_};
 ghost use mathlib.Core.Bool.{cond, true, false};
-ghost use Prim.Native.Nat.{_+_, _/_, _%_, _≤_};
+ghost use Prim.Native.Nat.{_+_, _*_, _/_, _%_, _≤_};
 ghost use lib.Dec.{leb};
 ghost use lib.ListN.{length};
 ghost use lib.Seq.{sets};
 ghost use Rattle.hand.specs.Readings.{meldLists};
 ghost use Rattle.meld.specs.Meld.{meld};
-ghost use Rattle.search.specs.Remaining.{left, Fair, noneLeft, AtLowest, hasSequence, hasTriplet, Less};
+ghost use Rattle.search.specs.Remaining.{split, left, Fair, noneLeft, AtLowest, hasSequence, hasTriplet, Less};
 ghost use Rattle.search.specs.Slots.{put, slotRecord, recordsWith};
 
-// The tiles left: `word` has the counts from `tile` on, three bits each, the lowest tile in the lowest bits, and `rest` those of
-// sou and the honors where they are not yet in `word`.
+// The tiles left: `word` has the counts from a tile on, three bits each, the lowest tile in the lowest bits. `behind` has that
+// tile in its six lowest bits, and above them the counts of sou and the honors where they are not yet in `word`.
 pub struct Remaining {
     pub word: u64,
-    pub rest: u64,
-    pub tile: u32,
+    pub behind: u64,
 }
 
 impl Remaining {
     // Is no tile left?
     pub fn is_empty(self) -> bool
-        requires { ⌜ Fair self ⌝ }
-        ensures { λ r. ⌜ r ≡ noneLeft self ⌝ }
+        requires { ⌜ Fair (split self) ⌝ }
+        ensures { λ r. ⌜ r ≡ noneLeft (split self) ⌝ }
     {
-        (self.word == 0) & (self.rest == 0)
+        (self.word == 0) & (self.behind / 64 == 0)
     }
 
     // The same tiles, with sou and the honors in the word where nothing before them is left.
     fn current(self) -> Remaining
-        requires { ⌜ Fair self × (noneLeft self ≡ false) ⌝ }
-        ensures { λ r. ⌜ Fair r × ((left r ≡ left self) × (r .word ≡ 0 → ⊥)) ⌝ }
+        requires { ⌜ Fair (split self) × (noneLeft (split self) ≡ false) ⌝ }
+        ensures { λ r. ⌜ Fair (split r) × ((left (split r) ≡ left (split self)) × (r .word ≡ 0 → ⊥)) ⌝ }
     {
         if self.word == 0 {
             return Remaining {
-                word: self.rest,
-                rest: 0,
-                tile: 18,
+                word: self.behind / 64,
+                behind: 18,
             };
         }
         self
@@ -45,66 +43,75 @@ impl Remaining {
 
     // The same tiles from the lowest on, where one is left.
     pub fn lowest(self) -> Remaining
-        requires { ⌜ Fair self × (noneLeft self ≡ false) ⌝ }
-        ensures { λ r. ⌜ AtLowest r × (left r ≡ left self) ⌝ }
+        requires { ⌜ Fair (split self) × (noneLeft (split self) ≡ false) ⌝ }
+        ensures { λ r. ⌜ AtLowest (split r) × (left (split r) ≡ left (split self)) ⌝ }
     {
         let s = self.current();
         let zeros = u64::trailing_zeros(s.word) / 3;
         Remaining {
             word: s.word >> (3 * zeros),
-            rest: s.rest,
-            tile: s.tile + zeros,
+            behind: s.behind + zeros as u64,
         }
+    }
+
+    // The number of the sequence from the tile, in the order of melds. That of the tile's triplet is higher by 2.
+    pub fn key(self) -> u16
+        ensures { λ r. ⌜ r ≡ split self .tile * 7 ⌝ }
+    {
+        (self.behind % 64 * 7) as u16
     }
 
     // Is the sequence from the tile there? One of the tile itself is.
     pub fn has_sequence(self) -> bool
-        requires { ⌜ AtLowest self ⌝ }
-        ensures { λ r. ⌜ r ≡ hasSequence self ⌝ }
+        requires { ⌜ AtLowest (split self) ⌝ }
+        ensures { λ r. ⌜ r ≡ hasSequence (split self) ⌝ }
     {
-        (self.tile < 27)
-            & ((self.tile % 9 < 7) & ((self.word / 8 % 8 != 0) & (self.word / 64 % 8 != 0)))
+        let tile = self.behind % 64;
+        (tile < 27) & ((tile % 9 < 7) & ((self.word / 8 % 8 != 0) & (self.word / 64 % 8 != 0)))
     }
 
     // Are exactly three of the tile left?
     pub fn has_triplet(self) -> bool
-        requires { ⌜ AtLowest self ⌝ }
-        ensures { λ r. ⌜ r ≡ hasTriplet self ⌝ }
+        requires { ⌜ AtLowest (split self) ⌝ }
+        ensures { λ r. ⌜ r ≡ hasTriplet (split self) ⌝ }
     {
         self.word % 8 == 3
     }
 
     // What is left without the sequence from the tile: one less at each of the three lowest places, 1 + 8 + 64.
     pub fn without_sequence(self) -> Remaining
-        requires { ⌜ AtLowest self × (hasSequence self ≡ true) ⌝ }
-        ensures { λ r. ⌜ Less self (meld (self .tile) 0) r ⌝ }
+        requires { ⌜ AtLowest (split self) × (hasSequence (split self) ≡ true) ⌝ }
+        ensures { λ r. ⌜ Less (split self) (meld (split self .tile) 0) (split r) ⌝ }
     {
         Remaining {
             word: self.word - 73,
-            rest: self.rest,
-            tile: self.tile,
+            behind: self.behind,
         }
     }
 
     // What is left without the triplet of the tile.
     pub fn without_triplet(self) -> Remaining
-        requires { ⌜ AtLowest self × (hasTriplet self ≡ true) ⌝ }
-        ensures { λ r. ⌜ Less self (meld (self .tile) 2) r ⌝ }
+        requires { ⌜ AtLowest (split self) × (hasTriplet (split self) ≡ true) ⌝ }
+        ensures { λ r. ⌜ Less (split self) (meld (split self .tile) 2) (split r) ⌝ }
     {
         Remaining {
             word: self.word - 3,
-            rest: self.rest,
-            tile: self.tile,
+            behind: self.behind,
         }
     }
 }
 
 // How many lists of `needed` closed melds use up the tiles left.
 pub fn count_meld_combinations(s: Remaining, needed: u32) -> usize
-    requires { ⌜ (needed ≤ 4) × Fair s ⌝ }
-    ensures { λ r. ⌜ (r ≡ length (meldLists needed (left s))) × (r ≤ 16) ⌝ }
+    requires { ⌜ (needed ≤ 4) × Fair (split s) ⌝ }
+    ensures { λ r. ⌜ (r ≡ length (meldLists needed (left (split s)))) × (r ≤ 16) ⌝ }
 {
-    if s.is_empty() {
+    // the two words as numbers, so that no copy of `s` is on the stack while the search goes on
+    let here = Remaining {
+        word: s.word,
+        behind: s.behind,
+    };
+    if here.is_empty() {
         if needed == 0 {
             return 1;
         }
@@ -113,13 +120,13 @@ pub fn count_meld_combinations(s: Remaining, needed: u32) -> usize
     if needed == 0 {
         return 0;
     }
-    let at = s.lowest();
+    let low = here.lowest();
     let mut total: usize = 0;
-    if at.has_sequence() {
-        total = count_meld_combinations(at.without_sequence(), needed - 1);
+    if low.has_sequence() {
+        total = count_meld_combinations(low.without_sequence(), needed - 1);
     }
-    if at.has_triplet() {
-        total += count_meld_combinations(at.without_triplet(), needed - 1);
+    if low.has_triplet() {
+        total += count_meld_combinations(low.without_triplet(), needed - 1);
     }
     total
 }
@@ -208,6 +215,38 @@ pub fn write_standard(out: &mut [u8], at: usize, pair: u8, slots: [u16; 4])
     );
 }
 
+// Writes the record of the pair and the melds in the slots where no tile is left. Answers the place behind it.
+fn write_end(s: Remaining, pair: u8, slots: [u16; 4], out: &mut [u8], at: usize) -> usize
+    requires { ⌜ Fair (split s) × (at + length (recordsWith pair slots (meldLists 0 (left (split s)))) ≤ length (now out)) ⌝ }
+    ensures { λ r. ⌜ (r ≡ at + length (recordsWith pair slots (meldLists 0 (left (split s))))) × (now (out .exit) ≡ sets (now (out .entry)) at (recordsWith pair slots (meldLists 0 (left (split s))))) ⌝ }
+{
+    if s.is_empty() {
+        write_standard(out, at, pair, slots);
+        return at + 13;
+    }
+    at
+}
+
+// Goes on with a meld, by its number, taken from what was left: `s` is left now, and `needed` melds are still to be found.
+fn write_with(
+    s: Remaining,
+    needed: u32,
+    pair: u8,
+    slots: [u16; 4],
+    key: u16,
+    out: &mut [u8],
+    at: usize,
+) -> usize
+    requires { ⌜ (needed ≤ 3) × (Fair (split s) × (at + length (recordsWith pair (put key slots) (meldLists needed (left (split s)))) ≤ length (now out))) ⌝ }
+    ensures { λ r. ⌜ (r ≡ at + length (recordsWith pair (put key slots) (meldLists needed (left (split s))))) × (now (out .exit) ≡ sets (now (out .entry)) at (recordsWith pair (put key slots) (meldLists needed (left (split s))))) ⌝ }
+{
+    let more = put_in(slots, key);
+    if needed == 0 {
+        return write_end(s, pair, more, out, at);
+    }
+    write_meld_combinations(s, needed, pair, more, out, at)
+}
+
 // Writes the records of the pair with each list of `needed` closed melds that uses up the tiles left, its melds put among the
 // slots. Answers the place behind them.
 pub fn write_meld_combinations(
@@ -218,38 +257,41 @@ pub fn write_meld_combinations(
     out: &mut [u8],
     at: usize,
 ) -> usize
-    requires { ⌜ (needed ≤ 4) × (Fair s × (at + length (recordsWith pair slots (meldLists needed (left s))) ≤ length (now out))) ⌝ }
-    ensures { λ r. ⌜ (r ≡ at + length (recordsWith pair slots (meldLists needed (left s)))) × (now (out .exit) ≡ sets (now (out .entry)) at (recordsWith pair slots (meldLists needed (left s)))) ⌝ }
+    requires { ⌜ (needed ≤ 4) × (Fair (split s) × (at + length (recordsWith pair slots (meldLists needed (left (split s)))) ≤ length (now out))) ⌝ }
+    ensures { λ r. ⌜ (r ≡ at + length (recordsWith pair slots (meldLists needed (left (split s))))) × (now (out .exit) ≡ sets (now (out .entry)) at (recordsWith pair slots (meldLists needed (left (split s))))) ⌝ }
 {
-    if s.is_empty() {
-        if needed == 0 {
-            write_standard(out, at, pair, slots);
-            return at + 13;
-        }
-        return at;
-    }
+    // the two words as numbers, so that no copy of `s` is on the stack while the search goes on
+    let here = Remaining {
+        word: s.word,
+        behind: s.behind,
+    };
     if needed == 0 {
+        return write_end(here, pair, slots, out, at);
+    }
+    if here.is_empty() {
         return at;
     }
-    let low = s.lowest();
-    let key = (low.tile * 7) as u16;
+    let low = here.lowest();
+    let key = low.key();
     let mut pos = at;
     if low.has_sequence() {
-        pos = write_meld_combinations(
+        pos = write_with(
             low.without_sequence(),
             needed - 1,
             pair,
-            put_in(slots, key),
+            slots,
+            key,
             out,
             pos,
         );
     }
     if low.has_triplet() {
-        pos = write_meld_combinations(
+        pos = write_with(
             low.without_triplet(),
             needed - 1,
             pair,
-            put_in(slots, key + 2),
+            slots,
+            key + 2,
             out,
             pos,
         );

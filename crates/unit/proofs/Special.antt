@@ -1,8 +1,8 @@
 -- Seven pairs and thirteen orphans as the first pass finds them. Assumes nothing.
-use mathlib.Core.Path.{_≡_, refl, sym, ap, ap₂, _∙_, subst}
+use mathlib.Core.Path.{_≡_, refl, sym, ap, ap₂, _∙_}
 use mathlib.Core.Bool.{Bool, true, false, cond}
 use mathlib.Core.List.{List, [], _∷_, _++_, append-nil}
-use Prim.Native.Nat.{ℕ, zero, suc, _+_, _<_, _≤_}
+use Prim.Native.Nat.{ℕ, zero, suc, _+_, _≤_}
 use native.Mathlib.Omega.{arith}
 use lib.Dec.{ltb}
 use lib.ListN.{length, length-append, take, getD}
@@ -13,14 +13,11 @@ use Rattle.hand.specs.Reading.{Reading, orphans, pairs}
 use Rattle.hand.specs.Records.{recordOf, records}
 use Rattle.hand.specs.Readings.{isPairs, sevenPairs, thirteenOrphans, twos, uncalled}
 use Rattle.hand.proofs.Lowest.{flat-append}
-use Rattle.search.specs.Slots.{put, putAll, slotsOf}
-use Rattle.checks.specs.declared.Calls.{Calls}
-use Rattle.checks.specs.Checks.{called}
-use Rattle.unit.specs.declared.Found.{Found}
-use Rattle.unit.specs.FirstPass.{Finds, putCall, orphanRecords, sevenRecords, specialRecords}
+use Rattle.search.specs.Slots.{putAll, slotsOf}
+use Rattle.unit.specs.FirstPass.{putCall, orphanRecords, sevenRecords}
 
 -- ---- nothing called
-none-of : {A : Type 0} (l : List A) → length l ≡ 0 → l ≡ []
+pub none-of : {A : Type 0} (l : List A) → length l ≡ 0 → l ≡ []
 none-of [] e = refl
 none-of (x ∷ l) e = absurd (omega arith)
 

@@ -1,8 +1,8 @@
 -- The records of the standard readings are those that the loop over the pairs writes, 13 bytes each. Assumes nothing.
 use mathlib.Core.Path.{_≡_, refl, sym, ap, ap₂, _∙_}
 use mathlib.Core.Bool.{Bool, true, false, cond}
-use mathlib.Core.List.{List, [], _∷_, _++_, map, List·Memᴰ, append-assoc}
-use Prim.Native.Nat.{ℕ, zero, suc, _+_, _-_, _*_, _≤_, _<_}
+use mathlib.Core.List.{List, [], _∷_, _++_, map, List·Memᴰ}
+use Prim.Native.Nat.{ℕ, suc, _+_, _-_, _*_, _≤_, _<_}
 use native.Mathlib.Nat.{le-trans, pow-le-pow-right}
 use native.Mathlib.Omega.{arith}
 use lib.Dec.{T, leb, lit<}
@@ -12,7 +12,7 @@ use Rattle.lists.proofs.Finite.{and-left}
 use Rattle.lists.proofs.Members.{all-mem, all-intro}
 use Rattle.meld.specs.declared.Meld.{Meld}
 use Rattle.meld.specs.Meld.{isMeld, isHandMeld, key, sorted}
-use Rattle.hand.specs.Reading.{Reading, standard}
+use Rattle.hand.specs.Reading.{standard}
 use Rattle.hand.specs.Records.{recordOf, records}
 use Rattle.hand.specs.Readings.{lessPair, meldLists, standardsAt}
 use Rattle.hand.proofs.Lowest.{flat-append, few, lists-length, lists-melds}

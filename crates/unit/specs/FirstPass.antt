@@ -10,23 +10,34 @@ use Rattle.hand.specs.Counts.{held}
 use Rattle.hand.specs.Reading.{Reading, orphans}
 use Rattle.hand.specs.Records.{recordOf, records}
 use Rattle.hand.specs.Readings.{isPairs, sevenPairs, thirteenOrphans, uncalled}
-use Rattle.search.specs.Slots.{put}
-use Rattle.decompose.specs.Pairs.{foundWith}
+use Rattle.search.specs.Slots.{put, slotsOf}
+use Rattle.decompose.specs.Pairs.{foundWith, recordsOver}
 use Rattle.checks.specs.declared.Calls.{Calls}
 use Rattle.checks.specs.Checks.{called}
 use Rattle.unit.specs.declared.Found.{Found}
 use Rattle.unit.specs.declared.FoundSpecial.{FoundSpecial}
 
--- seven pairs and thirteen orphans: how many readings were found, and how many bytes their records need
-abbrev pub specialReadings : FoundSpecial → ℕ
-specialReadings f = cond (f .seven) 1 0 + cond (ltb (f .orphan) 34) 1 0
+-- the readings of seven pairs and of thirteen orphans
+unfoldable pub specials : List ℕ → Calls → List Reading
+specials cs k = uncalled (called k) (sevenPairs (held cs) ++ thirteenOrphans (held cs))
 
-abbrev pub specialBytes : FoundSpecial → ℕ
-specialBytes f = cond (f .seven) 11 0 + cond (ltb (f .orphan) 34) 5 0
+-- the records of the standard readings of the counts c
+unfoldable pub standardRecords : (ℕ → ℕ) → Calls → List ℕ
+standardRecords c k = recordsOver (4 - k .count) c (slotsOf (called k)) tiles
 
--- how many bytes the records of all readings need
+-- how many readings of seven pairs and thirteen orphans were found, and how many bytes their records need
+abbrev pub readingsIn : FoundSpecial → ℕ
+readingsIn f = cond (f .seven) 1 0 + cond (ltb (f .orphan) 34) 1 0
+
+abbrev pub bytesIn : FoundSpecial → ℕ
+bytesIn f = cond (f .seven) 11 0 + cond (ltb (f .orphan) 34) 5 0
+
+-- how many readings were found, and how many bytes their records need
+abbrev pub readingsFound : Found → ℕ
+readingsFound f = f .standard + readingsIn (f .special)
+
 abbrev pub bytesFound : Found → ℕ
-bytesFound f = f .standard * 13 + specialBytes (f .special)
+bytesFound f = f .standard * 13 + bytesIn (f .special)
 
 -- the records of seven pairs and of thirteen orphans, where they were found
 abbrev pub sevenRecords : List ℕ → Bool → List ℕ
@@ -41,8 +52,8 @@ specialRecords cs f = sevenRecords cs (f .seven) ++ orphanRecords (f .orphan)
 -- what was found of seven pairs and thirteen orphans is what there is
 pub record FindsSpecial (cs : List ℕ) (k : Calls) (f : FoundSpecial) : Type 0 where
   pub calls : length (called k) ≡ k .count
-  pub listed : records (uncalled (called k) (sevenPairs (held cs) ++ thirteenOrphans (held cs))) ≡ specialRecords cs f
-  pub counted : length (uncalled (called k) (sevenPairs (held cs) ++ thirteenOrphans (held cs))) ≡ specialReadings f
+  pub listed : records (specials cs k) ≡ specialRecords cs f
+  pub counted : length (specials cs k) ≡ readingsIn f
   pub pairs : f .seven ≡ true → isPairs (held cs) ≡ true
 
 -- what was found is what there is

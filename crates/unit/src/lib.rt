@@ -6,13 +6,14 @@ ghost use lib.ListN.{length};
 ghost use lib.Seq.{sets};
 ghost use Rattle.meld.specs.Meld.{key};
 ghost use Rattle.hand.specs.Counts.{held};
+ghost use Rattle.hand.specs.Records.{records};
 ghost use Rattle.hand.specs.Readings.{isPairs};
 ghost use Rattle.search.specs.Slots.{slotsOf};
 ghost use Rattle.decompose.specs.Packed.{inWords, Fit};
 ghost use Rattle.decompose.specs.Pairs.{OnlyAt};
 ghost use Rattle.checks.specs.Checks.{called, handCheck};
 ghost use Rattle.unit.specs.Listing.{listing, written, handReadings, handRecords};
-ghost use Rattle.unit.specs.FirstPass.{Finds, FindsSpecial, bytesFound, specialReadings, specialBytes, specialRecords, sevenRecords, orphanRecords, putCall};
+ghost use Rattle.unit.specs.FirstPass.{specials, standardRecords, Finds, FindsSpecial, readingsIn, bytesIn, readingsFound, bytesFound, sevenRecords, orphanRecords, putCall};
 
 // The answer to a listing: refused with a number, or listed, with the count of readings and the count of bytes written.
 pub enum Listing {
@@ -43,21 +44,30 @@ fn when(b: bool, n: usize) -> usize
 impl FoundSpecial {
     // How many readings they are.
     fn readings(self) -> usize
-        ensures { λ r. ⌜ (r ≡ specialReadings self) × (r ≤ 2) ⌝ }
+        ensures { λ r. ⌜ (r ≡ readingsIn self) × (r ≤ 2) ⌝ }
     {
         when(self.seven, 1) + when(self.orphan < 34, 1)
     }
 
     // How many bytes their records need.
     fn bytes(self) -> usize
-        ensures { λ r. ⌜ (r ≡ specialBytes self) × (r ≤ 16) ⌝ }
+        ensures { λ r. ⌜ (r ≡ bytesIn self) × (r ≤ 16) ⌝ }
     {
         when(self.seven, 11) + when(self.orphan < 34, 5)
     }
 }
 
 impl Found {
-    // How many bytes the records of all readings need.
+    // How many readings there are.
+    fn readings(self) -> usize
+        requires { ⌜ self .standard ≤ 2176 ⌝ }
+        ensures { λ r. ⌜ r ≡ readingsFound self ⌝ }
+    {
+        let special = self.special;
+        self.standard + special.readings()
+    }
+
+    // How many bytes their records need.
     fn bytes(self) -> usize
         requires { ⌜ self .standard ≤ 2176 ⌝ }
         ensures { λ r. ⌜ r ≡ bytesFound self ⌝ }
@@ -100,7 +110,7 @@ fn find_readings(
     let needed = 4 - (count % 256) as u32;
     Found {
         special: find_special(counts, k),
-        standard: decompose::count_standard(counts, h, places, needed),
+        standard: decompose::count_standard(h, places, needed),
     }
 }
 
@@ -149,32 +159,52 @@ fn write_orphan(orphan: usize, out: &mut [u8], at: usize) -> usize
     at
 }
 
-// Writes the records of seven pairs and of thirteen orphans where there are some. Answers the place behind them.
-fn write_special(counts: &[u8], special: FoundSpecial, out: &mut [u8]) -> usize
-    requires { ⌜ (length (now counts) ≡ 34) × ((special .seven ≡ true → isPairs (held (now counts)) ≡ true) × (length (specialRecords (now counts) special) ≤ length (now out))) ⌝ }
-    ensures { λ r. ⌜ (r ≡ length (specialRecords (now (counts .entry)) special)) × (now (out .exit) ≡ sets (now (out .entry)) 0 (specialRecords (now (counts .entry)) special)) ⌝ }
-{
-    let after_seven = write_seven(counts, special.seven, out);
-    write_orphan(special.orphan, out, after_seven)
+// What is written of seven pairs and thirteen orphans: how many readings, and the place behind their records.
+pub struct WrittenSpecial {
+    pub readings: usize,
+    pub end: usize,
 }
 
-// Writes all records, where the buffer has room for them. Answers how many readings they are of: each standard one has 13 bytes.
-fn write_readings(
-    counts: &[u8],
+// Writes the records of seven pairs and of thirteen orphans of a hand that has passed the checks.
+fn write_special(counts: &[u8], k: checks::Calls, out: &mut [u8]) -> WrittenSpecial
+    requires { ⌜ (handCheck (now counts) k ≡ 0) × (length (records (specials (now counts) k)) ≤ length (now out)) ⌝ }
+    ensures { λ r. ⌜ (r .readings ≡ length (specials (now (counts .entry)) k)) × ((r .readings ≤ 2) × ((r .end ≡ length (records (specials (now (counts .entry)) k))) × (now (out .exit) ≡ sets (now (out .entry)) 0 (records (specials (now (counts .entry)) k))))) ⌝ }
+{
+    let special = find_special(counts, k);
+    let after_seven = write_seven(counts, special.seven, out);
+    WrittenSpecial {
+        readings: special.readings(),
+        end: write_orphan(special.orphan, out, after_seven),
+    }
+}
+
+// The same where the first pass has found some, which is rare. They are found again, so that nothing of them is kept in between. Answers
+// the place behind them.
+fn write_found(counts: &[u8], k: checks::Calls, special: FoundSpecial, out: &mut [u8]) -> usize
+    requires { ⌜ (handCheck (now counts) k ≡ 0) × (FindsSpecial (now counts) k special × (length (records (specials (now counts) k)) ≤ length (now out))) ⌝ }
+    ensures { λ r. ⌜ (r ≡ length (records (specials (now (counts .entry)) k))) × (now (out .exit) ≡ sets (now (out .entry)) 0 (records (specials (now (counts .entry)) k))) ⌝ }
+{
+    if special.readings() == 0 {
+        return 0;
+    }
+    let written = write_special(counts, k, out);
+    written.end
+}
+
+// Writes the records of the standard readings. Answers the place behind them.
+fn write_standards(
     h: decompose::Packed,
     places: decompose::PairPlaces,
     k: checks::Calls,
-    special: FoundSpecial,
     out: &mut [u8],
+    at: usize,
 ) -> usize
-    requires { ⌜ (handCheck (now counts) k ≡ 0) × ((inWords h ≡ held (now counts)) × (Fit h × (OnlyAt (held (now counts)) places × (FindsSpecial (now counts) k special × (length (handRecords (now counts) k) ≤ length (now out)))))) ⌝ }
-    ensures { λ r. ⌜ (r ≡ length (handReadings (now (counts .entry)) k)) × ((r ≤ 2178) × (now (out .exit) ≡ sets (now (out .entry)) 0 (handRecords (now (counts .entry)) k))) ⌝ }
+    requires { ⌜ (k .count ≤ 4) × (Fit h × (OnlyAt (inWords h) places × (at + length (standardRecords (inWords h) k) ≤ length (now out)))) ⌝ }
+    ensures { λ r. ⌜ (r ≡ at + length (standardRecords (inWords h) k)) × (now (out .exit) ≡ sets (now (out .entry)) at (standardRecords (inWords h) k)) ⌝ }
 {
     let count = k.count;
     let needed = 4 - (count % 256) as u32;
-    let start = write_special(counts, special, out);
-    let end = decompose::write_standards(counts, h, places, needed, slots_of(k), out, start);
-    (end - start) / 13 + special.readings()
+    decompose::write_standards(h, places, needed, slots_of(k), out, at)
 }
 
 // Writes the records of all readings of a hand that has passed the checks, where the buffer has room for them. Answers how many they are.
@@ -182,10 +212,12 @@ pub fn write_all(counts: &[u8], k: checks::Calls, out: &mut [u8]) -> usize
     requires { ⌜ (handCheck (now counts) k ≡ 0) × (length (handRecords (now counts) k) ≤ length (now out)) ⌝ }
     ensures { λ r. ⌜ (r ≡ length (handReadings (now (counts .entry)) k)) × ((r ≤ 2178) × (now (out .exit) ≡ sets (now (out .entry)) 0 (handRecords (now (counts .entry)) k))) ⌝ }
 {
+    let special = write_special(counts, k, out);
+    let start = special.end;
     let h = decompose::pack(counts);
     let places = decompose::pair_places(counts);
-    let special = find_special(counts, k);
-    write_readings(counts, h, places, k, special, out)
+    let end = write_standards(h, places, k, out, start);
+    (end - start) / 13 + special.readings
 }
 
 // Lists the readings of a finished hand. A refusal answers its number and leaves the buffer as it was.
@@ -205,6 +237,7 @@ pub fn list_readings(counts: &[u8], k: checks::Calls, out: &mut [u8]) -> Listing
         return Listing::Refused(7);
     }
     let special = found.special;
-    let readings = write_readings(counts, h, places, k, special, out);
-    Listing::Listed(readings, bytes)
+    let start = write_found(counts, k, special, out);
+    write_standards(h, places, k, out, start);
+    Listing::Listed(found.readings(), bytes)
 }

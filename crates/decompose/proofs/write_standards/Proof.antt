@@ -1,77 +1,81 @@
 -- `decompose::write_standards` meets its contract. The loop's invariant is `Written`. Assumes nothing.
-use mathlib.Core.Path.{ap, _∙_}
+use mathlib.Core.Path.{sym, _∙_}
 use mathlib.Core.Logic.{⊎-elim}
-use Prim.Native.Nat.{ℕ, _+_, _-_}
+use Prim.Native.Nat.{_+_, _-_}
 use native.Mathlib.Omega.{arith}
 use borrow.Author.Needs.{needs}
-use Rattle.hand.specs.Counts.{held}
+use borrow.Author.Tests.{leb-true, leb-false}
+use Rattle.decompose.specs.Packed.{inWords}
 use Rattle.decompose.proofs.Turns.{Written, write-first, write-past, write-room, write-on, write-last, found-there}
 use Rattle.decompose.proofs.write_standards.Statement.{statement}
 use Rattle.decompose.proofs.write_standards.Tie as tie
 
 abbrev Inv-loop : tie.InvT-loop
-Inv-loop counts h needed slots out₀ at end pos₀ p₀ out pos p = Written needed (held counts) slots out₀ at p₀ out pos p
+Inv-loop h needed slots out₀ at end pos₀ p₀ out pos p = Written needed (inWords h) slots out₀ at p₀ out pos p
 
 abbrev μ-loop : tie.MeasureT-loop
-μ-loop counts h needed slots out₀ at end pos₀ p₀ out pos p = end - p
+μ-loop h needed slots out₀ at end pos₀ p₀ out pos p = end - p
 
 loop-holds : tie.Need-loop-holds Inv-loop μ-loop
 loop-holds c =
-    let s = c .before .before in
+    let s = c .before in
     let a = s .args in
-    write-first (a .needed) (held (a .counts .now)) (a .slots) (a .out .now) (a .at) (a .places .first) (a .places .end) (s .pre .1 .1 .1 .1 .0)
+    write-first (a .needed) (inWords (a .h)) (a .slots) (a .out .now) (a .at) (a .places .first) (a .places .end) (s .pre .1 .1 .0)
 
-shared-slice-read-if1 : tie.Need-shared-slice-read-if1 Inv-loop μ-loop
-shared-slice-read-if1 c = omega (arith, c .before .before .before .before .before .pre .1 .1 .1 .1 .0 .ends)
+cast-has-pair : tie.Need-cast-has-pair Inv-loop μ-loop
+cast-has-pair c = omega (arith, c .before .before .before .pre .1 .1 .0 .ends)
+
+has-pair-requires : tie.Need-has-pair-requires Inv-loop μ-loop
+has-pair-requires c κs = omega (arith, c .before .before .before .pre .1 .1 .0 .ends)
 
 cast-without-pair : tie.Need-cast-without-pair Inv-loop μ-loop
-cast-without-pair c = omega (arith, c .before .before .before .before .before .before .pre .1 .1 .1 .1 .0 .ends)
+cast-without-pair c = omega (arith, c .before .before .before .before .before .pre .1 .1 .0 .ends)
 
 without-pair-requires : tie.Need-without-pair-requires Inv-loop μ-loop
 without-pair-requires c κs =
-    let s = c .before .before .before .before .before .before in
-    let a = s .args in
-    let l = c .before .before .before .loop in
-    (omega (arith, s .pre .1 .1 .1 .1 .0 .ends), (s .pre .1 .1 .1 .0, omega (arith, ap (λ (f : ℕ → ℕ). f (l .p)) (s .pre .1 .1 .0))))
+    let s = c .before .before .before .before .before in
+    (omega (arith, s .pre .1 .1 .0 .ends), (s .pre .1 .0, leb-true 2 _ (sym (c .before .has-pair .ensures) ∙ c .if1 .taken)))
 
 cast-write-meld-combinations : tie.Need-cast-write-meld-combinations Inv-loop μ-loop
-cast-write-meld-combinations c = omega (arith, c .before .before .before .before .before .before .before .pre .1 .1 .1 .1 .0 .ends)
+cast-write-meld-combinations c = omega (arith, c .before .before .before .before .before .before .pre .1 .1 .0 .ends)
 
 write-meld-combinations-requires : tie.Need-write-meld-combinations-requires Inv-loop μ-loop
 write-meld-combinations-requires c κs =
-    let s = c .before .before .before .before .before .before .before .before in
+    let s = c .before .before .before .before .before .before .before in
     let a = s .args in
     let l = c .before .before .before .before .before .loop in
-    let d = held (a .counts .now) in
+    let d = inWords (a .h) in
     let w = c .before .without-pair in
+    let two = leb-true 2 _ (sym (c .before .before .before .has-pair .ensures) ∙ c .before .before .if1 .taken) in
     let room =
-    write-room (a .needed) d (a .slots) (a .out .now) (a .at) (a .places .first) (a .places .end) (s .pre .1 .1 .1 .1 .0) (l .out) (l .pos) (l .p) (l .inv)
+    write-room (a .needed) d (a .slots) (a .out .now) (a .at) (a .places .first) (a .places .end) (s .pre .1 .1 .0) (l .out) (l .pos) (l .p) (l .inv)
     (c .before .before .before .before .loop-test .taken) _
-    (found-there (a .needed) d (l .p) (c .before .before .if1 .taken) (a .h) (s .pre .1 .1 .0) (w .result) (w .ensures .0))
-    (s .pre .1 .1 .1 .1 .1) in
+    (found-there (a .needed) d (l .p) two (w .result) (w .ensures .0))
+    (s .pre .1 .1 .1) in
     (search needs, (w .ensures .1, room))
 
 add-p : tie.Need-add-p Inv-loop μ-loop
-add-p c = omega (arith, c .before .before .before .before .before .before .pre .1 .1 .1 .1 .0 .ends)
+add-p c = omega (arith, c .before .before .before .before .before .pre .1 .1 .0 .ends)
 
 loop-less : tie.Need-loop-less Inv-loop μ-loop
 loop-less c = search needs
 
 loop-again : tie.Need-loop-again Inv-loop μ-loop
 loop-again c =
-    let s = c .before .before .before .before .before .before in
+    let s = c .before .before .before .before .before in
     let a = s .args in
     let l = c .before .before .before .loop in
-    let d = held (a .counts .now) in
+    let d = inWords (a .h) in
+    let t = sym (c .before .has-pair .ensures) in
     let more = c .before .before .loop-test .taken in
     ⊎-elim {C = Written (a .needed) d (a .slots) (a .out .now) (a .at) (a .places .first) (c .if1 .out) (c .if1 .pos) (l .p + 3)}
     (λ w.
-    write-on (a .needed) d (a .slots) (a .out .now) (a .at) (a .places .first) (a .places .end) (s .pre .1 .1 .1 .1 .0) (l .out) (l .pos) (l .p) (l .inv) more _
-    (found-there (a .needed) d (l .p) (w .0 .taken) (a .h) (s .pre .1 .1 .0) (w .1 .result) (w .1 .ensures .0))
+    write-on (a .needed) d (a .slots) (a .out .now) (a .at) (a .places .first) (a .places .end) (s .pre .1 .1 .0) (l .out) (l .pos) (l .p) (l .inv) more _
+    (found-there (a .needed) d (l .p) (leb-true 2 _ (t ∙ w .0 .taken)) (w .1 .result) (w .1 .ensures .0))
     (c .if1 .out) (c .if1 .pos) (w .7 ∙ w .3 .ensures .0) (w .6 ∙ w .3 .ensures .1))
     (λ w.
-    write-past (a .needed) d (a .slots) (a .out .now) (a .at) (a .places .first) (a .places .end) (s .pre .1 .1 .1 .1 .0) (l .out) (l .pos) (l .p) (l .inv) more (w .0 .left)
-    (c .if1 .out) (c .if1 .pos) (w .2) (w .1))
+    write-past (a .needed) d (a .slots) (a .out .now) (a .at) (a .places .first) (a .places .end) (s .pre .1 .1 .0) (l .out) (l .pos) (l .p) (l .inv) more
+    (leb-false 2 _ (t ∙ w .0 .left)) (c .if1 .out) (c .if1 .pos) (w .2) (w .1))
     (c .if1 .came)
 
 same-length : tie.Need-same-length Inv-loop μ-loop
@@ -79,11 +83,10 @@ same-length c = c .before .loop .inv .kept
 
 returns : tie.Need-returns Inv-loop μ-loop
 returns c =
-    let s = c .before .before .before .before in
+    let s = c .before .before .before in
     let a = s .args in
     let l = c .before .loop in
-    let d = held (a .counts .now) in
-    write-last (a .needed) d (a .slots) (a .out .now) (a .at) (a .places .first) (a .places .end) (s .pre .1 .1 .1 .1 .0) (l .out) (l .pos) (l .p) (l .inv) (c .loop-test .left)
+    write-last (a .needed) (inWords (a .h)) (a .slots) (a .out .now) (a .at) (a .places .first) (a .places .end) (s .pre .1 .1 .0) (l .out) (l .pos) (l .p) (l .inv) (c .loop-test .left)
 
 pub write-standards-spec : {M : Type 1} → statement M
 write-standards-spec =
@@ -92,7 +95,8 @@ write-standards-spec =
     Inv-loop
     μ-loop
     loop-holds
-    shared-slice-read-if1
+    cast-has-pair
+    has-pair-requires
     cast-without-pair
     without-pair-requires
     cast-write-meld-combinations

@@ -9,7 +9,7 @@ use borrow.Fn.PlainCycle.{Measures, is, falls, and}
 use lib.ListN.{length}
 use Rattle.meld.specs.Meld.{meld}
 use Rattle.hand.specs.Readings.{meldLists}
-use Rattle.search.specs.Remaining.{left, hasSequence, hasTriplet}
+use Rattle.search.specs.Remaining.{split, left, hasSequence, hasTriplet}
 use Rattle.search.proofs.Parts.{first, Going, at-end, too-few, too-many, counted-part, counted-none, counted-all}
 use Rattle.search.proofs.count_meld_combinations.Reads as count
 use Rattle.search.proofs.count_meld_combinations.Kinds as kinds
@@ -58,19 +58,19 @@ module _ (t : ℕ) where
   returns c =
       let e = c .before .before .is-empty in
       let a = c .before .before .before .args in
-      (sym (ap length (at-end (a .needed) (a .s) (c .if2 .taken) (sym (e .ensures) ∙ c .before .if1 .taken))), omega arith)
+      (sym (ap length (at-end (a .needed) (split (a .s)) (c .if2 .taken) (sym (e .ensures) ∙ c .before .if1 .taken))), omega arith)
 
   returns-2 : lts.Need-returns-2 claims Pre count.Post
   returns-2 c =
       let e = c .before .before .is-empty in
       let a = c .before .before .before .args in
-      (sym (ap length (too-few (a .needed) (a .s) (c .if2 .left) (sym (e .ensures) ∙ c .before .if1 .taken))), omega arith)
+      (sym (ap length (too-few (a .needed) (split (a .s)) (c .if2 .left) (sym (e .ensures) ∙ c .before .if1 .taken))), omega arith)
 
   returns-3 : lts.Need-returns-3 claims Pre count.Post
   returns-3 c =
       let e = c .before .before .is-empty in
       let a = c .before .before .before .args in
-      (sym (ap length (too-many (a .needed) (a .s) (c .if3 .taken) (sym (e .ensures) ∙ c .before .if1 .left))), omega arith)
+      (sym (ap length (too-many (a .needed) (split (a .s)) (c .if3 .taken) (sym (e .ensures) ∙ c .before .if1 .left))), omega arith)
 
   -- ---- at the lowest tile
 
@@ -78,7 +78,7 @@ module _ (t : ℕ) where
   lowest-requires c κs = (c .before .before .before .pre .1 .1, sym (c .before .before .is-empty .ensures) ∙ c .before .if1 .left)
 
   going : (c : lts.After-lowest claims Pre count.Post)
-      → Going (c .before .before .before .before .args .needed) (c .before .before .before .before .args .s) (c .lowest .result)
+      → Going (c .before .before .before .before .args .needed) (split (c .before .before .before .before .args .s)) (split (c .lowest .result))
   going c = record { some = c .before .if3 .left; lowest = c .lowest .ensures .0; same = c .lowest .ensures .1 }
 
   -- ---- the sequence
@@ -101,14 +101,14 @@ module _ (t : ℕ) where
   abbrev First : lts.Joined4 claims Pre count.Post → Type 0
   First c =
       let l = c .before .before in
-      c .if4 .total ≡ length (first (l .before .before .before .before .args .needed) (l .lowest .result))
+      c .if4 .total ≡ length (first (l .before .before .before .before .args .needed) (split (l .lowest .result)))
 
   first-counted : (c : lts.Joined4 claims Pre count.Post) → First c
   first-counted c =
       let h = c .before .has-sequence in
       let l = c .before .before in
       let n = l .before .before .before .before .args .needed in
-      let q = l .lowest .result in
+      let q = split (l .lowest .result) in
       let m = meld (q .tile) 0 in
       ⊎-elim {C = First c}
       (λ w.
@@ -118,7 +118,7 @@ module _ (t : ℕ) where
       (n - 1)
       m
       (left q)
-      (left (w .1 .result))
+      (left (split (w .1 .result)))
       (w .2 .result)
       (sym (h .ensures) ∙ w .0 .taken)
       (w .1 .ensures .same)
@@ -149,7 +149,7 @@ module _ (t : ℕ) where
       let j = c .before .before .before .before in
       let a = j .before .before .before .before .before .before .args in
       let r = j .if4 .total + c .count-meld-combinations2 .result in
-      (r ≡ length (meldLists (a .needed) (left (a .s)))) × (r ≤ 16)
+      (r ≡ length (meldLists (a .needed) (left (split (a .s))))) × (r ≤ 16)
 
   both-counted : (c : lts.After-count-meld-combinations2 claims Pre count.Post) → Both c
   both-counted c =
@@ -159,10 +159,10 @@ module _ (t : ℕ) where
       let j = c .before .before .before .before in
       let l = j .before .before in
       let s = l .before .before .before .before in
-      let q = l .lowest .result in
+      let q = split (l .lowest .result) in
       counted-all
       (s .args .needed)
-      (s .args .s)
+      (split (s .args .s))
       q
       (j .if4 .total)
       (d .result)
@@ -176,7 +176,7 @@ module _ (t : ℕ) where
       (s .args .needed - 1)
       (meld (q .tile) 2)
       (left q)
-      (left (r .result))
+      (left (split (r .result)))
       (d .result)
       (sym (h .ensures) ∙ c .before .before .if5 .taken)
       (r .ensures .same)
@@ -196,10 +196,10 @@ module _ (t : ℕ) where
       let j = c .before .before in
       let l = j .before .before in
       let s = l .before .before .before .before in
-      let q = l .lowest .result in
+      let q = split (l .lowest .result) in
       counted-all
       (s .args .needed)
-      (s .args .s)
+      (split (s .args .s))
       q
       (j .if4 .total)
       0

@@ -1,11 +1,10 @@
 -- `unit::find_readings` meets its contract. Assumes nothing.
-use mathlib.Core.Path.{_≡_, ap, _∙_}
+use mathlib.Core.Path.{_≡_, sym, ap₂, _∙_, subst}
 use Prim.Native.Nat.{ℕ, _-_, _%_}
 use native.Mathlib.Omega.{arith}
 use lib.ListN.{length}
 use Rattle.tile.specs.Tile.{tiles}
-use Rattle.hand.specs.Counts.{held}
-use Rattle.decompose.specs.Pairs.{foundWith}
+use Rattle.decompose.specs.Pairs.{foundWith, OnlyAt}
 use Rattle.checks.proofs.Passed.{passed}
 use borrow.Author.Needs.{needs}
 use Rattle.unit.proofs.find_readings.Statement.{statement}
@@ -26,18 +25,17 @@ find-special-requires c κs = search needs
 count-standard-requires : tie.Need-count-standard-requires
 count-standard-requires c κs =
     let s = c .before .before in
-    (passed (s .args .counts .now) (s .args .k) (s .pre .0) .long, (omega arith, s .pre .1))
+    (omega arith, (s .pre .1 .1 .0, subst (λ (d : ℕ → ℕ). OnlyAt d (s .args .places)) (sym (s .pre .1 .0)) (s .pre .1 .1 .1)))
 
 returns : tie.Need-returns
 returns c =
     let s = c .before .before .before in
-    let cs = s .args .counts .now in
     let k = s .args .k in
-    let few = passed cs k (s .pre .0) .few in
+    let few = passed (s .args .counts .now) k (s .pre .0) .few in
     let n : 4 - k .count % 256 ≡ 4 - k .count = omega arith in
     record {
       special = c .before .find-special .ensures;
-      standard = c .count-standard .ensures .0 ∙ ap (λ (m : ℕ). length (foundWith m (held cs) tiles)) n;
+      standard = c .count-standard .ensures .0 ∙ ap₂ (λ (m : ℕ) (d : ℕ → ℕ). length (foundWith m d tiles)) n (s .pre .1 .0);
       few = c .count-standard .ensures .1;
     }
 

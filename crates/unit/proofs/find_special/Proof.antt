@@ -2,7 +2,7 @@
 use mathlib.Core.Path.{_≡_, sym, ap, _∙_}
 use mathlib.Core.Bool.{Bool, true, false}
 use mathlib.Core.List.{_++_}
-use Prim.Native.Nat.{ℕ, _+_}
+use Prim.Native.Nat.{ℕ}
 use native.Mathlib.Omega.{arith}
 use lib.ListN.{length, length-map}
 use Rattle.hand.specs.Counts.{held}
@@ -10,14 +10,13 @@ use Rattle.hand.specs.Records.{records}
 use Rattle.hand.specs.Readings.{sevenPairs, thirteenOrphans}
 use Rattle.checks.specs.Checks.{called}
 use Rattle.checks.proofs.Passed.{passed, called-length}
-use Rattle.unit.specs.FirstPass.{specialRecords}
-use borrow.Author.Needs.{needs}
+use Rattle.unit.specs.FirstPass.{specials, specialRecords}
 use Rattle.unit.proofs.Special.{special-records, special-count, nothing-called, something-called}
 use Rattle.unit.proofs.find_special.Statement.{statement}
 use Rattle.unit.proofs.find_special.Tie as tie
 
 returns : tie.Need-returns
-unfolding specialRecords
+unfolding specialRecords specials
 returns c =
     let s = c .before .before in
     let cs = s .args .counts .now in
@@ -49,7 +48,7 @@ check-kokushi-requires c κs =
     (passed (s .args .counts .now) (s .args .k) (s .pre) .long, c .before .kinds-present .ensures)
 
 returns-2 : tie.Need-returns-2
-unfolding specialRecords
+unfolding specialRecords specials
 returns-2 c =
     let s = c .before .before .before .before .before in
     let cs = s .args .counts .now in

@@ -1,25 +1,15 @@
 -- `unit::list_readings` meets its contract: the answer and the whole buffer, for every input. Assumes nothing.
-use mathlib.Core.Path.{_≡_, sym, ap, _∙_}
-use mathlib.Core.List.{List}
-use Prim.Native.Nat.{ℕ, _+_, _*_}
+use mathlib.Core.Path.{sym, _∙_, subst}
+use Prim.Native.Nat.{ℕ}
 use native.Mathlib.Omega.{arith}
 use lib.ListN.{length}
-use Rattle.checks.specs.declared.Calls.{Calls}
-use Rattle.checks.specs.Checks.{handCheck}
+use Rattle.decompose.specs.Pairs.{OnlyAt}
 use Rattle.checks.proofs.Passed.{passed}
-use Rattle.unit.specs.declared.Found.{Found}
-use Rattle.unit.specs.Listing.{handRecords}
-use Rattle.unit.specs.FirstPass.{Finds, bytesFound, specialBytes}
 use Rattle.unit.proofs.Answers.{refused-answer, refused-buffer, short-answer, short-buffer, listed-answer, listed-buffer}
-use Rattle.unit.proofs.Listed.{bytes-counted}
+use Rattle.unit.proofs.Listed.{bytes-are, readings-are, records-length, room-behind, all-written}
 use borrow.Author.Needs.{needs}
 use Rattle.unit.proofs.list_readings.Statement.{statement}
 use Rattle.unit.proofs.list_readings.Tie as tie
-
--- the bytes that the first pass counts are those of the records
-bytes-needed : (cs : List ℕ) (k : Calls) → handCheck cs k ≡ 0 → (f : Found) → Finds cs k f → (b : ℕ) → b ≡ bytesFound f → length (handRecords cs k) ≡ b
-bytes-needed cs k ok f finds b e =
-    bytes-counted cs k ok (f .special) (finds .special) ∙ ap (λ (n : ℕ). n * 13 + specialBytes (f .special)) (sym (finds .standard)) ∙ sym e
 
 check-hand-requires : tie.Need-check-hand-requires
 check-hand-requires c κs = search needs
@@ -55,34 +45,63 @@ returns-2 : tie.Need-returns-2
 returns-2 c =
     let a = c .before .before .before .before .before .before .before .before .before .args in
     let ok = sym (c .before .before .before .before .before .before .check-hand .ensures) ∙ c .before .before .before .before .before .if1 .left in
-    let need = bytes-needed (a .counts .now) (a .k) ok _ (c .before .before .find-readings .ensures) _ (c .before .bytes .ensures) in
+    let need = bytes-are (a .counts .now) (a .k) ok _ (c .before .before .find-readings .ensures) ∙ sym (c .before .bytes .ensures) in
     let short = c .if2 .taken in (
       short-answer (a .counts .now) (a .k) ok (length (a .out .now)) (omega (arith, need, short)),
       short-buffer (a .counts .now) (a .k) ok (a .out .now) (omega (arith, need, short)),
     )
 
-write-readings-requires : tie.Need-write-readings-requires
-write-readings-requires c κs =
+write-found-requires : tie.Need-write-found-requires
+write-found-requires c κs =
     let a = c .before .before .before .before .before .before .before .before .before .before .before .args in
     let ok = sym (c .before .before .before .before .before .before .before .before .check-hand .ensures) ∙ c .before .before .before .before .before .before .before .if1 .left in
     let f = c .before .before .before .before .find-readings .ensures in
-    let need = bytes-needed (a .counts .now) (a .k) ok _ f _ (c .before .before .before .bytes .ensures) in
+    let need = bytes-are (a .counts .now) (a .k) ok _ f ∙ sym (c .before .before .before .bytes .ensures) in
     let room = c .before .before .if2 .left in
-    (ok, (c .before .before .before .before .before .before .pack .ensures .0, (c .before .before .before .before .before .before .pack .ensures .1, (c .before .before .before .before .before .pair-places .ensures, (f .special, omega (arith, need, room))))))
+    (ok, (f .special, omega (arith, need, room, records-length (a .counts .now) (a .k) ok (f .special .calls))))
+
+write-standards-requires : tie.Need-write-standards-requires
+write-standards-requires c κs =
+    let t = c .before .before .before .before .before .before .before .before in
+    let a = t .before .before .before .before .before .before .before .args in
+    let ok = sym (t .before .before .before .before .check-hand .ensures) ∙ t .before .before .before .if1 .left in
+    let f = t .find-readings .ensures in
+    let h = t .before .before .pack in
+    let need = bytes-are (a .counts .now) (a .k) ok _ f ∙ sym (c .before .before .before .before .before .before .before .bytes .ensures) in
+    let room = c .before .before .before .before .before .before .if2 .left in
+    let w = c .before .before .before .write-found .ensures in (
+      passed (a .counts .now) (a .k) ok .few,
+      (
+        h .ensures .1,
+        (
+          subst (λ (d : ℕ → ℕ). OnlyAt d (t .before .pair-places .result)) (sym (h .ensures .0)) (t .before .pair-places .ensures),
+          omega (arith, room-behind (a .counts .now) (a .k) ok (f .special .calls) (h .result) (h .ensures .0) (a .out .now) _ _ (w .1) (w .0) (omega (arith, need, room))),
+        ),
+      ),
+    )
+
+readings-requires : tie.Need-readings-requires
+readings-requires c κs = c .before .before .before .before .before .before .before .before .before .before .before .find-readings .ensures .few
 
 same-length : tie.Need-same-length
 same-length c = search needs
 
 returns-3 : tie.Need-returns-3
 returns-3 c =
-    let a = c .before .before .before .before .before .before .before .before .before .before .before .before .before .before .args in
-    let ok = sym (c .before .before .before .before .before .before .before .before .before .before .before .check-hand .ensures) ∙ c .before .before .before .before .before .before .before .before .before .before .if1 .left in
-    let need = bytes-needed (a .counts .now) (a .k) ok _ (c .before .before .before .before .before .before .before .find-readings .ensures) _ (c .before .before .before .before .before .before .bytes .ensures) in
-    let room = c .before .before .before .before .before .if2 .left in
-    let w = c .before .before .write-readings in (
-      listed-answer (a .counts .now) (a .k) ok (length (a .out .now)) (w .result) (c .before .before .before .before .before .before .bytes .result)
-          (omega (arith, need, room)) (w .ensures .0) (sym need),
-      listed-buffer (a .counts .now) (a .k) ok (a .out .now) _ (omega (arith, need, room)) (w .ensures .1 .1),
+    let b = c .before .before .before .before .before .before .before .before .before .before .before in
+    let t = b .before in
+    let a = t .before .before .before .before .before .before .before .args in
+    let ok = sym (t .before .before .before .before .check-hand .ensures) ∙ t .before .before .before .if1 .left in
+    let f = t .find-readings .ensures in
+    let h = t .before .before .pack in
+    let need = bytes-are (a .counts .now) (a .k) ok _ f ∙ sym (b .bytes .ensures) in
+    let count = readings-are (a .counts .now) (a .k) ok _ f ∙ sym (c .readings .ensures) in
+    let room = c .before .before .before .before .before .before .before .before .before .before .if2 .left in
+    let w = c .before .before .before .before .before .before .before .write-found .ensures in
+    let d = c .before .before .before .write-standards .ensures in (
+      listed-answer (a .counts .now) (a .k) ok (length (a .out .now)) (c .readings .result) (b .bytes .result) (omega (arith, need, room)) (sym count) (sym need),
+      listed-buffer (a .counts .now) (a .k) ok (a .out .now) _ (omega (arith, need, room))
+          (all-written (a .counts .now) (a .k) ok (f .special .calls) (h .result) (h .ensures .0) (a .out .now) _ _ (w .1) (w .0) _ (d .1)),
     )
 
 pub list-readings-spec : {M : Type 1} → statement M
@@ -96,6 +115,8 @@ list-readings-spec =
     find-readings-requires
     bytes-requires
     returns-2
-    write-readings-requires
+    write-found-requires
+    write-standards-requires
+    readings-requires
     same-length
     returns-3)
