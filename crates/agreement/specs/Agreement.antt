@@ -38,7 +38,7 @@ pub record SameAnswer (a b : ScoreAnswer) : Type 0 where
   pub same-basic : a .score .«basic_points» ≡ b .score .«basic_points»
   pub same-payment : a .score .payment ≡ b .score .payment
 
--- what a listing leaves in the buffer that the caller lends: the records of the readings rs in their order, each once, and behind them its old bytes
+-- what a listing leaves in the buffer that the caller lends: the records of the readings rs in their order, each once, and after them its old bytes
 pub record Writes (rs : List Reading) (buffer left : List ℕ) : Type 0 where
   pub listed : List Reading
   pub these : List·Permᴰ listed rs

@@ -12,6 +12,7 @@ use Rattle.reading_score.specs.Score.{rank}
 use Rattle.choice.specs.declared.ScoreAnswer.{ScoreAnswer}
 
 -- ---- what is answered: a refusal's number alone, or 0 with the number of a reading, counted from 0, and its score
+-- what fills the place of the score beside a refusal: zeros, Normal, a ron of 0
 abbrev pub noScore : ScoringResult
 noScore =
     record {
@@ -31,10 +32,12 @@ abbrev pub scored : ℕ → ScoringResult → ScoreAnswer
 scored i x = record { number = 0; reading = i; score = x }
 
 -- ---- the choice: the first of the scores with the greatest rank
+-- the greatest of a list of numbers, 0 of none
 abbrev pub greatest : List ℕ → ℕ
 greatest [] = 0
 greatest (n ∷ ns) = max n (greatest ns)
 
+-- none is chosen, or the score with its number
 pub data Choice : Type 0 where
   none : Choice
   chosen : ℕ → ScoringResult → Choice
@@ -44,7 +47,7 @@ abbrev pub first : (ScoringResult → ℕ) → ℕ → ℕ → List ScoringResul
 first f b i [] = none
 first f b i (x ∷ xs) = cond (eqb (f x) b) (chosen i x) (first f b (suc i) xs)
 
--- a score of rank 0 is never chosen
+-- the first of the scores to which f gives the greatest rank; one of rank 0 is never chosen
 unfoldable pub chooseBy : (ScoringResult → ℕ) → List ScoringResult → Choice
 chooseBy f xs = cond (eqb (greatest (map f xs)) 0) none (first f (greatest (map f xs)) 0 xs)
 

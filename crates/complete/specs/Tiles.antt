@@ -1,4 +1,4 @@
--- Which tiles a reading has, and which tiles are in play. These are definitions.
+-- Which tiles a reading has, and that a hand and its calls have only allowed tiles, whichever these are. These are definitions.
 use mathlib.Core.Bool.{Bool, _||_}
 use mathlib.Core.List.{List, List·Memᴰ}
 use Prim.Native.Nat.{ℕ, _<_, _≤_}
@@ -15,9 +15,10 @@ inReading (pairs ps) t = any (eqb t) ps
 inReading (orphans p) t = isTerminalOrHonor t || eqb t p
 inReading (standard p ms) t = eqb t p || any (λ m. leb 1 (uses m t)) ms
 
--- each tile that the hand holds is allowed; each tile of each call
+-- each tile of the hand is allowed
 abbrev pub HandAllowed : (ℕ → Bool) → (ℕ → ℕ) → Type 0
 HandAllowed allowed c = (t : ℕ) → t < 34 → 1 ≤ c t → T (allowed t)
 
+-- each tile of each call is allowed
 abbrev pub CallsAllowed : (ℕ → Bool) → List Meld → Type 0
 CallsAllowed allowed k = (m : Meld) → List·Memᴰ m k → (t : ℕ) → t < 34 → 1 ≤ uses m t → T (allowed t)

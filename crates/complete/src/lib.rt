@@ -1,7 +1,2 @@
-// Laws for a referee, which no code needs: the list of readings has each reading that the tiles admit, once, in the order of
-// records, and nothing else; its tiles are among the tiles in play; and how many bytes the records of a hand need at most.
-
-// Nothing to run.
-pub fn nothing() -> usize {
-    0
-}
+// Laws for a referee: the list of readings has each reading that the tiles admit, once, in the order of
+// records, and nothing else; its tiles are among the tiles in play; and how many bytes the records of a hand need at most. No code of its own.

@@ -1,4 +1,5 @@
--- Questions about a win, and the renamed win. These are definitions.
+-- A win (GameContext in agari): how it was won, the winning tile, both winds and eight flags. Questions about it, and the win renamed. These are
+-- definitions.
 use mathlib.Core.Bool.{Bool, _&&_}
 use lib.Dec.{eqb, ltb}
 use Rattle.tile.specs.Tile.{isWind}
@@ -18,7 +19,7 @@ isDealer w = eqb (w .«seat_wind») 27
 abbrev pub inRange : GameContext → Bool
 inRange w = ltb (w .«win_type») 2 && (isWind (w .«round_wind») && isWind (w .«seat_wind»))
 
--- winds and flags stay, the winning tile is renamed
+-- type, winds and flags stay, the winning tile is renamed
 abbrev pub renWin : Renaming → GameContext → GameContext
 renWin ρ w =
     record {

@@ -1,4 +1,5 @@
--- The counts that two packed words stand for: man and pin in the low one, sou and the honors in the high one. These are definitions.
+-- How the code keeps the counts, in two packed words, man and pin in the low one, sou and the honors in the high one; no rule of the game.
+-- These are definitions.
 use mathlib.Core.Path.{_≡_}
 use mathlib.Core.Bool.{cond}
 use Prim.Native.Nat.{ℕ, zero, suc, _+_, _-_, _*_, _≤_}
@@ -15,7 +16,7 @@ packFrom c (suc n) a = packFrom c n (suc a) * 8 + c a
 unfoldable pub inWords : Packed → ℕ → ℕ
 inWords h t = cond (ltb t 18) (digit (h .low) t) (digit (h .high) (t - 18))
 
--- of no tile more than four, and nothing behind the last tile of either word
+-- of no tile more than four, and nothing above the last tile of either word
 pub record Fit (h : Packed) : Type 0 where
   pub few : (t : ℕ) → inWords h t ≤ 4
   pub low : (t : ℕ) → 18 ≤ t → digit (h .low) t ≡ 0

@@ -1,4 +1,4 @@
--- What is found with the tile p as the pair. These are definitions.
+-- How the code goes through the tiles that can be the pair; no rule of the game. These are definitions.
 use mathlib.Core.Path.{_≡_}
 use mathlib.Core.Bool.{cond}
 use mathlib.Core.List.{List, []}

@@ -1,5 +1,6 @@
--- What a reading is, and when the tiles admit it. A reading (a term of the scope paper; HandStructure in agari) is one way to
--- see a finished hand. c t is how many of the tile t the hand holds, calls not counted, and k are the calls. These are definitions.
+-- What a reading is, and when the tiles admit it. A reading (a term of the scope paper; HandStructure in agari) is one way to take a
+-- finished hand apart: seven pairs, thirteen orphans, or a pair and four melds. c t is how many of the tile t the hand holds, calls not
+-- counted, and k are the calls. These are definitions.
 use mathlib.Core.Path.{_≡_}
 use mathlib.Core.Bool.{Bool, cond}
 use mathlib.Core.List.{List, [], _++_}
@@ -41,6 +42,7 @@ pub record AdmitsStandard (c : ℕ → ℕ) (k : List Meld) (p : ℕ) (ms : List
   pub exact : (t : ℕ) → t < 34 → c t ≡ cond (eqb t p) 2 0 + sum (λ m. uses m t) hand
   pub whole : ms ≡ sorted (k ++ hand)
 
+-- the tiles c with the calls k admit the reading
 abbrev pub Admits : (ℕ → ℕ) → List Meld → Reading → Type 0
 Admits c k (pairs ps) = AdmitsPairs c k ps
 Admits c k (orphans p) = AdmitsOrphans c k p

@@ -11,13 +11,15 @@ use Rattle.meld.specs.declared.Meld.{Meld}
 use Rattle.meld.specs.Meld.{handMelds, sorted, uses}
 use Rattle.hand.specs.Reading.{Reading, pairs, orphans, standard}
 
--- no tile is left; the meld's tiles are there; what is left without them
+-- no tile is left
 abbrev pub isEmpty : (ℕ → ℕ) → Bool
 isEmpty c = allBelow 34 (λ t. eqb (c t) 0)
 
+-- the meld's tiles are there
 abbrev pub fits : Meld → (ℕ → ℕ) → Bool
 fits m c = allBelow 34 (λ t. leb (uses m t) (c t))
 
+-- what is left without the meld's tiles
 abbrev pub minus : (ℕ → ℕ) → Meld → ℕ → ℕ
 minus c m t = c t - uses m t
 
@@ -27,7 +29,7 @@ module _ {A B : Type 0} where
   suffixes f [] = []
   suffixes f (m ∷ ms) = f m (m ∷ ms) ++ suffixes f ms
 
--- the ascending lists of n melds out of ms that use up the counts c
+-- the ascending lists of n melds out of ms, a meld more than once too, that use up the counts c
 abbrev pub find : ℕ → (ℕ → ℕ) → List Meld → List (List Meld)
 find zero c ms = cond (isEmpty c) ([] ∷ []) []
 find (suc n) c ms = suffixes (λ m rest. cond (fits m c) (map (λ l. m ∷ l) (find n (minus c m) rest)) []) ms
@@ -45,13 +47,15 @@ unfoldable pub standardsAt : (ℕ → ℕ) → List Meld → ℕ → List Readin
 standardsAt c k p =
     cond (leb 2 (c p)) (map (λ l. standard p (sorted (k ++ l))) (meldLists (4 - length k) (lessPair c p))) []
 
--- the tiles of which there are two; seven pairs: every tile is there twice or not at all, and seven are there
+-- the tiles of which there are two
 abbrev pub twos : (ℕ → ℕ) → List ℕ
 twos c = keep (λ t. eqb (c t) 2) tiles
 
+-- every tile is there twice or not at all, and seven are there
 abbrev pub isPairs : (ℕ → ℕ) → Bool
 isPairs c = all (λ t. eqb (c t) 0 || eqb (c t) 2) tiles && eqb (length (twos c)) 7
 
+-- the reading as seven pairs, if they are that
 unfoldable pub sevenPairs : (ℕ → ℕ) → List Reading
 sevenPairs c = cond (isPairs c) (pairs (twos c) ∷ []) []
 
@@ -59,6 +63,7 @@ sevenPairs c = cond (isPairs c) (pairs (twos c) ∷ []) []
 abbrev pub isOrphans : (ℕ → ℕ) → ℕ → Bool
 isOrphans c p = isTerminalOrHonor p && all (λ t. eqb (c t) (one (isTerminalOrHonor t) + one (eqb t p))) tiles
 
+-- the reading as thirteen orphans, if they are that
 unfoldable pub thirteenOrphans : (ℕ → ℕ) → List Reading
 thirteenOrphans c = map orphans (keep (isOrphans c) tiles)
 

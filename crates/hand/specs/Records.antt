@@ -1,4 +1,5 @@
--- Records (a term of the scope paper): the bytes that stand for a reading in a buffer that the caller lends, and their order. These are definitions.
+-- The record (a term of the scope paper) of a reading: the bytes that stand for it in a buffer that the caller lends; and the order of records.
+-- These are definitions.
 use mathlib.Core.List.{List, [], _∷_, _++_}
 use Prim.Native.Nat.{ℕ, _+_, _/_, _%_}
 use lib.ListN.{length}

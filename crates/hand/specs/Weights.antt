@@ -1,5 +1,5 @@
--- Weights of tiles under which each meld of a hand weighs a multiple of 3: what the hand weighs then tells where its pair can be.
--- These are definitions.
+-- How the code knows where the pair can be; no rule of the game. Tiles get weights under which each meld of a hand weighs a multiple of 3, so
+-- what the whole hand weighs tells what the pair weighs. These are definitions.
 use mathlib.Core.Bool.{Bool}
 use Prim.Native.Nat.{ℕ, _*_, _/_, _%_}
 use lib.Dec.{eqb}
@@ -20,6 +20,6 @@ isWeighed f = all (λ m. eqb (weight f (uses m) % 3) 0) handMelds
 unfoldable pub inSuit : ℕ → ℕ → ℕ
 inSuit s t = one (eqb (t / 9) s)
 
--- what the tile's number leaves by 3: a triplet has three of the same, a sequence 0, 1 and 2
+-- the remainder of the tile's number by 3: a triplet has three times the same, a sequence 0, 1 and 2
 unfoldable pub byThree : ℕ → ℕ
 byThree t = t % 3

@@ -1,4 +1,4 @@
--- Questions and sums over a list that do not depend on its order, and tests over the numbers below a bound. These are definitions.
+-- Tests, sums and counts over a list, parts of a list, and the numbers below a bound. These are definitions.
 use mathlib.Core.Bool.{Bool, true, false, _&&_, _||_, cond}
 use mathlib.Core.List.{List, [], _∷_, _++_, map}
 use Prim.Native.Nat.{ℕ, zero, suc, _+_}

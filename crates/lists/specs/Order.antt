@@ -25,7 +25,8 @@ module _ {A : Type 0} (R : A → A → Type 0) where
   Pairwise [] = Unit {0}
   Pairwise (x ∷ l) = ((y : A) → List·Memᴰ y l → R x y) × Pairwise l
 
--- the order of a dictionary, on lists of numbers
+-- the order of a dictionary, on lists of numbers: the first place where they differ decides. A list and a longer one that begins with it
+-- do not compare
 abbrev pub Lex : List ℕ → List ℕ → Type 0
 Lex [] ys = ⊥
 Lex (x ∷ xs) [] = ⊥
@@ -36,7 +37,7 @@ module _ {A : Type 0} (eq : A → A → Bool) where
   abbrev pub times : A → List A → ℕ
   times m l = count (eq m) l
 
-  -- the list in the order of ms: each element of ms as often as it stands in the list
+  -- the list in the order of ms: each element of ms as often as it stands in the list; others fall out
   abbrev pub arrange : List A → List A → List A
   arrange [] l = []
   arrange (m ∷ ms) l = replicate (times m l) m ++ arrange ms l

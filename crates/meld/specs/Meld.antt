@@ -9,12 +9,15 @@ use Rattle.lists.specs.Order.{arrange}
 use Rattle.tile.specs.Tile.{isStart, tiles}
 use Rattle.meld.specs.declared.Meld.{Meld}
 
+-- a sequence, called or not
 abbrev pub isSequence : Meld → Bool
 isSequence m = ltb (m .kind) 2
 
+-- a triplet or a kan, called or not
 abbrev pub isTripletOrKan : Meld → Bool
 isTripletOrKan m = leb 2 (m .kind) && ltb (m .kind) 7
 
+-- a kan: closed, open or added
 abbrev pub isKan : Meld → Bool
 isKan m = leb 4 (m .kind) && ltb (m .kind) 7
 
@@ -34,7 +37,7 @@ isMeld m = ltb (m .kind) 7 && (ltb (m .tile) 34 && (leb 2 (m .kind) || isStart (
 abbrev pub isHandMeld : Meld → Bool
 isHandMeld m = isMeld m && (eqb (m .kind) 0 || eqb (m .kind) 2)
 
--- a meld that is called: any other
+-- a meld that is called: an open sequence, an open triplet or any kan, the closed one too
 abbrev pub isCall : Meld → Bool
 isCall m = isMeld m && not (eqb (m .kind) 0 || eqb (m .kind) 2)
 
@@ -42,7 +45,7 @@ isCall m = isMeld m && not (eqb (m .kind) 0 || eqb (m .kind) 2)
 abbrev pub key : Meld → ℕ
 key m = m .tile * 7 + m .kind
 
--- how many of the tile t a meld holds: a sequence one each of three tiles from its first on, a kan four of its tile, a triplet three
+-- how many of the tile t a meld holds: a sequence one each of its first tile and the two after it, a kan four of its tile, a triplet three
 abbrev pub runUses : ℕ → ℕ → ℕ
 runUses first t = one (leb first t && ltb t (first + 3))
 
@@ -52,13 +55,15 @@ setSize kan = cond kan 4 3
 abbrev pub uses : Meld → ℕ → ℕ
 uses m t = cond (isSequence m) (runUses (m .tile) t) (cond (eqb t (m .tile)) (setSize (isKan m)) 0)
 
+-- the same tile and kind
 abbrev pub eqMeld : Meld → Meld → Bool
 eqMeld m x = eqb (m .tile) (x .tile) && eqb (m .kind) (x .kind)
 
+-- the meld of the tile t and the kind k
 abbrev pub meld : ℕ → ℕ → Meld
 meld t k = record { tile = t; kind = k }
 
--- the melds of the tile t that a hand itself can hold, and all melds of t, by kind
+-- melds whose lowest tile is t, by kind: those that a hand itself can hold; triplets and kans; all
 abbrev pub handMeldsAt : ℕ → List Meld
 handMeldsAt t = cond (isStart t) (meld t 0 ∷ meld t 2 ∷ []) (meld t 2 ∷ [])
 
@@ -75,6 +80,6 @@ handMelds = flat handMeldsAt tiles
 abbrev pub melds : List Meld
 melds = flat meldsAt tiles
 
--- melds in ascending order
+-- melds in ascending order; what is no meld falls out, but calls have passed check 3
 abbrev pub sorted : List Meld → List Meld
 sorted l = arrange eqMeld melds l

@@ -30,7 +30,7 @@ fn is_set_of(m: meld::Meld, t: u8) -> bool
     m.is_triplet_or_kan() & (t == m.tile)
 }
 
-// Is it a triplet or kan of a dragon, of a wind?
+// Is it a triplet or kan of a dragon?
 fn is_dragon_set(m: meld::Meld) -> bool
     ensures { λ r. ⌜ r ≡ setOf isDragon m ⌝ }
 {
@@ -38,6 +38,7 @@ fn is_dragon_set(m: meld::Meld) -> bool
     m.is_triplet_or_kan() & t.is_dragon()
 }
 
+// Is it a triplet or kan of a wind?
 fn is_wind_set(m: meld::Meld) -> bool
     ensures { λ r. ⌜ r ≡ setOf isWind m ⌝ }
 {
@@ -52,7 +53,7 @@ fn is_end_run(m: meld::Meld) -> bool
     m.is_sequence() & ((m.tile % 9 == 0) | (m.tile % 9 == 6))
 }
 
-// Does it hold a terminal or an honor, a terminal?
+// Does it hold a terminal or an honor?
 fn holds_terminal_or_honor(m: meld::Meld) -> bool
     ensures { λ r. ⌜ r ≡ (endRun m || setOf isTerminalOrHonor m) ⌝ }
 {
@@ -60,6 +61,7 @@ fn holds_terminal_or_honor(m: meld::Meld) -> bool
     is_end_run(m) | (m.is_triplet_or_kan() & t.is_terminal_or_honor())
 }
 
+// Does it hold a terminal?
 fn holds_terminal(m: meld::Meld) -> bool
     ensures { λ r. ⌜ r ≡ (endRun m || setOf isTerminal m) ⌝ }
 {
@@ -103,7 +105,7 @@ fn count_sets(ms: [meld::Meld; 4], t: u8) -> u8
     )
 }
 
-// How many kans, dragon sets and wind sets there are.
+// How many kans there are.
 fn count_kans(ms: [meld::Meld; 4]) -> u8
     ensures { λ r. ⌜ (r ≡ kans ms) × (r ≤ 4) ⌝ }
 {
@@ -115,6 +117,7 @@ fn count_kans(ms: [meld::Meld; 4]) -> u8
     )
 }
 
+// How many triplets and kans of dragons there are.
 fn count_dragons(ms: [meld::Meld; 4]) -> u8
     ensures { λ r. ⌜ (r ≡ dragons ms) × (r ≤ 4) ⌝ }
 {
@@ -126,6 +129,7 @@ fn count_dragons(ms: [meld::Meld; 4]) -> u8
     )
 }
 
+// How many triplets and kans of winds there are.
 fn count_winds(ms: [meld::Meld; 4]) -> u8
     ensures { λ r. ⌜ (r ≡ winds ms) × (r ≤ 4) ⌝ }
 {
@@ -137,7 +141,7 @@ fn count_winds(ms: [meld::Meld; 4]) -> u8
     )
 }
 
-// How many triplets and kans are concealed.
+// How many triplets and kans are concealed; with `kept` a triplet of the ron tile too.
 fn count_concealed(ms: [meld::Meld; 4], w: context::GameContext, kept: bool) -> u8
     ensures { λ r. ⌜ (r ≡ count (concealed w kept) ms) × (r ≤ 4) ⌝ }
 {
@@ -224,7 +228,7 @@ fn runs_of_number(ms: [meld::Meld; 4], t: u8) -> bool
     (n < 7) & (has_run(ms, n) & (has_run(ms, n + 9) & has_run(ms, n + 18)))
 }
 
-// Is there the same sequence in all three suits? One of the first two melds is part of it.
+// Is there the same sequence in all three suits? That takes three of the four melds, so one of the first two is among them.
 fn is_sanshoku(ms: [meld::Meld; 4]) -> bool
     ensures { λ r. ⌜ r ≡ sanshokuDoujun ms ⌝ }
 {
@@ -253,7 +257,7 @@ fn sets_of_number(ms: [meld::Meld; 4], t: u8) -> bool
     has_set(ms, n) & (has_set(ms, n + 9) & has_set(ms, n + 18))
 }
 
-// Is there the same triplet in all three suits? One of the first two melds is part of it.
+// Is there the same triplet in all three suits? That takes three of the four melds, so one of the first two is among them.
 fn is_sanshoku_doukou(ms: [meld::Meld; 4]) -> bool
     ensures { λ r. ⌜ r ≡ sanshokuDoukou ms ⌝ }
 {
@@ -286,7 +290,7 @@ fn straight_of_suit(ms: [meld::Meld; 4], t: u8) -> bool
     has_run(ms, first) & (has_run(ms, first + 3) & has_run(ms, first + 6))
 }
 
-// Are 123, 456 and 789 of one suit there? One of the first two melds is part of it.
+// Are 123, 456 and 789 of one suit there? That takes three of the four melds, so one of the first two is among them.
 fn is_ittsu(ms: [meld::Meld; 4]) -> bool
     ensures { λ r. ⌜ r ≡ ittsu ms ⌝ }
 {

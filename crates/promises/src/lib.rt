@@ -1,6 +1,1 @@
-// What the unit promises, as laws about the definitions that the operations' contracts are equations with.
-
-// Nothing to run.
-pub fn nothing() -> usize {
-    0
-}
+// What the unit promises, as laws about the definitions that the operations' contracts are equations with. No code of its own.

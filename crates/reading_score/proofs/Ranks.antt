@@ -19,6 +19,7 @@ use Rattle.scoring.specs.Payment.{payment, totalAt}
 use Rattle.scoring.proofs.Laws as scoring
 use Rattle.reading_score.specs.declared.ScoringResult.{ScoringResult}
 use Rattle.reading_score.specs.Score.{result, scoreOf, hasYaku, yakumanFirst, inDigits, rank}
+use Rattle.reading_score.specs.Preferred.{Preferred, by-total, by-yakuman, by-han, by-fu}
 
 -- han and fu are bytes
 pub record Small (x : ScoringResult) : Type 0 where
@@ -63,22 +64,6 @@ first-le true = omega arith
 first-le false = omega arith
 
 -- ---- the order of ranks
--- y is preferred to x: the greater total; then a yakuman before none, more han, more fu
-pub data Preferred (x y : ScoringResult) : Type 0 where
-  by-total : totalAt 4 (x .payment) < totalAt 4 (y .payment) → Preferred x y
-  by-yakuman :
-      totalAt 4 (x .payment) ≡ totalAt 4 (y .payment)
-      → x .«is_yakuman» ≡ false → y .«is_yakuman» ≡ true → Preferred x y
-  by-han :
-      totalAt 4 (x .payment) ≡ totalAt 4 (y .payment)
-      → x .«is_yakuman» ≡ y .«is_yakuman»
-      → x .han < y .han → Preferred x y
-  by-fu :
-      totalAt 4 (x .payment) ≡ totalAt 4 (y .payment)
-      → x .«is_yakuman» ≡ y .«is_yakuman»
-      → x .han ≡ y .han
-      → x .fu < y .fu → Preferred x y
-
 -- a number is below, equal to or above another
 compare : (a b : ℕ) → (a < b) ⊎ ((a ≡ b) ⊎ (b < a))
 compare a b = go (decLe b a) (decLe a b)

@@ -1,5 +1,5 @@
--- The score of a reading: all that is answered of it. w is the win, `opened` whether something was called from another player, s what all
--- tiles together are, calls included, r the reading. These are definitions.
+-- The score of a reading: all that is answered of it. w is the win, `opened` whether something was called from another player, s the answers
+-- to the yaku that depend on the tiles alone (tile_yaku), r the reading. These are definitions.
 use mathlib.Core.Bool.{Bool, cond, not}
 use mathlib.Core.List.{List, [], _∷_}
 use Prim.Native.Nat.{ℕ, suc, _+_, _*_}
@@ -29,6 +29,7 @@ result w ts han fu yakuman =
       payment = payment (isTsumo w) (isDealer w) (basicPoints han fu yakuman);
     }
 
+-- the score of the reading r
 unfoldable pub scoreOf : GameContext → Bool → TileYaku → Reading → ScoringResult
 scoreOf w opened s r = result w (tallies w opened s r) (han w opened s r) (fu w opened r) (isYakuman w opened s r)
 
@@ -40,7 +41,8 @@ hasYaku x = any (λ n. not (eqb n 0)) (x .tallies)
 abbrev pub yakumanFirst : Bool → ℕ
 yakumanFirst yakuman = cond yakuman 1 0
 
--- four numbers as the digits of one, so that the first decides, then the second, and so on
+-- four numbers as the digits of one: as a yakuman is 0 or 1 and han and fu are below 256 (`han-small`, `fu-small`), the total decides, then
+-- the yakuman, and so on; the law `rank-order` says so
 abbrev pub inDigits : ℕ → ℕ → ℕ → ℕ → ℕ
 inDigits total yakuman han fu = ((total * 2 + yakuman) * 256 + han) * 256 + fu
 

@@ -1,5 +1,5 @@
--- The readings whose records stand in a buffer, one record after the other. These are definitions; the law `read-back` says that they
--- are the readings whose records were written.
+-- How the code reads records back from its buffer; no rule of the game. The law `read-back` says that it gets the readings whose records were
+-- written. These are definitions.
 use mathlib.Core.Bool.{Bool, cond}
 use mathlib.Core.List.{List, [], _∷_}
 use Prim.Native.Nat.{ℕ, zero, suc, _+_}

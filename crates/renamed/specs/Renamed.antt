@@ -1,4 +1,4 @@
--- The renamed hand: its readings and its counts, by a renaming (a term of the scope paper). These are definitions.
+-- The readings and the counts of a renamed hand (a renaming: tile/specs/Renaming.antt). These are definitions.
 use mathlib.Core.Bool.{Bool, _||_}
 use mathlib.Core.List.{List, map}
 use Prim.Native.Nat.{ℕ}

@@ -1,4 +1,4 @@
--- Calls from words. These are definitions.
+-- The call that a word of tiles given to the program `score` means. These are definitions.
 use mathlib.Core.Path.{_≡_}
 use mathlib.Core.Bool.{Bool, true, cond}
 use mathlib.Core.List.{List}

@@ -1,4 +1,4 @@
--- The win that the words have said. A definition.
+-- The win that the words given to the program `score` say. This is a definition.
 use mathlib.Core.Bool.{Bool, false}
 use Prim.Native.Nat.{ℕ, _+_, _%_}
 use lib.ListN.{getD}
@@ -6,11 +6,11 @@ use Rattle.lists.specs.Fold.{one}
 use Rattle.context.specs.declared.GameContext.{GameContext}
 use Rattle.score.specs.declared.said.Said.{Said}
 
--- the flag at a number
+-- a flag by its number: riichi, double riichi, ippatsu, rinshan, chankan, last tile, tenhou, chiihou
 abbrev pub flagAt : Said → ℕ → Bool
 flagAt s i = getD (s .flags) i false
 
--- winds are counted from East
+-- winds are said by numbers from 0, East
 abbrev pub winOf : Said → GameContext
 winOf s =
     record {

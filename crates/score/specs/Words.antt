@@ -1,4 +1,5 @@
--- Words of tiles: numbers, and behind them the letter of their suit. A character is its number. These are definitions.
+-- Words of tiles, as 222333444m: numbers, and after them the letter of their suit. Characters stand by their ASCII numbers: 48 to 57 are 0 to 9,
+-- 109 is m. These are definitions.
 use mathlib.Core.Path.{_≡_}
 use mathlib.Core.Bool.{Bool, true, _&&_, _||_, cond}
 use mathlib.Core.List.{List, [], _∷_}
@@ -17,7 +18,7 @@ suitOf c =
     cond (eqb c 109 || eqb c 77) 0
     (cond (eqb c 112 || eqb c 80) 1 (cond (eqb c 115 || eqb c 83) 2 (cond (eqb c 122 || eqb c 90) 3 4)))
 
--- the suit of the numbers at the start of a text: that of the first character behind them, 4 where there is none
+-- the suit of the numbers at the start of a text: that of the first character after them, 4 where there is none
 unfoldable pub suitAfter : List ℕ → ℕ
 suitAfter [] = 4
 suitAfter (c ∷ cs) = cond (isNumber c) (suitAfter cs) (suitOf c)
@@ -40,7 +41,7 @@ abbrev pub tilesIn : List ℕ → List ℕ
 tilesIn [] = []
 tilesIn (c ∷ cs) = readAt (c ∷ cs) ∷ tilesIn cs
 
--- a count and n more of its tile, up to 255, the most that a byte holds
+-- a count and n more of its tile, up to 255, the most that a byte holds; a count never falls
 abbrev pub addTo : ℕ → ℕ → ℕ
 addTo held n = max held (min (held + n) 255)
 

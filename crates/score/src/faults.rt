@@ -2,6 +2,7 @@
 ghost use Prim.Native.Nat.{_<_};
 use crate::text;
 
+// The faults by number; FAULTS says what each means, in this order.
 pub const UNKNOWN: u8 = 1;
 
 pub const NO_TILES: u8 = 2;

@@ -74,6 +74,7 @@ fn say_bad_input(s: said::Said) {
     text::say(b"\n");
 }
 
+// Takes the words and writes the readings and the answer, or what is wrong with the words.
 fn main() {
     let count = os::arg_count();
     if count < 2 {

@@ -13,7 +13,8 @@ use Rattle.hand.specs.Reading.{Reading, pairs, orphans, standard}
 use Rattle.wait.specs.Wait.{closedRun, edge, middle, pinfu, weight}
 use Rattle.wait.specs.Concealed.{concealed, spared}
 
--- a triplet: 2, doubled for terminals and honors, doubled where concealed; a kan four times as much; a sequence nothing
+-- a triplet: 2, doubled for terminals and honors, doubled where concealed; a kan four times as much; a sequence nothing. `kept`: a triplet of
+-- the ron tile stays concealed
 abbrev pub meldFu : GameContext → Bool → Meld → ℕ
 meldFu w kept m =
     cond (isSequence m) 0

@@ -18,7 +18,7 @@ payment tsumo dealer basic =
     (cond dealer (DealerTsumo (roundUpTo100 (basic * 2))) (Tsumo (roundUpTo100 (basic * 2)) (roundUpTo100 basic)))
     (Ron (roundUpTo100 (basic * cond dealer 6 4)))
 
--- the scope paper's values of a settlement: the total, from each non-dealer, from the dealer, from the discarder, at a table of so many players
+-- all that the winner receives by a settlement (who pays what, Payment in the code), at a table of so many players
 abbrev pub totalAt : ℕ → Payment → ℕ
 totalAt players (Ron n) = n
 totalAt players (DealerTsumo n) = n * (players - 1)

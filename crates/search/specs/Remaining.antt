@@ -1,4 +1,4 @@
--- The counts that packed words stand for. These are definitions.
+-- How the code keeps the tiles that are left, in packed words; no rule of the game. These are definitions.
 use mathlib.Core.Path.{_≡_}
 use mathlib.Core.Logic.{_⊎_}
 use mathlib.Core.Bool.{Bool, _&&_, cond}

@@ -1,5 +1,5 @@
--- Four slots of ascending numbers, into which melds are put by their numbers in the order of melds; 65535 is an empty slot.
--- These are definitions.
+-- How the code sorts melds; no rule of the game. A slot is a place for a meld's number (`key`: by tile, then by kind), 65535 where it is empty;
+-- four of them ascend. These are definitions.
 use mathlib.Core.Bool.{cond}
 use mathlib.Core.List.{List, [], _∷_, map}
 use Prim.Native.Nat.{ℕ, _/_, _%_}

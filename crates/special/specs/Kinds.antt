@@ -1,4 +1,5 @@
--- The kinds of tile that a hand holds, as set bits of one word; c t is how many of the tile t it holds. These are definitions.
+-- How the code counts the kinds of tile in a hand, as set bits of one word; no rule of the game. c t is how many of the tile t the hand holds.
+-- These are definitions.
 use mathlib.Core.Bool.{cond}
 use Prim.Native.Nat.{ℕ, zero, suc, _+_, _*_}
 use lib.Dec.{eqb}

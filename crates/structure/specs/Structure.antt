@@ -1,4 +1,4 @@
--- The reading that a value of the code stands for. These are definitions.
+-- The reading that a value of the code stands for: agari's HandStructure, with the melds and the pairs in arrays beside it. These are definitions.
 use mathlib.Core.List.{List}
 use Prim.Native.Nat.{ℕ}
 use Rattle.meld.specs.declared.Meld.{Meld}
@@ -7,7 +7,7 @@ use Rattle.structure.specs.declared.Hand.{Hand}
 use Rattle.structure.specs.declared.HandStructure.{HandStructure}
 use Rattle.structure.specs.declared.HandStructure.the-variants.{Standard, Chiitoitsu, Kokushi}
 
--- by the kind that the code says; ms are the melds and ps the pairs that stand beside it
+-- the reading of this case, with the melds ms or the pairs ps that stand beside it
 abbrev pub read : HandStructure → List Meld → List ℕ → Reading
 read (Standard pair) ms ps = standard (pair .0) ms
 read Chiitoitsu ms ps = pairs ps

@@ -1,5 +1,6 @@
--- Renamings (a term of the scope paper): one rule for all 34 tiles, in two independent parts, for the suits and for the honors.
--- These are definitions.
+-- A renaming (a term of the scope paper) gives every tile the name of another by one rule, under which a hand should keep its worth: the
+-- suits change places, all numbers n stay or all become 10 - n, White and Red stay or change places. Suits and honors are independent
+-- parts. These are definitions.
 use mathlib.Core.Bool.{Bool, _&&_, _||_, cond}
 use Prim.Native.Nat.{ℕ, _+_, _-_, _*_, _/_, _%_}
 use lib.Dec.{eqb, ltb}
@@ -30,7 +31,7 @@ renNumber ν t = suitTo (ν .suits) (t / 9) * 9 + cond (ν .mirror) (8 - t % 9) 
 abbrev pub renHonor : Honors → ℕ → ℕ
 renHonor η t = cond (η .dragons && (eqb t 31 || eqb t 33)) (64 - t) t
 
--- the tile that a tile becomes
+-- the tile that a tile becomes; a number above 33 stays
 abbrev pub ren : Renaming → ℕ → ℕ
 ren ρ t = cond (ltb t 27) (renNumber (ρ .numbers) t) (renHonor (ρ .honors) t)
 

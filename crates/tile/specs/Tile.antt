@@ -10,12 +10,15 @@ use Rattle.lists.specs.Fold.{upTo}
 abbrev pub isSuited : ℕ → Bool
 isSuited t = ltb t 27
 
+-- a wind or a dragon
 abbrev pub isHonor : ℕ → Bool
 isHonor t = leb 27 t && ltb t 34
 
+-- East, South, West, North
 abbrev pub isWind : ℕ → Bool
 isWind t = leb 27 t && ltb t 31
 
+-- White, Green, Red
 abbrev pub isDragon : ℕ → Bool
 isDragon t = leb 31 t && ltb t 34
 

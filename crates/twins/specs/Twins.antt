@@ -1,4 +1,5 @@
--- Whether two answers agree, as a question. These are definitions.
+-- Twins are a win and the same win renamed, each scored by the unit. Whether their two answers agree, as a test that code can make. These are
+-- definitions; `SameAnswer` in agreement/specs/Agreement.antt says it in words, and the law `agree-means` that yes means that.
 use mathlib.Core.Bool.{Bool, _&&_}
 use Prim.Native.Nat.{ℕ, _+_}
 use lib.Dec.{eqb}

@@ -1,4 +1,5 @@
--- What the first pass of a listing finds. These are definitions.
+-- How the code lists; no rule of the game. A first pass counts the readings and the bytes, so that nothing is written where they do not fit; a
+-- second writes. Special readings are seven pairs and thirteen orphans. These are definitions.
 use mathlib.Core.Path.{_≡_}
 use mathlib.Core.Bool.{Bool, true, cond}
 use mathlib.Core.List.{List, [], _∷_, _++_}
@@ -56,7 +57,7 @@ pub record FindsSpecial (cs : List ℕ) (k : Calls) (f : FoundSpecial) : Type 0 
   pub counted : length (specials cs k) ≡ readingsIn f
   pub pairs : f .seven ≡ true → isPairs (held cs) ≡ true
 
--- what was found is what there is
+-- what was found is what there is; `few` is far more than there can be, and keeps the code's sums in range
 pub record Finds (cs : List ℕ) (k : Calls) (f : Found) : Type 0 where
   pub special : FindsSpecial cs k (f .special)
   pub standard : f .standard ≡ length (foundWith (4 - k .count) (held cs) tiles)

@@ -13,7 +13,7 @@ use Rattle.checks.specs.Checks.{called, handCheck}
 use Rattle.unit.specs.declared.Listing.{Listing}
 use Rattle.unit.specs.declared.Listing.the-variants.{Refused, Listed}
 
--- the scope paper's values for each answer: the number (0 where accepted), the count of readings, the count of bytes written
+-- the numbers of an answer: the refusal, 0 where accepted; the count of readings; the count of bytes written
 abbrev pub numberOf : Listing → ℕ
 numberOf (Refused n) = n
 numberOf (Listed readings bytes) = 0
@@ -40,7 +40,7 @@ listing cs k room =
     (cond (leb (length (handRecords cs k)) room) (Listed (length (handReadings cs k)) (length (handRecords cs k))) (Refused 7))
     (Refused (handCheck cs k))
 
--- accepted, the buffer holds the records and behind them its old bytes; refused, its old bytes
+-- accepted, the buffer holds the records and after them its old bytes; refused, its old bytes
 unfoldable pub written : List ℕ → Calls → List ℕ → List ℕ
 written cs k buffer =
     cond (eqb (handCheck cs k) 0 && leb (length (handRecords cs k)) (length buffer))

@@ -1,5 +1,5 @@
--- Waits: what the winning tile t completed. A tile can have completed a reading in several ways, so waits are tallied.
--- Open sequences and open triplets were complete before the win and give no wait. These are definitions.
+-- Waits: what the winning tile t can have completed. There may be several ways, so waits are tallied: how often each. Calls, closed kans among
+-- them, were complete before the win and give no wait. These are definitions.
 use mathlib.Core.Bool.{Bool, false, _&&_, _||_, not}
 use mathlib.Core.List.{List, [], _∷_}
 use Prim.Native.Nat.{ℕ, _+_, _%_}
@@ -16,7 +16,7 @@ use Rattle.hand.specs.Reading.{Reading, pairs, orphans, standard}
 abbrev pub within : ℕ → ℕ → Bool
 within t s = leb s t && ltb t (s + 3)
 
--- Ryanmen: at an end, and a tile at the other end would have served too
+-- Ryanmen: its lowest tile, but not the 7 of 789, or its highest, but not the 3 of 123
 abbrev pub twoSided : ℕ → ℕ → Bool
 twoSided t s = eqb t s && not (eqb (s % 9) 6) || eqb t (s + 2) && not (eqb (s % 9) 0)
 
@@ -28,7 +28,7 @@ edge t s = eqb t s && eqb (s % 9) 6 || eqb t (s + 2) && eqb (s % 9) 0
 abbrev pub middle : ℕ → ℕ → Bool
 middle t s = eqb t (s + 1)
 
--- a closed sequence, asked so
+-- a closed sequence in which the tile t stands as the question q says: within, twoSided, edge or middle
 abbrev pub closedRun : (ℕ → ℕ → Bool) → ℕ → Meld → Bool
 closedRun q t m = eqb (m .kind) 0 && q t (m .tile)
 
@@ -36,7 +36,8 @@ closedRun q t m = eqb (m .kind) 0 && q t (m .tile)
 abbrev pub closedTriplet : ℕ → Meld → Bool
 closedTriplet t m = eqb (m .kind) 2 && eqb t (m .tile)
 
--- a tally for each entry of WaitType: Ryanmen, Kanchan, Penchan, Shanpon, Tanki, Kokushi13
+-- a tally for each entry of WaitType: Ryanmen, Kanchan, Penchan, Shanpon, Tanki, Kokushi13. For thirteen orphans agari calls the wait on
+-- the doubled tile Tanki and any other Kokushi13, the other way round than players do (docs/DIFFERENCES.md); the yaku are named rightly
 unfoldable pub waits : ℕ → Reading → List ℕ
 waits t (pairs ps) = 0 ∷ 0 ∷ 0 ∷ 0 ∷ one (any (eqb t) ps) ∷ 0 ∷ []
 waits t (orphans p) = 0 ∷ 0 ∷ 0 ∷ 0 ∷ one (eqb t p) ∷ one (not (eqb t p)) ∷ []
@@ -49,11 +50,11 @@ waits t (standard p ms) =
     ∷ 0
     ∷ []
 
--- how often an honor counts: a dragon once, a wind once as round wind and once as seat wind
+-- how often a tile is yakuhai: a dragon once, a wind once as round wind and once as seat wind, any other tile never
 abbrev pub weight : GameContext → ℕ → ℕ
 weight w t = one (isDragon t) + (one (eqb t (w .«round_wind»)) + one (eqb t (w .«seat_wind»)))
 
--- Pinfu: a closed hand of sequences, a pair that counts nothing, and a two-sided wait
+-- Pinfu: a closed hand, sequences only, a pair that is no yakuhai, and Ryanmen among the waits
 unfoldable pub pinfu : GameContext → Bool → Reading → Bool
 pinfu w opened (pairs ps) = false
 pinfu w opened (orphans p) = false

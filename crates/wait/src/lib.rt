@@ -68,14 +68,14 @@ pub fn winning_tile_in_closed_sequence(ms: [meld::Meld; 4], w: context::GameCont
     holds(ms[0], t) | (holds(ms[1], t) | (holds(ms[2], t) | holds(ms[3], t)))
 }
 
-// Is it a closed kan, or a closed triplet that no ron completed, or that is spared?
+// Is it a closed kan, or a closed triplet that no ron completed? With `kept` a triplet of the ron tile counts too.
 pub fn is_concealed_set(m: meld::Meld, w: context::GameContext, kept: bool) -> bool
     ensures { λ r. ⌜ r ≡ concealed w kept m ⌝ }
 {
     (m.kind == 4) | ((m.kind == 2) & (w.is_tsumo() | (!(w.winning_tile == m.tile) | kept)))
 }
 
-// How many melds a tile can have completed with each wait: Ryanmen, Kanchan, Penchan, Shanpon.
+// How many sequences the tile can have completed with a two-sided wait.
 fn count_ryanmen(ms: [meld::Meld; 4], t: u8) -> u8
     ensures { λ r. ⌜ (r ≡ count (closedRun twoSided t) ms) × (r ≤ 4) ⌝ }
 {
@@ -87,6 +87,7 @@ fn count_ryanmen(ms: [meld::Meld; 4], t: u8) -> u8
     )
 }
 
+// How many in the middle.
 fn count_kanchan(ms: [meld::Meld; 4], t: u8) -> u8
     ensures { λ r. ⌜ (r ≡ count (closedRun middle t) ms) × (r ≤ 4) ⌝ }
 {
@@ -98,6 +99,7 @@ fn count_kanchan(ms: [meld::Meld; 4], t: u8) -> u8
     )
 }
 
+// How many at an edge.
 fn count_penchan(ms: [meld::Meld; 4], t: u8) -> u8
     ensures { λ r. ⌜ (r ≡ count (closedRun edge t) ms) × (r ≤ 4) ⌝ }
 {
@@ -109,6 +111,7 @@ fn count_penchan(ms: [meld::Meld; 4], t: u8) -> u8
     )
 }
 
+// How many triplets it can have completed.
 fn count_shanpon(ms: [meld::Meld; 4], t: u8) -> u8
     ensures { λ r. ⌜ (r ≡ count (closedTriplet t) ms) × (r ≤ 4) ⌝ }
 {

@@ -28,7 +28,7 @@ use Rattle.win.specs.declared.WaitsAnswer.{WaitsAnswer}
 abbrev pub isOpened : Calls → Bool
 isOpened k = any isOpen (called k)
 
--- what all tiles together are, calls included
+-- the answers to the yaku that depend on the tiles alone, of hand and calls together
 abbrev pub tilesTogether : List ℕ → Calls → GameContext → TileYaku
 tilesTogether cs k w = tileYaku (together cs (called k)) (w .«winning_tile»)
 
@@ -38,6 +38,7 @@ unfoldable pub orThen : ℕ → ℕ → ℕ
 orThen zero m = m
 orThen (suc n) m = suc n
 
+-- the tile is one, and the hand without its calls holds it
 abbrev pub inHand : List ℕ → ℕ → Bool
 inHand cs t = ltb t 34 && ltb 0 (held cs t)
 

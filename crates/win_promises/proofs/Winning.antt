@@ -15,7 +15,8 @@ use Rattle.unit.specs.Listing.{handReadings}
 use Rattle.records.proofs.Pick.{pick-past, past-end}
 use Rattle.reading_score.specs.declared.ScoringResult.{ScoringResult}
 use Rattle.reading_score.specs.Score.{hasYaku, rank}
-use Rattle.reading_score.proofs.Ranks.{Small, Preferred, rank-yaku, yaku-rank, rank-total, rank-order, score-small}
+use Rattle.reading_score.specs.Preferred.{Preferred}
+use Rattle.reading_score.proofs.Ranks.{Small, rank-yaku, yaku-rank, rank-total, rank-order, score-small}
 use Rattle.choice.specs.declared.ScoreAnswer.{ScoreAnswer}
 use Rattle.choice.specs.Choice.{refused, scored, choice}
 use Rattle.choice.specs.Standing.{StandsAt}

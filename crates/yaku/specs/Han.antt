@@ -1,5 +1,5 @@
--- The han of each entry of the tallies, in a closed hand and in an open one (0 where the yaku needs a closed hand), and their sum.
--- These are definitions.
+-- The han of each entry of the tallies, in the order of `names` (Names.antt), in a closed hand and in an open one (0 where the yaku needs a
+-- closed hand), and their sum. The laws `closed-table` and `open-table` say that these are the names' han. These are definitions.
 use mathlib.Core.Bool.{Bool, true, false}
 use mathlib.Core.List.{List, [], _∷_}
 use Prim.Native.Nat.{ℕ, _+_, _*_}
@@ -26,5 +26,6 @@ dot [] ns = 0
 dot (v ∷ vs) [] = 0
 dot (v ∷ vs) (n ∷ ns) = v * n + dot vs ns
 
+-- the han of a reading: for each yaku its han, as often as it counts
 unfoldable pub han : GameContext → Bool → TileYaku → Reading → ℕ
 han w opened s r = dot (hanOf opened) (tallies w opened s r)

@@ -1,5 +1,6 @@
--- The tallies of a reading: one for each entry of Yaku in its order, Yakuhai apart for each honor, the local ones left out, 47 in all.
--- w is the win, `opened` whether something was called from another player, s what all tiles together are, calls included, r the reading.
+-- The tallies of a reading: how often each yaku counts, 0 or 1, for the Yakuhai of a wind that is round and seat wind 2. One for each entry of
+-- Yaku in its order, Yakuhai apart for each honor, the local ones left out, 47 in all. w is the win, `opened` whether something was called
+-- from another player, s the answers to the yaku that depend on the tiles alone (tile_yaku), r the reading.
 -- These are definitions.
 use mathlib.Core.Bool.{Bool, true, false, _&&_, _||_, not, cond}
 use mathlib.Core.List.{List, [], _∷_, _++_, map}
@@ -28,20 +29,22 @@ unlessOrphans q (pairs ps) = q
 unlessOrphans q (orphans p) = false
 unlessOrphans q (standard p ms) = q
 
--- thirteen orphans: the winning tile is the doubled one, or another
+-- thirteen orphans, won on the doubled tile (`doubled` yes) or on another one (`doubled` no)
 abbrev pub orphansWon : GameContext → Bool → Reading → Bool
 orphansWon w doubled (pairs ps) = false
 orphansWon w doubled (orphans p) = cond doubled (eqb (w .«winning_tile») p) (not (eqb (w .«winning_tile») p))
 orphansWon w doubled (standard p ms) = false
 
--- ---- the win: riichi and its company need a closed hand; a replacement tile breaks ippatsu and is never the last of the wall
+-- ---- the win: riichi, double riichi and ippatsu need the riichi flag and a closed hand; a replacement tile breaks ippatsu and is never the
+-- last of the wall
 abbrev pub riichi : GameContext → Bool → Bool
 riichi w opened = w .«is_riichi» && not opened
 
 abbrev pub rinshan : GameContext → Bool
 rinshan w = w .«is_rinshan» && isTsumo w
 
--- ---- Riichi to HouteiRaoyui
+-- ---- in this order: Riichi, Ippatsu, MenzenTsumo, Tanyao, Pinfu, Iipeikou, Yakuhai of East, South, West, North, White, Green and Red,
+-- RinshanKaihou, Chankan, HaiteiRaoyue, HouteiRaoyui
 unfoldable pub oneHan : GameContext → Bool → TileYaku → Reading → List ℕ
 oneHan w opened s r =
     one (riichi w opened && not (w .«is_double_riichi»))
@@ -63,7 +66,8 @@ oneHan w opened s r =
     ∷ one (w .«is_last_tile» && not (isTsumo w))
     ∷ []
 
--- ---- DoubleRiichi to Shousangen, then Honitsu, Junchan, Ryanpeikou, Chinitsu
+-- ---- in this order: DoubleRiichi, Toitoi, SanshokuDoujun, SanshokuDoukou, Ittsu, Chiitoitsu, Chanta (not beside Junchan), SanAnkou,
+-- SanKantsu, Honroutou, Shousangen, Honitsu, Junchan, Ryanpeikou, Chinitsu
 unfoldable pub moreHan : GameContext → Bool → TileYaku → Reading → List ℕ
 moreHan w opened s r =
     one (riichi w opened && w .«is_double_riichi»)
@@ -83,7 +87,8 @@ moreHan w opened s r =
     ∷ one (unlessOrphans (s .chinitsu) r)
     ∷ []
 
--- ---- Tenhou to SuuKantsu, then Kokushi13Wait, SuuankouTanki, JunseiChuurenPoutou
+-- ---- in this order: Tenhou, Chiihou, KokushiMusou, Suuankou, Daisangen, Shousuushii, Daisuushii, Tsuuiisou, Chinroutou, Ryuuiisou,
+-- ChuurenPoutou, SuuKantsu, Kokushi13Wait, SuuankouTanki, JunseiChuurenPoutou. Chinroutou of seven pairs is never met: there are six terminals
 abbrev pub yakuman : GameContext → Bool → TileYaku → Reading → List Bool
 yakuman w opened s r =
     (w .«is_tenhou» && (isTsumo w && (not opened && isDealer w)))
@@ -103,13 +108,15 @@ yakuman w opened s r =
     ∷ ofStandard (λ p ms. not opened && (s .«nine_gates» && s .«pure_wait»)) r
     ∷ []
 
+-- at least one yakuman
 unfoldable pub isYakuman : GameContext → Bool → TileYaku → Reading → Bool
 isYakuman w opened s r = any (λ b. b) (yakuman w opened s r)
 
--- a yakuman leaves every other yaku out
+-- the 32 tallies of the yaku that are no yakuman
 unfoldable pub ordinary : GameContext → Bool → TileYaku → Reading → List ℕ
 ordinary w opened s r = oneHan w opened s r ++ moreHan w opened s r
 
+-- all 47; a yakuman leaves every other yaku out
 unfoldable pub tallies : GameContext → Bool → TileYaku → Reading → List ℕ
 tallies w opened s r =
     cond (isYakuman w opened s r) (replicate 32 0) (ordinary w opened s r) ++ map one (yakuman w opened s r)

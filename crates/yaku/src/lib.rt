@@ -212,7 +212,7 @@ fn all_tallies(
     all
 }
 
-// The han of each entry of the tallies, in a closed hand and in an open one.
+// The han of each entry of the tallies in a closed hand.
 const HAN_CLOSED: [u8; 47] = [
     1, // Riichi
     1, // Ippatsu
@@ -263,6 +263,7 @@ const HAN_CLOSED: [u8; 47] = [
     26, // JunseiChuurenPoutou
 ];
 
+// The han of each entry of the tallies in an open hand; 0 where the yaku needs a closed one.
 const HAN_OPEN: [u8; 47] = [
     0, // Riichi
     0, // Ippatsu

@@ -1,4 +1,4 @@
--- The operations' answers as plain numbers. These are definitions.
+-- The operations' answers as plain numbers, for C. These are definitions.
 use Rattle.unit.specs.declared.Listing.{Listing}
 use Rattle.unit.specs.Listing.{numberOf, readingsOf, bytesOf}
 use Rattle.scoring.specs.declared.ScoreLevel.{ScoreLevel}
@@ -58,5 +58,6 @@ scoreValues a =
       total = paid (a .score .payment) .total;
     }
 
+-- the refusal's number, or 0 with the tallies of the six waits
 abbrev pub waitsValues : WaitsAnswer → WaitsValues
 waitsValues a = record { number = a .number; waits = a .waits }
