@@ -275,26 +275,12 @@ pub fn write_meld_combinations(
     let key = low.key();
     let mut pos = at;
     if low.has_sequence() {
-        pos = write_with(
-            low.without_sequence(),
-            needed - 1,
-            pair,
-            slots,
-            key,
-            out,
-            pos,
-        );
+        let rest = low.without_sequence();
+        pos = write_with(rest, needed - 1, pair, slots, key, out, pos);
     }
     if low.has_triplet() {
-        pos = write_with(
-            low.without_triplet(),
-            needed - 1,
-            pair,
-            slots,
-            key + 2,
-            out,
-            pos,
-        );
+        let rest = low.without_triplet();
+        pos = write_with(rest, needed - 1, pair, slots, key + 2, out, pos);
     }
     pos
 }
