@@ -55,10 +55,14 @@ module _ (cs : List ℕ) (k : Calls) (four : length (k .melds) ≡ 4) (passes : 
       let t = h .tiles in
       enough (held cs) (called k) (melds-called cs k passes) few (omega arith) (λ u i. h .four u)
 
-  -- with so many bytes lent the hand is listed, whatever it is
-  pub accepted : (lent : ℕ) → 1467 ≤ lent → listing cs k lent ≡ Listed (length (handReadings cs k)) (length (handRecords cs k))
-  accepted lent h = let r = room in sym (listed-answer cs k passes lent (length (handReadings cs k)) (length (handRecords cs k)) (omega arith) refl refl)
+  -- listed wherever the records fit
+  pub fits : (lent : ℕ) → length (handRecords cs k) ≤ lent → listing cs k lent ≡ Listed (length (handReadings cs k)) (length (handRecords cs k))
+  fits lent h = sym (listed-answer cs k passes lent (length (handReadings cs k)) (length (handRecords cs k)) h refl refl)
 
-  -- refused with 7 exactly where the records need more bytes than were lent
+  -- with 1,467 bytes lent the hand is listed, whatever it is
+  pub accepted : (lent : ℕ) → 1467 ≤ lent → listing cs k lent ≡ Listed (length (handReadings cs k)) (length (handRecords cs k))
+  accepted lent h = let r = room in fits lent (omega arith)
+
+  -- refused with 7 where they do not
   pub refused-short : (lent : ℕ) → lent < length (handRecords cs k) → listing cs k lent ≡ Refused 7
   refused-short lent h = sym (short-answer cs k passes lent h)
