@@ -2,7 +2,6 @@
 // input what is answered.
 ghost use mathlib.Core.Path.{_≡_};
 ghost use mathlib.Core.Bool.{_&&_};
-ghost use Prim.Native.Nat.{_≤_};
 ghost use lib.ListN.{length};
 ghost use Rattle.meld.specs.Meld.{isOpen};
 ghost use Rattle.checks.specs.Checks.{handCheck};
@@ -22,8 +21,7 @@ fn is_open_call(m: meld::Meld, there: bool) -> bool
 }
 
 // Is some call made from another player?
-fn is_opened(k: checks::Calls) -> bool
-    requires { ⌜ k .count ≤ 4 ⌝ }
+pub fn is_opened(k: checks::Calls) -> bool
     ensures { λ r. ⌜ r ≡ isOpened k ⌝ }
 {
     let melds = k.melds;

@@ -42,7 +42,7 @@ returns c =
       c .before .before .is-open-call3 .ensures,
       c .is-open-call4 .ensures,
     )
-    (any-of-four isOpen (k .count) (k .melds) long (s .pre))
+    (any-of-four isOpen (k .count) (k .melds) long)
 
 pub is-opened-spec : {M : Type 1} → statement M
 is-opened-spec =

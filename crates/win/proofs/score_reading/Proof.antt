@@ -1,7 +1,6 @@
 -- `score_reading` meets its contract: a refusal, or the score of the reading at its place in the buffer. Assumes nothing.
 use mathlib.Core.Path.{sym, ap, _∙_}
 use lib.ListN.{length-map}
-use Rattle.checks.proofs.Passed.{passed}
 use Rattle.promises.proofs.Listing.{room}
 use Rattle.win.proofs.Checked.{win-passes}
 use Rattle.win.proofs.Readings.{held-readings}
@@ -75,13 +74,7 @@ tiles-together-requires c κs =
     ok
 
 is-opened-requires : tie.Need-is-opened-requires
-is-opened-requires c κs =
-    let s = c .before .before .before .before .before .before .before .before .before .before .before .before in
-    let cs = s .args .counts .now in
-    let k = s .args .k in
-    let passes = sym (c .before .before .before .before .before .before .before .before .before .before .check-win .ensures) ∙ c .before .before .before .before .before .before .before .before .before .if1 .left in
-    let ok = win-passes cs k (s .args .w) passes .hand in
-    passed cs k ok .few
+is-opened-requires c κs = search needs
 
 calculate-score-requires : tie.Need-calculate-score-requires
 calculate-score-requires c κs = search needs

@@ -1,7 +1,6 @@
 -- `score_win` meets its contract: a refusal, or the choice among all readings that the buffer holds. Assumes nothing.
 use mathlib.Core.Path.{sym, _∙_}
 use lib.ListN.{length-map}
-use Rattle.checks.proofs.Passed.{passed}
 use Rattle.promises.proofs.Listing.{room}
 use Rattle.win.proofs.Checked.{win-passes}
 use Rattle.win.proofs.Readings.{held-readings}
@@ -48,13 +47,7 @@ tiles-together-requires c κs =
     ok
 
 is-opened-requires : tie.Need-is-opened-requires
-is-opened-requires c κs =
-    let s = c .before .before .before .before .before .before .before .before in
-    let cs = s .args .counts .now in
-    let k = s .args .k in
-    let passes = sym (c .before .before .before .before .before .before .check-win .ensures) ∙ c .before .before .before .before .before .if1 .left in
-    let ok = win-passes cs k (s .args .w) passes .hand in
-    passed cs k ok .few
+is-opened-requires c κs = search needs
 
 choose-requires : tie.Need-choose-requires
 choose-requires c κs = search needs
