@@ -1,16 +1,11 @@
 // For referees, and for a first look: every reading of a finished hand with its waits, yaku, han, fu, level and payment, and the answer
 // of scoring the win. The words stand in its arguments; without any it writes how to use it. Nothing is said about unfinished hands.
 // A program cannot set an exit status: the last line says how it ended. It begins with 'answer: reading', 'answer: refused' or 'bad input'.
-mod calls;
 mod faults;
-mod names;
-mod points;
-mod print;
-mod said;
 mod show;
-mod text;
-mod tiles;
-mod words;
+
+use notation::said;
+use printed::text;
 
 // Writes how to use it.
 fn say_usage() {
@@ -44,7 +39,7 @@ fn take_argument(s: said::Said, i: usize) -> said::Said {
     let mut next = s;
     next.word = i;
     if n == 0 {
-        return next.faulty(faults::SIZE);
+        return next.faulty(notation::faults::SIZE);
     }
     next.take(&word[..n])
 }
@@ -61,7 +56,7 @@ fn take_arguments(count: usize) -> said::Said {
 // Writes what is wrong with the words.
 fn say_bad_input(s: said::Said) {
     text::say(b"bad input: ");
-    if s.fault != faults::NO_WIN {
+    if s.fault != notation::faults::NO_WIN {
         let mut word = [0u8; 64];
         let n = os::arg(s.word, &mut word);
         text::say(b"word ");

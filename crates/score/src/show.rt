@@ -1,33 +1,11 @@
 // The hand, its readings and the answer.
-ghost use mathlib.Core.Path.{_≡_};
-ghost use mathlib.Core.Bool.{_&&_};
 ghost use Prim.Native.Nat.{_≤_, _<_};
-ghost use Rattle.meld.specs.Meld.{isOpen};
-ghost use Rattle.win.specs.Win.{isOpened};
-use crate::names;
-use crate::points;
-use crate::print;
-use crate::said;
-use crate::text;
-use crate::words;
-
-// Is the call there, and open?
-fn is_open_call(m: meld::Meld, there: bool) -> bool
-    ensures { λ r. ⌜ r ≡ (there && isOpen m) ⌝ }
-{
-    there & m.is_open()
-}
-
-// Is some call made from another player?
-fn is_opened(k: checks::Calls) -> bool
-    ensures { λ r. ⌜ (k .count ≤ 4 → r ≡ isOpened k) ⌝ }
-{
-    let melds = k.melds;
-    let count = k.count;
-    is_open_call(melds[0], 0 < count)
-        | (is_open_call(melds[1], 1 < count)
-            | (is_open_call(melds[2], 2 < count) | is_open_call(melds[3], 3 < count)))
-}
+use notation::said;
+use notation::words;
+use printed::names;
+use printed::points;
+use printed::print;
+use printed::text;
 
 // ---- the hand as it was understood, in words that can be given again
 
@@ -117,7 +95,7 @@ fn say_hand(s: said::Said) {
     text::say(b" seat ");
     say_wind(s.seat);
     say_flags(flags);
-    if is_opened(calls) {
+    if win::is_opened(calls) {
         text::say(b" (open)\n");
     } else {
         text::say(b" (closed)\n");
@@ -149,7 +127,7 @@ fn say_score(i: usize, counts: &[u8; 34], k: checks::Calls, w: context::GameCont
     let waits = named.waits;
     let scored = win::score_reading(counts, k, w, i);
     let score = scored.score;
-    points::say_score(score, waits, is_opened(k));
+    points::say_score(score, waits, win::is_opened(k));
 }
 
 // Writes a reading, whose record stands among the others.

@@ -1,0 +1,50 @@
+-- `known` meets its contract. Assumes nothing.
+use Prim.Native.Nat.{_≤_, _-_}
+use borrow.Author.Needs.{needs}
+use Rattle.notation.proofs.words.known.Statement.{statement}
+use Rattle.notation.proofs.words.known.Tie as tie
+
+abbrev Inv-loop : tie.InvT-loop
+Inv-loop word i₀ i = i ≤ 17
+
+abbrev μ-loop : tie.MeasureT-loop
+μ-loop word i₀ i = 17 - i
+
+loop-holds : tie.Need-loop-holds Inv-loop μ-loop
+loop-holds c = search needs
+
+word-row-requires : tie.Need-word-row-requires Inv-loop μ-loop
+word-row-requires c κs = search needs
+
+is-row-requires : tie.Need-is-row-requires Inv-loop μ-loop
+is-row-requires c κs = search needs
+
+returns : tie.Need-returns Inv-loop μ-loop
+returns c = search needs
+
+add-i : tie.Need-add-i Inv-loop μ-loop
+add-i c = search needs
+
+loop-less : tie.Need-loop-less Inv-loop μ-loop
+loop-less c = search needs
+
+loop-again : tie.Need-loop-again Inv-loop μ-loop
+loop-again c = search needs
+
+returns-2 : tie.Need-returns-2 Inv-loop μ-loop
+returns-2 c = search needs
+
+pub known-spec : {M : Type 1} → statement M
+known-spec =
+    tie.close
+    (tie.spec
+    Inv-loop
+    μ-loop
+    loop-holds
+    word-row-requires
+    is-row-requires
+    returns
+    add-i
+    loop-less
+    loop-again
+    returns-2)

@@ -1,0 +1,112 @@
+// The words that are known. A row is filled up with spaces, which do not count.
+ghost use mathlib.Core.Path.{_≡_};
+ghost use Prim.Native.Nat.{_≤_, _<_};
+ghost use lib.ListN.{length, take};
+
+// Five calls, two ways to win and two winds, each with a word behind it; then the flags, in the order of the win's fields.
+const WORDS: [[u8; 13]; 17] = [
+    *b"chi          ",
+    *b"pon          ",
+    *b"kan          ",
+    *b"ankan        ",
+    *b"kakan        ",
+    *b"ron          ",
+    *b"tsumo        ",
+    *b"round        ",
+    *b"seat         ",
+    *b"riichi       ",
+    *b"double-riichi",
+    *b"ippatsu      ",
+    *b"rinshan      ",
+    *b"chankan      ",
+    *b"last-tile    ",
+    *b"tenhou       ",
+    *b"chiihou      ",
+];
+
+// The winds, in the order of their tiles.
+const WINDS: [[u8; 13]; 4] = [
+    *b"east         ",
+    *b"south        ",
+    *b"west         ",
+    *b"north        ",
+];
+
+// The row of a known word.
+pub fn word_row(i: usize) -> [u8; 13]
+    requires { ⌜ i < 17 ⌝ }
+{
+    WORDS[i]
+}
+
+// The row of a wind.
+pub fn wind_row(i: usize) -> [u8; 13]
+    requires { ⌜ i < 4 ⌝ }
+{
+    WINDS[i]
+}
+
+// How many bytes a row of a table has before the spaces at its end.
+pub fn row_length(row: &[u8]) -> usize
+    ensures { λ r. ⌜ (r ≤ length (now (row .entry))) × (r ≡ length (take r (now (row .entry)))) ⌝ }
+{
+    let mut n = row.len();
+    while 0 < n {
+        if row[n - 1] != b' ' {
+            return n;
+        }
+        n -= 1;
+    }
+    0
+}
+
+// A letter as a small one.
+fn small(c: u8) -> u8 {
+    if c < b'A' {
+        return c;
+    }
+    if b'Z' < c {
+        return c;
+    }
+    c + 32
+}
+
+// Is the word that of the row, in any case?
+fn is_row(word: &[u8], row: &[u8; 13]) -> bool {
+    let n = row_length(row);
+    if word.len() != n {
+        return false;
+    }
+    for i in 0..n {
+        if small(word[i]) != row[i] {
+            return false;
+        }
+    }
+    true
+}
+
+// The number of a known word; 17 for any other.
+pub fn known(word: &[u8]) -> usize
+    ensures { λ r. ⌜ r ≤ 17 ⌝ }
+{
+    for i in 0..17 {
+        let row = word_row(i);
+        if is_row(word, &row) {
+            return i;
+        }
+    }
+    17
+}
+
+// The number of a wind, 0 for East; 4 for any other word.
+pub fn wind(word: &[u8]) -> u8
+    ensures { λ r. ⌜ r ≤ 4 ⌝ }
+{
+    for i in 0..4 {
+        let row = wind_row(i as usize);
+        if is_row(word, &row) {
+            return i;
+        }
+    }
+    4
+}
