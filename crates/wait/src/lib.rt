@@ -1,6 +1,6 @@
 // Waits (wait.rs of agari): what the winning tile completed, pinfu, and which triplets are concealed.
 ghost use mathlib.Core.Path.{_≡_};
-ghost use Prim.Native.Nat.{_+_, _≤_};
+ghost use Prim.Native.Nat.{_+_, _*_, _≤_};
 ghost use lib.Dec.{eqb};
 ghost use Rattle.lists.specs.Fold.{all, any, count, one};
 ghost use Rattle.meld.specs.Meld.{isSequence};
@@ -22,27 +22,34 @@ fn how_many(a: bool, b: bool, c: bool, d: bool) -> u8
     one_if(a) + (one_if(b) + (one_if(c) + one_if(d)))
 }
 
+// The tile that a closed sequence starts at. Any other meld has a number above 255, so no tile is in it.
+fn closed_start(m: meld::Meld) -> u32
+    ensures { λ r. ⌜ r ≡ m .kind * 256 + m .tile ⌝ }
+{
+    (m.kind as u32) * 256 + (m.tile as u32)
+}
+
 // Ryanmen: is the tile at an end of a closed sequence, where a tile at the other end would have served too?
 pub fn is_ryanmen(m: meld::Meld, t: u8) -> bool
     ensures { λ r. ⌜ r ≡ closedRun twoSided t m ⌝ }
 {
-    let s = m.tile;
-    (m.kind == 0) & (((t == s) & !(s % 9 == 6)) | (((t as u16) == (s as u16) + 2) & !(s % 9 == 0)))
+    let s = closed_start(m);
+    (((t as u32) == s) & !(t % 9 == 6)) | (((t as u32) == s + 2) & !(t % 9 == 2))
 }
 
 // Kanchan: is it in the middle of a closed sequence?
 pub fn is_kanchan(m: meld::Meld, t: u8) -> bool
     ensures { λ r. ⌜ r ≡ closedRun middle t m ⌝ }
 {
-    (m.kind == 0) & ((t as u16) == (m.tile as u16) + 1)
+    (t as u32) == closed_start(m) + 1
 }
 
 // Penchan: is it the 7 of a closed 789 or the 3 of a closed 123?
 pub fn is_penchan(m: meld::Meld, t: u8) -> bool
     ensures { λ r. ⌜ r ≡ closedRun edge t m ⌝ }
 {
-    let s = m.tile;
-    (m.kind == 0) & (((t == s) & (s % 9 == 6)) | (((t as u16) == (s as u16) + 2) & (s % 9 == 0)))
+    let s = closed_start(m);
+    (((t as u32) == s) & (t % 9 == 6)) | (((t as u32) == s + 2) & (t % 9 == 2))
 }
 
 // Shanpon: is it the tile of a closed triplet?
@@ -56,8 +63,8 @@ pub fn is_shanpon(m: meld::Meld, t: u8) -> bool
 fn holds(m: meld::Meld, t: u8) -> bool
     ensures { λ r. ⌜ r ≡ closedRun within t m ⌝ }
 {
-    let s = m.tile;
-    (m.kind == 0) & ((s <= t) & ((t as u16) < (s as u16) + 3))
+    let s = closed_start(m);
+    (s <= (t as u32)) & ((t as u32) < s + 3)
 }
 
 // Does any of the closed sequences hold the winning tile?

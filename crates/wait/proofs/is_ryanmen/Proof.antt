@@ -1,18 +1,23 @@
--- `is_ryanmen` meets its contract: the code is the definition.
+-- `is_ryanmen` meets its contract: the definition, with the tile's own number in its suit, asked of the number that a closed sequence starts at.
 -- Assumes nothing.
-use mathlib.Core.Path.{refl}
 use borrow.Author.Needs.{needs}
+use mathlib.Core.Bool.{not}
+use lib.Dec.{eqb}
+use Rattle.wait.proofs.Starts.{number, at-first, at-last, closed-twoSided}
 use Rattle.wait.proofs.is_ryanmen.Statement.{statement}
 use Rattle.wait.proofs.is_ryanmen.Tie as tie
 
-cast-result : tie.Need-cast-result
-cast-result c = search needs
+closed-start-requires : tie.Need-closed-start-requires
+closed-start-requires c κs = search needs
 
 add-result : tie.Need-add-result
 add-result c = search needs
 
 returns : tie.Need-returns
-returns c = refl
+returns c =
+    let t = c .before .args .t in
+    let m = c .before .args .m in
+    simp (c .closed-start .ensures, at-first (λ n. not (eqb n 6)) t (number m), at-last not t (number m), closed-twoSided t m (search needs))
 
 pub is-ryanmen-spec : {M : Type 1} → statement M
-is-ryanmen-spec = tie.close (tie.spec cast-result add-result returns)
+is-ryanmen-spec = tie.close (tie.spec closed-start-requires add-result returns)
