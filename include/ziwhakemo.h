@@ -19,7 +19,9 @@
  *     Bools cross this boundary in ziwhakemo_game_context, and as `is_yakuman` and `is_dealer`.
  *
  * No function keeps anything between calls or allocates memory, so any number of threads may call
- * at the same time. The deepest call, ziwhakemo_score_win, takes about 2,600 bytes of stack.
+ * at the same time. Of stack, the deepest calls on a million random hands used 2,552 bytes in
+ * ziwhakemo_score_win, 2,456 in ziwhakemo_score_reading, 2,182 in ziwhakemo_name_waits and 646 in
+ * ziwhakemo_list_readings. This is measured and not proved: leave some room.
  */
 #ifndef ZIWHAKEMO_H
 #define ZIWHAKEMO_H
@@ -160,8 +162,8 @@ typedef struct ziwhakemo_listing_answer {
  *
  * Accepted: the records stand in the first `bytes` bytes of the buffer, and the bytes behind them
  * are as they were. A hand with no reading is accepted, with both counts 0. Refused: nothing is
- * written. With NULL and 0 for the buffer, it answers 0 if there is no reading, and 7 if there is
- * one. */
+ * written. With NULL and 0 for the buffer, a hand that passes 1 to 6 is answered with 0 if it has
+ * no reading, and with 7 if it has one. */
 ziwhakemo_listing_answer ziwhakemo_list_readings(const uint8_t *counts, size_t counts_length,
                                                  const ziwhakemo_meld *calls, size_t calls_length,
                                                  uint8_t *out, size_t out_length);

@@ -144,7 +144,7 @@ unsafe extern "C" {
         calls_len: usize,
         win: Win,
     ) -> Score;
-    fn ziwhakemo_score_reading(
+    pub fn ziwhakemo_score_reading(
         counts: *const u8,
         counts_len: usize,
         calls: *const Meld,
@@ -152,7 +152,7 @@ unsafe extern "C" {
         win: Win,
         number: usize,
     ) -> Score;
-    fn ziwhakemo_name_waits(
+    pub fn ziwhakemo_name_waits(
         counts: *const u8,
         counts_len: usize,
         calls: *const Meld,

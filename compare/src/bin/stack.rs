@@ -1,10 +1,14 @@
-//! Measures how much stack a listing and a scored win need. Each call runs on a stack of its own, which is filled
-//! with a pattern before; the lowest byte that has another value afterwards shows how deep it went.
+//! Measures how much stack the operations on a hand need. Each call runs on a stack of its own, which is filled with
+//! a pattern before; the lowest byte that has another value afterwards shows how deep it went.
 
-use compare::hand::Hand;
-use compare::library::{Listing, RON, Score, Win, ziwhakemo_list_readings, ziwhakemo_score_win};
+use compare::hand::{Hand, KINDS};
+use compare::library::{
+    Listing, RON, Score, TSUMO, Win, ziwhakemo_list_readings, ziwhakemo_name_waits,
+    ziwhakemo_score_reading, ziwhakemo_score_win,
+};
 use compare::random;
 use compare::rng::Rng;
+use compare::wins;
 use std::arch::asm;
 use std::env;
 use std::mem::MaybeUninit;
@@ -17,94 +21,134 @@ const LENT: usize = 1467;
 
 const SIZE: usize = 8192;
 const PATTERN: u8 = 0xa5;
-/// The caller's part at the top: the length of the buffer, and eight bytes that keep it aligned.
+/// The caller's part at the top: two words of arguments.
 const CALLERS: usize = 16;
 
 #[repr(align(16))]
 struct Stack([u8; SIZE]);
 
-/// Lists the readings of a hand on this stack. By the C interface the answer's address, the counts,
-/// the calls and the buffer are handed over in registers, and the length of the buffer on the stack.
-fn list_on(stack: &mut Stack, hand: &Hand, out: &mut [u8]) -> Listing {
-    let mut answer = Listing {
-        number: 0,
-        readings: 0,
-        bytes: 0,
-    };
-    let melds = &hand.calls.melds[..hand.calls.count.min(4)];
+/// Calls an operation on a stack of its own and answers how many bytes of it were used, its return address among
+/// them. By the C interface the first six words of arguments go into registers, and those that do not fit onto the stack.
+fn depth(operation: *const (), registers: [u64; 6], pushed: [u64; 2]) -> usize {
+    let mut stack = Stack([PATTERN; SIZE]);
     // The library asks nothing of its input beyond slices that may be read and written, and
     // returns with this stack empty again.
     unsafe {
         asm!(
             "mov r12, rsp",
             "mov rsp, rax",
-            "sub rsp, 8",
+            "push r11",
             "push r10",
-            "call {list}",
+            "call r13",
             "mov rsp, r12",
-            list = sym ziwhakemo_list_readings,
             inout("rax") stack.0.as_mut_ptr_range().end => _,
-            in("r10") out.len(),
-            in("rdi") &mut answer,
-            in("rsi") hand.counts().as_ptr(),
-            in("rdx") hand.counts().len(),
-            in("rcx") melds.as_ptr(),
-            in("r8") melds.len(),
-            in("r9") out.as_mut_ptr(),
+            in("r10") pushed[0],
+            in("r11") pushed[1],
+            in("r13") operation,
+            in("rdi") registers[0],
+            in("rsi") registers[1],
+            in("rdx") registers[2],
+            in("rcx") registers[3],
+            in("r8") registers[4],
+            in("r9") registers[5],
             out("r12") _,
             clobber_abi("C"),
         );
     }
-    answer
+    let untouched = stack.0.iter().take_while(|&&byte| byte == PATTERN).count();
+    assert!(untouched > 0, "a stack of {SIZE} bytes is too small");
+    SIZE - CALLERS - untouched
 }
 
-/// Scores a win on this stack. The win's twelve bytes are handed over on the stack, the rest in registers.
-fn score_on(stack: &mut Stack, hand: &Hand, win: Win) -> Score {
-    let mut answer = MaybeUninit::<Score>::uninit();
-    let melds = &hand.calls.melds[..hand.calls.count.min(4)];
-    let mut bytes = [0u8; 16];
-    let [a, b, c, d, e, f, g, h] = win.flags().map(u8::from);
+/// The counts and the calls as they are lent, each a pointer and a length.
+fn lent(hand: &Hand) -> [u64; 4] {
+    let (counts, calls) = (hand.counts(), hand.called());
+    [
+        counts.as_ptr() as u64,
+        counts.len() as u64,
+        calls.as_ptr() as u64,
+        calls.len() as u64,
+    ]
+}
+
+/// The win's twelve bytes, in two words.
+fn words(win: &Win) -> [u64; 2] {
     let tiles = [
         win.win_type,
         win.winning_tile,
         win.round_wind,
         win.seat_wind,
     ];
+    let flags = win.flags().map(u8::from);
+    let mut bytes = [0; 16];
     bytes[..4].copy_from_slice(&tiles);
-    bytes[4..12].copy_from_slice(&[a, b, c, d, e, f, g, h]);
+    bytes[4..12].copy_from_slice(&flags);
     let (low, high) = bytes.split_at(8);
-    // As above; the answer is written whole.
-    unsafe {
-        asm!(
-            "mov r12, rsp",
-            "mov rsp, rax",
-            "push r11",
-            "push r10",
-            "call {score}",
-            "mov rsp, r12",
-            score = sym ziwhakemo_score_win,
-            inout("rax") stack.0.as_mut_ptr_range().end => _,
-            in("r10") u64::from_le_bytes(low.try_into().unwrap()),
-            in("r11") u64::from_le_bytes(high.try_into().unwrap()),
-            in("rdi") answer.as_mut_ptr(),
-            in("rsi") hand.counts().as_ptr(),
-            in("rdx") hand.counts().len(),
-            in("rcx") melds.as_ptr(),
-            in("r8") melds.len(),
-            out("r12") _,
-            clobber_abi("C"),
-        );
-        answer.assume_init()
+    [low, high].map(|word| u64::from_le_bytes(word.try_into().unwrap()))
+}
+
+/// The deepest call seen of each operation.
+#[derive(Default)]
+struct Deepest {
+    listing: usize,
+    win: usize,
+    reading: usize,
+    waits: usize,
+}
+
+impl Deepest {
+    /// Lists the readings of a hand, and answers how many there are.
+    fn list(&mut self, hand: &Hand, out: &mut [u8]) -> usize {
+        let mut answer = Listing {
+            number: 0,
+            readings: 0,
+            bytes: 0,
+        };
+        let [counts, length, calls, number] = lent(hand);
+        let (place, buffer) = (&raw mut answer as u64, out.as_mut_ptr() as u64);
+        let registers = [place, counts, length, calls, number, buffer];
+        let pushed = [out.len() as u64, 0];
+        let used = depth(ziwhakemo_list_readings as *const (), registers, pushed);
+        self.listing = self.listing.max(used);
+        answer.readings
+    }
+
+    /// Scores a win, which goes onto the stack.
+    fn score_win(&mut self, hand: &Hand, win: &Win) {
+        let mut answer = MaybeUninit::<Score>::uninit();
+        let [counts, length, calls, number] = lent(hand);
+        let registers = [answer.as_mut_ptr() as u64, counts, length, calls, number, 0];
+        let used = depth(ziwhakemo_score_win as *const (), registers, words(win));
+        self.win = self.win.max(used);
+    }
+
+    /// Scores a reading by its number, which goes into the last register.
+    fn score_reading(&mut self, hand: &Hand, win: &Win, reading: u64) {
+        let mut answer = MaybeUninit::<Score>::uninit();
+        let [counts, length, calls, number] = lent(hand);
+        let place = answer.as_mut_ptr() as u64;
+        let registers = [place, counts, length, calls, number, reading];
+        let used = depth(ziwhakemo_score_reading as *const (), registers, words(win));
+        self.reading = self.reading.max(used);
+    }
+
+    /// Names the waits of a reading. The answer comes in registers, so that the win fits into others.
+    fn name_waits(&mut self, hand: &Hand, win: &Win, reading: u64) {
+        let [counts, length, calls, number] = lent(hand);
+        let [low, high] = words(win);
+        let registers = [counts, length, calls, number, low, high];
+        let used = depth(ziwhakemo_name_waits as *const (), registers, [reading, 0]);
+        self.waits = self.waits.max(used);
     }
 }
 
-/// How many bytes of stack a call used, its return address among them.
-fn depth(call: impl FnOnce(&mut Stack)) -> usize {
-    let mut stack = Stack([PATTERN; SIZE]);
-    call(&mut stack);
-    let untouched = stack.0.iter().take_while(|&&byte| byte == PATTERN).count();
-    assert!(untouched > 0, "a stack of {SIZE} bytes is too small");
-    SIZE - CALLERS - untouched
+/// A win of the hand by one of its tiles, by this win type, in any circumstances.
+fn won(rng: &mut Rng, hand: &Hand, win_type: u8) -> Win {
+    let tile = random::other_held_tile(rng, hand, KINDS);
+    Win {
+        win_type,
+        ..wins::win(rng, hand, tile.unwrap_or(0) as u8)
+    }
 }
 
 fn main() {
@@ -114,29 +158,22 @@ fn main() {
     };
     let mut rng = Rng::new(SEED);
     let mut out = [0; LENT];
-    let (mut listed, mut scored) = (0, 0);
+    let mut deepest = Deepest::default();
     for _ in 0..hands {
         let hand = random::any(&mut rng);
-        listed = listed.max(depth(|stack| {
-            list_on(stack, &hand, &mut out);
-        }));
-        let tile = hand
-            .counts()
-            .iter()
-            .position(|&count| count > 0)
-            .unwrap_or(0);
-        let win = Win {
-            win_type: RON,
-            winning_tile: tile as u8,
-            round_wind: 27,
-            seat_wind: 28,
-            ..Win::default()
-        };
-        scored = scored.max(depth(|stack| {
-            score_on(stack, &hand, win);
-        }));
+        let readings = deepest.list(&hand, &mut out);
+        for win_type in [RON, TSUMO] {
+            let win = won(&mut rng, &hand, win_type);
+            deepest.score_win(&hand, &win);
+            for reading in 0..=readings as u64 {
+                deepest.score_reading(&hand, &win, reading);
+                deepest.name_waits(&hand, &win, reading);
+            }
+        }
     }
-    println!(
-        "of {hands} hands the deepest listing used {listed} bytes of stack, the deepest scored win {scored}"
-    );
+    println!("bytes of stack used by the deepest call on {hands} hands");
+    println!("listing the readings   {}", deepest.listing);
+    println!("scoring a win          {}", deepest.win);
+    println!("scoring a reading      {}", deepest.reading);
+    println!("naming its waits       {}", deepest.waits);
 }
