@@ -7,7 +7,6 @@ use lib.ListN.{length, length-map}
 use Rattle.lists.proofs.Members.{length-perm}
 use Rattle.tile.specs.declared.Renaming.{Renaming}
 use Rattle.meld.specs.declared.Meld.{Meld}
-use Rattle.meld.specs.Renamed.{renMeld}
 use Rattle.context.specs.declared.GameContext.{GameContext}
 use Rattle.context.specs.Context.{isDealer, isTsumo, renWin}
 use Rattle.hand.specs.Counts.{held}
@@ -23,58 +22,54 @@ use Rattle.unit.proofs.Listed.{melds-called}
 use Rattle.promises.proofs.Listing.{once}
 use Rattle.win.specs.Win.{winCheck, scores, scoreWin}
 use Rattle.win.proofs.Answers.{win-choice}
-use Rattle.agreement.specs.Agreement.{SameAnswer, NotGreen, Alike, renCalls}
+use Rattle.agreement.specs.Agreement.{SameAnswer, NotGreen, Alike, RenamedCalls}
 use Rattle.agreement.proofs.Checked.{Checked, checked, checks}
-use Rattle.agreement.proofs.Twin.{renamed-twin, checked-renamed}
+use Rattle.agreement.proofs.Twin.{checked-renamed}
 use Rattle.agreement.proofs.Listed.{same-listing, listing-writes}
 use Rattle.agreement.proofs.Scored.{readings-renamed, ranks-renamed}
 use Rattle.agreement.proofs.Numbered.{same-reading}
 use Rattle.agreement.proofs.Chosen.{choice-agrees}
 use Rattle.agreement.proofs.Valued.{scores-valued}
 
-module _ (ρ : Renaming) (cs : List ℕ) (k : Calls) (w : GameContext) (p : Checked cs k w) where
+module _ {ρ : Renaming} {cs : List ℕ} {k j : Calls} {w : GameContext} (c : RenamedCalls ρ k j) (p : Checked cs k w) where
   -- as many readings, and as many bytes of records
-  many-renamed : length (handReadings (renCounts ρ cs) (renCalls ρ k)) ≡ length (handReadings cs k)
-  many-renamed = length-perm (readings-renamed ρ cs k w p) ∙ length-map (handReadings cs k) (renReading ρ)
+  many-renamed : length (handReadings (renCounts ρ cs) j) ≡ length (handReadings cs k)
+  many-renamed = length-perm (readings-renamed c p) ∙ length-map (handReadings cs k) (renReading ρ)
 
-  bytes-renamed : length (handRecords (renCounts ρ cs) (renCalls ρ k)) ≡ length (handRecords cs k)
+  bytes-renamed : length (handRecords (renCounts ρ cs) j) ≡ length (handRecords cs k)
   unfolding handRecords handReadings
   bytes-renamed =
-      ap (λ (l : List Meld). length (records (readings (held (renCounts ρ cs)) l))) (renamed-twin ρ cs k .calls)
+      ap (λ (l : List Meld). length (records (readings (held (renCounts ρ cs)) l))) (c .calls)
       ∙ records-renamed ρ (held cs) (held (renCounts ρ cs)) (held-renamed ρ cs) (called k) (melds-called cs k (p .hand))
 
-  module _ (four : length (k .melds) ≡ 4) where
-    four-renamed : length (renCalls ρ k .melds) ≡ 4
-    four-renamed = length-map (k .melds) (renMeld ρ) ∙ four
-
-    won-renamed :
-        NotGreen cs k → NotGreen (renCounts ρ cs) (renCalls ρ k)
-        → SameAnswer (scoreWin (renCounts ρ cs) (renCalls ρ k) (renWin ρ w)) (scoreWin cs k w)
-    won-renamed plain plain′ =
-        let q = checked-renamed ρ cs k w p in
-        subst₂ SameAnswer (sym (win-choice (renCounts ρ cs) (renCalls ρ k) (renWin ρ w) (checks (renCounts ρ cs) (renCalls ρ k) (renWin ρ w) q)))
-        (sym (win-choice cs k w (checks cs k w p)))
-        (choice-agrees (isTsumo w) (isDealer w) (scores (renCounts ρ cs) (renCalls ρ k) (renWin ρ w)) (scores cs k w)
-        (ranks-renamed ρ cs k w p plain plain′)
-        (scores-valued (renCounts ρ cs) (renCalls ρ k) four-renamed (q .hand) (renWin ρ w)) (scores-valued cs k four (p .hand) w))
+  -- the two scored wins
+  won-renamed :
+      length (k .melds) ≡ 4 → length (j .melds) ≡ 4 → NotGreen cs k → NotGreen (renCounts ρ cs) j
+      → SameAnswer (scoreWin (renCounts ρ cs) j (renWin ρ w)) (scoreWin cs k w)
+  won-renamed four four′ plain plain′ =
+      let q = checked-renamed c p in
+      subst₂ SameAnswer (sym (win-choice (renCounts ρ cs) j (renWin ρ w) (checks (renCounts ρ cs) j (renWin ρ w) q)))
+      (sym (win-choice cs k w (checks cs k w p)))
+      (choice-agrees (isTsumo w) (isDealer w) (scores (renCounts ρ cs) j (renWin ρ w)) (scores cs k w)
+      (ranks-renamed c p plain plain′)
+      (scores-valued (renCounts ρ cs) j four′ (q .hand) (renWin ρ w)) (scores-valued cs k four (p .hand) w))
 
 pub demand3 :
-    (ρ : Renaming) (cs : List ℕ) (k : Calls) (w : GameContext) → length (k .melds) ≡ 4 → winCheck cs k w ≡ 0
-    → NotGreen cs k → NotGreen (renCounts ρ cs) (renCalls ρ k)
-    → Alike ρ cs k w
-demand3 ρ cs k w four passes plain plain′ =
+    (ρ : Renaming) (cs : List ℕ) (k j : Calls) (w : GameContext) → length (k .melds) ≡ 4 → length (j .melds) ≡ 4
+    → RenamedCalls ρ k j → winCheck cs k w ≡ 0 → NotGreen cs k → NotGreen (renCounts ρ cs) j
+    → Alike ρ cs k j w
+demand3 ρ cs k j w four four′ c passes plain plain′ =
     let p = checked cs k w passes in
-    let q = checked-renamed ρ cs k w p in
-    let four′ = four-renamed ρ cs k w p four in
-    let bytes = bytes-renamed ρ cs k w p in
+    let q = checked-renamed c p in
+    let bytes = bytes-renamed c p in
     record {
-      passes = checks (renCounts ρ cs) (renCalls ρ k) (renWin ρ w) q;
-      readings = readings-renamed ρ cs k w p;
-      once = once (renCounts ρ cs) (renCalls ρ k) four′ (q .hand);
-      listings = same-listing cs (renCounts ρ cs) k (renCalls ρ k) (q .hand ∙ sym (p .hand)) (many-renamed ρ cs k w p) bytes;
+      passes = checks (renCounts ρ cs) j (renWin ρ w) q;
+      readings = readings-renamed c p;
+      once = once (renCounts ρ cs) j four′ (q .hand);
+      listings = same-listing cs (renCounts ρ cs) k j (q .hand ∙ sym (p .hand)) (many-renamed c p) bytes;
       writes = λ buffer h.
-          listing-writes (renCounts ρ cs) (renCalls ρ k) four′ (q .hand) (map (renReading ρ) (handReadings cs k)) (readings-renamed ρ cs k w p) buffer
+          listing-writes (renCounts ρ cs) j four′ (q .hand) (map (renReading ρ) (handReadings cs k)) (readings-renamed c p) buffer
           (subst (λ (n : ℕ). n ≤ length buffer) (sym bytes) h);
-      numbered = same-reading ρ cs k w p plain plain′;
-      won = won-renamed ρ cs k w p four plain plain′;
+      numbered = same-reading c p plain plain′;
+      won = won-renamed c p four four′ plain plain′;
     }

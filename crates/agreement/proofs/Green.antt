@@ -27,7 +27,7 @@ use Rattle.unit.specs.Listing.{handReadings}
 use Rattle.reading_score.specs.Score.{result, scoreOf, rank}
 use Rattle.choice.specs.Choice.{chooseBy, choice}
 use Rattle.win.specs.Win.{orThen, winCheck, scoreIn, scores, scoreWin}
-use Rattle.agreement.specs.Agreement.{renCalls, NotGreen}
+use Rattle.agreement.specs.Agreement.{RenamedCalls, NotGreen}
 
 -- man and sou change places
 abbrev swap : Renaming
@@ -63,33 +63,46 @@ hanOfWin : List ℕ → Calls → GameContext → ℕ
 hanOfWin cs k w = scoreWin cs k w .score .han
 
 -- Ryuuiisou; and Iipeikou with Honitsu
-two-han : (hanOfWin green none ron ≡ 13) × (hanOfWin (renCounts swap green) (renCalls swap none) (renWin swap ron) ≡ 4)
+two-han : (hanOfWin green none ron ≡ 13) × (hanOfWin (renCounts swap green) none (renWin swap ron) ≡ 4)
 unfolding hanOfWin scoreWin winCheck orThen check handCheck choice chooseBy rank scores scoreIn scoreOf result handReadings readings standardsAt meldLists sevenPairs thirteenOrphans tallies ordinary isYakuman oneHan moreHan han hanOf fu standardFu pinfu level basicPoints payment tileYaku tanyao honroutou tsuuiisou chinroutou ryuuiisou honitsu chinitsu nineGates pureWait toitoi kans yakuhai dragons winds sanAnkou ittsu sanshokuDoujun sanshokuDoukou peikou chanta junchan shousangen suuankou daisangen shousuushii daisuushii suuKantsu
 two-han = (refl, refl)
 
 -- all that the theorem asks but a condition on green tiles, and two scored wins that do not agree
-pub record Differ (ρ : Renaming) (cs : List ℕ) (k : Calls) (w : GameContext) : Type 0 where
+pub record Differ (ρ : Renaming) (cs : List ℕ) (k j : Calls) (w : GameContext) : Type 0 where
   pub four : length (k .melds) ≡ 4
+  pub four′ : length (j .melds) ≡ 4
+  pub renamed : RenamedCalls ρ k j
   pub passes : winCheck cs k w ≡ 0
-  pub han : scoreWin (renCounts ρ cs) (renCalls ρ k) (renWin ρ w) .score .han ≡ scoreWin cs k w .score .han → ⊥
+  pub han : scoreWin (renCounts ρ cs) j (renWin ρ w) .score .han ≡ scoreWin cs k w .score .han → ⊥
+
+-- no calls, renamed, are no calls
+none-renamed : RenamedCalls swap none none
+none-renamed = record { many = refl; calls = refl }
 
 -- the first hand is all green, the second is not
 pub green-condition-needed :
-    (ρ : Renaming) × (cs : List ℕ) × (k : Calls) × (w : GameContext)
-    × NotGreen (renCounts ρ cs) (renCalls ρ k) × Differ ρ cs k w
+    (ρ : Renaming) × (cs : List ℕ) × (k : Calls) × (j : Calls) × (w : GameContext) × NotGreen (renCounts ρ cs) j × Differ ρ cs k j w
 unfolding winCheck orThen check handCheck hanOfWin
-green-condition-needed =
-    (swap, green, none, ron, tt, record { four = refl; passes = refl; han = λ e. omega (arith, two-han) })
+green-condition-needed = (
+  swap,
+  green,
+  none,
+  none,
+  ron,
+  tt,
+  record { four = refl; four′ = refl; renamed = none-renamed; passes = refl; han = λ e. omega (arith, two-han) },
+)
 
 -- and the other way round: the first hand is not all green, the second is
 pub second-condition-needed :
-    (ρ : Renaming) × (cs : List ℕ) × (k : Calls) × (w : GameContext) × NotGreen cs k × Differ ρ cs k w
+    (ρ : Renaming) × (cs : List ℕ) × (k : Calls) × (j : Calls) × (w : GameContext) × NotGreen cs k × Differ ρ cs k j w
 unfolding winCheck orThen check handCheck hanOfWin
 second-condition-needed = (
   swap,
   renCounts swap green,
-  renCalls swap none,
+  none,
+  none,
   renWin swap ron,
   tt,
-  record { four = refl; passes = refl; han = λ e. omega (arith, two-han) },
+  record { four = refl; four′ = refl; renamed = none-renamed; passes = refl; han = λ e. omega (arith, two-han) },
 )

@@ -15,29 +15,29 @@ use Rattle.choice.specs.Standing.{StandsAt}
 use Rattle.choice.proofs.Standing.{stands-mem, mem-stands}
 use Rattle.win.specs.Win.{namedWaits}
 use Rattle.win.proofs.Answers.{scored-at, named-at}
-use Rattle.agreement.specs.Agreement.{SameAnswer, NotGreen, SameReading, renCalls}
+use Rattle.agreement.specs.Agreement.{SameAnswer, NotGreen, SameReading, RenamedCalls}
 use Rattle.agreement.proofs.Checked.{Checked, checks}
 use Rattle.agreement.proofs.Twin.{checked-renamed}
 use Rattle.agreement.proofs.Scored.{answers-alike, is-reading, readings-renamed, score-renamed}
 
 module _
-    (ρ : Renaming) (cs : List ℕ) (k : Calls) (w : GameContext) (p : Checked cs k w)
+    {ρ : Renaming} {cs : List ℕ} {k j : Calls} {w : GameContext} (c : RenamedCalls ρ k j) (p : Checked cs k w)
     (plain : NotGreen cs k)
-    (plain′ : NotGreen (renCounts ρ cs) (renCalls ρ k))
+    (plain′ : NotGreen (renCounts ρ cs) j)
   where
-    pub same-reading : (n : ℕ) (r : Reading) → StandsAt r n (handReadings cs k) → SameReading ρ cs k w n r
+    pub same-reading : (n : ℕ) (r : Reading) → StandsAt r n (handReadings cs k) → SameReading ρ cs k j w n r
     same-reading n r i =
         let m = stands-mem r n (handReadings cs k) i in
-        let q = mem-stands (perm-mem (Permᴰ·symm (readings-renamed ρ cs k w p)) (Memᴰ·map (renReading ρ) m)) in
+        let q = mem-stands (perm-mem (Permᴰ·symm (readings-renamed c p)) (Memᴰ·map (renReading ρ) m)) in
         let one = checks cs k w p in
-        let two = checks (renCounts ρ cs) (renCalls ρ k) (renWin ρ w) (checked-renamed ρ cs k w p) in
+        let two = checks (renCounts ρ cs) j (renWin ρ w) (checked-renamed c p) in
         record {
           number = q .0;
           stands = q .1;
           score =
-              subst₂ SameAnswer (sym (scored-at (renCounts ρ cs) (renCalls ρ k) (renWin ρ w) two (q .0) (renReading ρ r) (q .1)))
-              (sym (scored-at cs k w one n r i)) (answers-alike (score-renamed ρ cs k w p plain plain′ r m) (q .0) n);
+              subst₂ SameAnswer (sym (scored-at (renCounts ρ cs) j (renWin ρ w) two (q .0) (renReading ρ r) (q .1)))
+              (sym (scored-at cs k w one n r i)) (answers-alike (score-renamed c p plain plain′ r m) (q .0) n);
           waits =
-              named-at (renCounts ρ cs) (renCalls ρ k) (renWin ρ w) two (q .0) (renReading ρ r) (q .1)
-              ∙ ap namedWaits (waits-renamed ρ (w .«winning_tile») (p .tile) r (is-reading ρ cs k w p r m)) ∙ sym (named-at cs k w one n r i);
+              named-at (renCounts ρ cs) j (renWin ρ w) two (q .0) (renReading ρ r) (q .1)
+              ∙ ap namedWaits (waits-renamed ρ (w .«winning_tile») (p .tile) r (is-reading cs k r m)) ∙ sym (named-at cs k w one n r i);
         }

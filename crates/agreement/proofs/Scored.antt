@@ -31,7 +31,7 @@ use Rattle.reading_score.specs.declared.ScoringResult.{ScoringResult}
 use Rattle.reading_score.specs.Score.{result, scoreOf, hasYaku, rank, yakumanFirst, inDigits}
 use Rattle.choice.specs.Choice.{scored}
 use Rattle.win.specs.Win.{isOpened, tilesTogether, scoreIn, scores}
-use Rattle.agreement.specs.Agreement.{NotGreen, SameAnswer, renCalls}
+use Rattle.agreement.specs.Agreement.{NotGreen, SameAnswer, RenamedCalls}
 use Rattle.agreement.proofs.Checked.{Checked}
 use Rattle.agreement.proofs.Twin.{renamed-twin, together-twin, readings-twin}
 
@@ -83,44 +83,48 @@ scored-alike ρ w range h opened s r v =
       same-payment = e .same-payment;
     }
 
+-- what the hand lists is a reading
+pub is-reading : (cs : List ℕ) (k : Calls) (r : Reading) → List·Memᴰ r (handReadings cs k) → T (isReading r)
+unfolding handReadings
+is-reading cs k r i = listed-reading (held cs) (called k) r i
+
 -- ---- a win and the same win renamed
-module _ (ρ : Renaming) (cs : List ℕ) (k : Calls) (w : GameContext) (p : Checked cs k w) where
-  opened-stays : isOpened (renCalls ρ k) ≡ isOpened k
+module _ {ρ : Renaming} {cs : List ℕ} {k j : Calls} {w : GameContext} (c : RenamedCalls ρ k j) (p : Checked cs k w) where
+  -- open or not, as before
+  opened-stays : isOpened j ≡ isOpened k
   opened-stays =
-      ap (λ (l : List Meld). any isOpen l) (renamed-twin ρ cs k .calls) ∙ ap some (map-map (renMeld ρ) isOpen (called k))
+      ap (λ (l : List Meld). any isOpen l) (c .calls) ∙ ap some (map-map (renMeld ρ) isOpen (called k))
 
-  pub readings-renamed : List·Permᴰ (handReadings (renCounts ρ cs) (renCalls ρ k)) (map (renReading ρ) (handReadings cs k))
-  readings-renamed = readings-twin (keeps ρ) (renamed-twin ρ cs k) (p .hand)
-
-  pub is-reading : (r : Reading) → List·Memᴰ r (handReadings cs k) → T (isReading r)
-  unfolding handReadings
-  is-reading r i = listed-reading (held cs) (called k) r i
+  -- the second's readings are the first's renamed
+  pub readings-renamed : List·Permᴰ (handReadings (renCounts ρ cs) j) (map (renReading ρ) (handReadings cs k))
+  readings-renamed = readings-twin (keeps ρ) (renamed-twin ρ cs c) (p .hand)
 
   module _
       (plain : NotGreen cs k)
-      (plain′ : NotGreen (renCounts ρ cs) (renCalls ρ k))
+      (plain′ : NotGreen (renCounts ρ cs) j)
     where
-      tiles-stay : tilesTogether (renCounts ρ cs) (renCalls ρ k) (renWin ρ w) ≡ tilesTogether cs k w
+      -- the same yaku of the tiles
+      tiles-stay : tilesTogether (renCounts ρ cs) j (renWin ρ w) ≡ tilesTogether cs k w
       tiles-stay =
-          tileYaku-renamed ρ (together cs (called k)) (together (renCounts ρ cs) (called (renCalls ρ k)))
-          (together-twin (keeps ρ) (renamed-twin ρ cs k) (p .hand)) plain plain′ (w .«winning_tile») (p .tile)
+          tileYaku-renamed ρ (together cs (called k)) (together (renCounts ρ cs) (called j))
+          (together-twin (keeps ρ) (renamed-twin ρ cs c) (p .hand)) plain plain′ (w .«winning_tile») (p .tile)
 
       -- a reading and its renamed one
       pub score-renamed :
           (r : Reading) → List·Memᴰ r (handReadings cs k)
-          → SameResult (scoreIn (renCounts ρ cs) (renCalls ρ k) (renWin ρ w) (renReading ρ r)) (scoreIn cs k w r)
+          → SameResult (scoreIn (renCounts ρ cs) j (renWin ρ w) (renReading ρ r)) (scoreIn cs k w r)
       unfolding scoreIn
       score-renamed r i =
           subst (λ (x : ScoringResult). SameResult x (scoreOf w (isOpened k) (tilesTogether cs k w) r))
           (sym (ap₂ (λ (o : Bool) (s : TileYaku). scoreOf (renWin ρ w) o s (renReading ρ r)) opened-stays tiles-stay))
-          (scored-alike ρ w (p .range) (p .tile) (isOpened k) (tilesTogether cs k w) r (is-reading r i))
+          (scored-alike ρ w (p .range) (p .tile) (isOpened k) (tilesTogether cs k w) r (is-reading cs k r i))
 
       -- the ranks of all readings, in another order
       pub ranks-renamed :
-          List·Permᴰ (map rank (scores (renCounts ρ cs) (renCalls ρ k) (renWin ρ w))) (map rank (scores cs k w))
+          List·Permᴰ (map rank (scores (renCounts ρ cs) j (renWin ρ w))) (map rank (scores cs k w))
       unfolding scores
       ranks-renamed =
-          let f = scoreIn (renCounts ρ cs) (renCalls ρ k) (renWin ρ w) in
+          let f = scoreIn (renCounts ρ cs) j (renWin ρ w) in
           let l = handReadings cs k in
           List·Permᴰ·trans (map-perm rank (map-perm f readings-renamed))
           (perm-eq

@@ -7,7 +7,7 @@ use lib.Dec.{T}
 use lib.ListN.{length}
 use Rattle.lists.specs.Fold.{all, sum}
 use Rattle.lists.proofs.Finite.{and-left, and-right, and-both}
-use Rattle.lists.proofs.Members.{all-map, take-map}
+use Rattle.lists.proofs.Members.{all-map}
 use Rattle.tile.specs.Tile.{tiles}
 use Rattle.tile.specs.declared.Renaming.{Renaming}
 use Rattle.tile.specs.Renaming.{ren}
@@ -28,7 +28,7 @@ use Rattle.checks.specs.Checks.{called, together, handCheck}
 use Rattle.checks.proofs.Passed.{Passed, passed, passes, four-each}
 use Rattle.unit.specs.Listing.{handReadings}
 use Rattle.unit.proofs.Listed.{melds-called}
-use Rattle.agreement.specs.Agreement.{renCalls}
+use Rattle.agreement.specs.Agreement.{RenamedCalls}
 use Rattle.agreement.proofs.Checked.{Checked}
 
 -- the hand ds with the calls j is the hand cs with the calls k, with f at each tile and g at each call
@@ -86,18 +86,20 @@ checked-twin s {cs} {ds} {k} {j} q {w} {v} range e p =
       there = subst (λ (n : ℕ). 0 < n) (sym (ap (held ds) e ∙ q .counts (w .«winning_tile») (p .tile))) (p .there);
     }
 
--- ---- the 24 renamings
-pub renamed-twin : (ρ : Renaming) (cs : List ℕ) (k : Calls) → Twin (ren ρ) (renMeld ρ) cs k (renCounts ρ cs) (renCalls ρ k)
-renamed-twin ρ cs k =
+-- ---- the 24 renamings: a hand and its calls renamed are a twin
+pub renamed-twin :
+    (ρ : Renaming) (cs : List ℕ) {k j : Calls} → RenamedCalls ρ k j → Twin (ren ρ) (renMeld ρ) cs k (renCounts ρ cs) j
+renamed-twin ρ cs c =
     record {
       long = counts-length ρ cs;
       counts = held-renamed ρ cs;
-      many = refl;
-      calls = take-map (renMeld ρ) (k .count) (k .melds);
+      many = c .many;
+      calls = c .calls;
       call = λ m v. and-both (isMeld (renMeld ρ m)) _ (ren-isMeld ρ m (and-left (isMeld m) _ v)) (and-right (isMeld m) _ v);
     }
 
 -- the same win renamed passes the same checks
 pub checked-renamed :
-    (ρ : Renaming) (cs : List ℕ) (k : Calls) (w : GameContext) → Checked cs k w → Checked (renCounts ρ cs) (renCalls ρ k) (renWin ρ w)
-checked-renamed ρ cs k w p = checked-twin (keeps ρ) (renamed-twin ρ cs k) (p .range) refl p
+    {ρ : Renaming} {cs : List ℕ} {k j : Calls} {w : GameContext} → RenamedCalls ρ k j → Checked cs k w
+    → Checked (renCounts ρ cs) j (renWin ρ w)
+checked-renamed {ρ} {cs} c p = checked-twin (keeps ρ) (renamed-twin ρ cs c) (p .range) refl p

@@ -1,5 +1,5 @@
 -- Two units score one win each: a win, and the same win renamed. What it means that they agree. These are definitions; the theorem is
--- `demand3` in proofs/Demand3.antt.
+-- `demand3` in proofs/Demand3.antt, and `demand3-lent` in proofs/Lent.antt for calls that the callers lend.
 use mathlib.Core.Path.{_≡_}
 use mathlib.Core.Bool.{not}
 use mathlib.Core.List.{List, _++_, map, List·Permᴰ}
@@ -21,9 +21,10 @@ use Rattle.choice.specs.declared.ScoreAnswer.{ScoreAnswer}
 use Rattle.choice.specs.Standing.{StandsAt}
 use Rattle.win.specs.Win.{winCheck, scoreWin, scoreReading, nameWaits}
 
--- calls keep their order and kinds; each meld is renamed
-abbrev pub renCalls : Renaming → Calls → Calls
-renCalls ρ k = record { count = k .count; melds = map (renMeld ρ) (k .melds) }
+-- the calls j are the calls k renamed: as many, in their order, each meld renamed. What stands after the last call does not matter
+pub record RenamedCalls (ρ : Renaming) (k j : Calls) : Type 0 where
+  pub many : j .count ≡ k .count
+  pub calls : called j ≡ map (renMeld ρ) (called k)
 
 -- hand and calls together are not all green
 abbrev pub NotGreen : List ℕ → Calls → Type 0
@@ -47,25 +48,25 @@ pub record Writes (rs : List Reading) (buffer left : List ℕ) : Type 0 where
   pub bytes : left ≡ records listed ++ drop (length (records listed)) buffer
 
 -- the reading r, number n of the first hand, and its renamed one, at the number where that stands, score alike and have the same waits
-pub record SameReading (ρ : Renaming) (cs : List ℕ) (k : Calls) (w : GameContext) (n : ℕ) (r : Reading) : Type 0 where
+pub record SameReading (ρ : Renaming) (cs : List ℕ) (k j : Calls) (w : GameContext) (n : ℕ) (r : Reading) : Type 0 where
   pub number : ℕ
-  pub stands : StandsAt (renReading ρ r) number (handReadings (renCounts ρ cs) (renCalls ρ k))
-  pub score : SameAnswer (scoreReading (renCounts ρ cs) (renCalls ρ k) (renWin ρ w) number) (scoreReading cs k w n)
-  pub waits : nameWaits (renCounts ρ cs) (renCalls ρ k) (renWin ρ w) number ≡ nameWaits cs k w n
+  pub stands : StandsAt (renReading ρ r) number (handReadings (renCounts ρ cs) j)
+  pub score : SameAnswer (scoreReading (renCounts ρ cs) j (renWin ρ w) number) (scoreReading cs k w n)
+  pub waits : nameWaits (renCounts ρ cs) j (renWin ρ w) number ≡ nameWaits cs k w n
 
--- the win of the hand cs with the calls k, and the same win renamed by ρ
-pub record Alike (ρ : Renaming) (cs : List ℕ) (k : Calls) (w : GameContext) : Type 0 where
+-- the win of the hand cs with the calls k, and the same win renamed by ρ, with the calls j
+pub record Alike (ρ : Renaming) (cs : List ℕ) (k j : Calls) (w : GameContext) : Type 0 where
   -- the second passes the same checks
-  pub passes : winCheck (renCounts ρ cs) (renCalls ρ k) (renWin ρ w) ≡ 0
+  pub passes : winCheck (renCounts ρ cs) j (renWin ρ w) ≡ 0
   -- its readings are the first's renamed, each once
-  pub readings : List·Permᴰ (handReadings (renCounts ρ cs) (renCalls ρ k)) (map (renReading ρ) (handReadings cs k))
-  pub once : Nodup (handReadings (renCounts ρ cs) (renCalls ρ k))
+  pub readings : List·Permᴰ (handReadings (renCounts ρ cs) j) (map (renReading ρ) (handReadings cs k))
+  pub once : Nodup (handReadings (renCounts ρ cs) j)
   -- with equally many bytes lent both listings answer the same number and the same counts; accepted, the second writes these readings' records
-  pub listings : (lent : ℕ) → listing (renCounts ρ cs) (renCalls ρ k) lent ≡ listing cs k lent
+  pub listings : (lent : ℕ) → listing (renCounts ρ cs) j lent ≡ listing cs k lent
   pub writes :
       (buffer : List ℕ) → length (handRecords cs k) ≤ length buffer
-      → Writes (map (renReading ρ) (handReadings cs k)) buffer (written (renCounts ρ cs) (renCalls ρ k) buffer)
+      → Writes (map (renReading ρ) (handReadings cs k)) buffer (written (renCounts ρ cs) j buffer)
   -- reading n and its renamed one, scored by number
-  pub numbered : (n : ℕ) (r : Reading) → StandsAt r n (handReadings cs k) → SameReading ρ cs k w n r
+  pub numbered : (n : ℕ) (r : Reading) → StandsAt r n (handReadings cs k) → SameReading ρ cs k j w n r
   -- the two scored wins
-  pub won : SameAnswer (scoreWin (renCounts ρ cs) (renCalls ρ k) (renWin ρ w)) (scoreWin cs k w)
+  pub won : SameAnswer (scoreWin (renCounts ρ cs) j (renWin ρ w)) (scoreWin cs k w)

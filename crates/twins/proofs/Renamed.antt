@@ -4,6 +4,7 @@ use mathlib.Core.List.{List, [], _∷_, map}
 use Prim.Native.Nat.{ℕ, _+_, _<_, _≤_}
 use lib.ListN.{length, getD, drop, set}
 use lib.Seq.{sets}
+use Rattle.lists.proofs.Members.{take-map}
 use Rattle.structure.proofs.Four.{four}
 use Rattle.tile.specs.Tile.{tiles}
 use Rattle.tile.specs.declared.Renaming.{Renaming}
@@ -15,7 +16,8 @@ use Rattle.checks.proofs.Turns.{copy-next, copy-end, copy-whole}
 use Rattle.hand.specs.Counts.{held}
 use Rattle.renamed.specs.Renamed.{renCounts}
 use Rattle.renamed.proofs.Counts.{at-tile}
-use Rattle.agreement.specs.Agreement.{renCalls}
+use Rattle.agreement.specs.Agreement.{RenamedCalls}
+use Rattle.twins.specs.Twins.{renCalls}
 
 -- ---- the counts by the renaming that undoes it
 unfoldable pub moved : Renaming → List ℕ → List ℕ
@@ -43,7 +45,11 @@ pub moved-counts : (ρ : Renaming) (cs : List ℕ) → moved (back ρ) cs ≡ re
 unfolding moved
 moved-counts ρ cs = refl
 
--- ---- the calls
+-- ---- the calls: with all four melds renamed, those that are called are
+pub calls-renamed : (ρ : Renaming) (k : Calls) → RenamedCalls ρ k (renCalls ρ k)
+calls-renamed ρ k = record { many = refl; calls = take-map (renMeld ρ) (k .count) (k .melds) }
+
+-- the four melds written out
 pub calls-four :
     (ρ : Renaming) (k : Calls) (m : Meld) → length (k .melds) ≡ 4
     → record {

@@ -1,13 +1,22 @@
--- Twins are a win and the same win renamed, each scored by the unit. Whether their two answers agree, as a test that code can make. These are
--- definitions; `SameAnswer` in agreement/specs/Agreement.antt says it in words, and the law `agree-means` that yes means that.
+-- Twins are a win and the same win renamed, each scored by the unit. The calls renamed, by value; and whether the two answers agree, as a test
+-- that code can make. These are definitions; `SameAnswer` in agreement/specs/Agreement.antt says it in words, and the law `agree-means` that
+-- yes means that.
 use mathlib.Core.Bool.{Bool, _&&_}
+use mathlib.Core.List.{map}
 use Prim.Native.Nat.{ℕ, _+_}
 use lib.Dec.{eqb}
+use Rattle.tile.specs.declared.Renaming.{Renaming}
+use Rattle.meld.specs.Renamed.{renMeld}
+use Rattle.checks.specs.declared.Calls.{Calls}
 use Rattle.scoring.specs.declared.ScoreLevel.{ScoreLevel}
 use Rattle.scoring.specs.declared.ScoreLevel.the-variants.{Normal, Mangan, Haneman, Baiman, Sanbaiman, Yakuman}
 use Rattle.scoring.specs.declared.Payment.{Payment}
 use Rattle.scoring.specs.declared.Payment.the-variants.{Ron, DealerTsumo, Tsumo}
 use Rattle.choice.specs.declared.ScoreAnswer.{ScoreAnswer}
+
+-- as many calls, and each of the four melds renamed in its place
+abbrev pub renCalls : Renaming → Calls → Calls
+renCalls ρ k = record { count = k .count; melds = map (renMeld ρ) (k .melds) }
 
 -- a level as a number, different for each
 abbrev pub levelNumber : ScoreLevel → ℕ

@@ -7,8 +7,8 @@ ghost use Rattle.context.specs.Context.{renWin};
 ghost use Rattle.hand.specs.Counts.{held};
 ghost use Rattle.renamed.specs.Renamed.{renCounts};
 ghost use Rattle.win.specs.Win.{winCheck, scoreWin};
-ghost use Rattle.agreement.specs.Agreement.{renCalls, NotGreen};
-ghost use Rattle.twins.specs.Twins.{levelNumber, kindOf, firstAmount, secondAmount, agrees};
+ghost use Rattle.agreement.specs.Agreement.{NotGreen};
+ghost use Rattle.twins.specs.Twins.{renCalls, levelNumber, kindOf, firstAmount, secondAmount, agrees};
 
 // The suits that undo a change of suits.
 fn suits_back(s: tile::Suits) -> tile::Suits
