@@ -6,4 +6,5 @@ pub mod Numbered
 pub mod Chosen
 pub mod Valued
 pub mod Demand3
+pub mod Lent
 pub mod Green
