@@ -5,11 +5,10 @@ use mathlib.Core.List.{List}
 use Prim.Native.Nat.{ℕ, _+_}
 use native.Mathlib.Omega.{arith}
 use lib.Dec.{T, eqb, eqb→eq}
-use lib.ListN.{length, length-map}
+use lib.ListN.{length}
 use borrow.Author.Tests.{eq-eqb}
 use Rattle.lists.proofs.Finite.{and-left, and-right, T→true, true→T}
 use Rattle.tile.specs.declared.Renaming.{Renaming}
-use Rattle.meld.specs.Renamed.{renMeld}
 use Rattle.context.specs.declared.GameContext.{GameContext}
 use Rattle.context.specs.Context.{renWin}
 use Rattle.renamed.specs.Renamed.{renCounts}
@@ -23,7 +22,7 @@ use Rattle.win.specs.Win.{winCheck, scoreWin}
 use Rattle.agreement.specs.Agreement.{SameAnswer, NotGreen}
 use Rattle.agreement.proofs.Demand3.{demand3}
 use Rattle.twins.specs.Twins.{renCalls, levelNumber, kindOf, firstAmount, secondAmount, agrees}
-use Rattle.twins.proofs.Renamed.{calls-renamed}
+use Rattle.twins.proofs.Renamed.{four-renamed, calls-renamed}
 
 both : {a b : Bool} → a ≡ true → b ≡ true → (a && b) ≡ true
 both p q = ap₂ _&&_ p q
@@ -121,5 +120,4 @@ pub calls-agree :
     (ρ : Renaming) (cs : List ℕ) (k : Calls) (w : GameContext) → length (k .melds) ≡ 4 → winCheck cs k w ≡ 0 → NotGreen cs k
     → NotGreen (renCounts ρ cs) (renCalls ρ k) → agrees (scoreWin (renCounts ρ cs) (renCalls ρ k) (renWin ρ w)) (scoreWin cs k w) ≡ true
 calls-agree ρ cs k w four passes plain plain′ =
-    let four′ = length-map (k .melds) (renMeld ρ) ∙ four in
-    agreed _ _ (demand3 ρ cs k (renCalls ρ k) w four four′ (calls-renamed ρ k) passes plain plain′ .won)
+    agreed _ _ (demand3 ρ cs k (renCalls ρ k) w four (four-renamed ρ k four) (calls-renamed ρ k) passes plain plain′ .won)

@@ -2,9 +2,8 @@
 use mathlib.Core.Path.{_≡_, refl, sym, ap, _∙_}
 use mathlib.Core.List.{List, [], _∷_, map}
 use Prim.Native.Nat.{ℕ, _+_, _<_, _≤_}
-use lib.ListN.{length, getD, drop, set}
+use lib.ListN.{length, length-map, getD, drop, set}
 use lib.Seq.{sets}
-use Rattle.lists.proofs.Members.{take-map}
 use Rattle.structure.proofs.Four.{four}
 use Rattle.tile.specs.Tile.{tiles}
 use Rattle.tile.specs.declared.Renaming.{Renaming}
@@ -13,6 +12,7 @@ use Rattle.meld.specs.declared.Meld.{Meld}
 use Rattle.meld.specs.Renamed.{renMeld}
 use Rattle.checks.specs.declared.Calls.{Calls}
 use Rattle.checks.proofs.Turns.{copy-next, copy-end, copy-whole}
+use Rattle.lists.proofs.Members.{take-map}
 use Rattle.hand.specs.Counts.{held}
 use Rattle.renamed.specs.Renamed.{renCounts}
 use Rattle.renamed.proofs.Counts.{at-tile}
@@ -45,11 +45,14 @@ pub moved-counts : (ρ : Renaming) (cs : List ℕ) → moved (back ρ) cs ≡ re
 unfolding moved
 moved-counts ρ cs = refl
 
--- ---- the calls: with all four melds renamed, those that are called are
+-- ---- the calls: there are four melds still, and with each renamed those that are called are
+pub four-renamed : (ρ : Renaming) (k : Calls) → length (k .melds) ≡ 4 → length (renCalls ρ k .melds) ≡ 4
+four-renamed ρ k e = length-map (k .melds) (renMeld ρ) ∙ e
+
 pub calls-renamed : (ρ : Renaming) (k : Calls) → RenamedCalls ρ k (renCalls ρ k)
 calls-renamed ρ k = record { many = refl; calls = take-map (renMeld ρ) (k .count) (k .melds) }
 
--- the four melds written out
+-- the four written out
 pub calls-four :
     (ρ : Renaming) (k : Calls) (m : Meld) → length (k .melds) ≡ 4
     → record {
