@@ -22,7 +22,7 @@ fn how_many(a: bool, b: bool, c: bool, d: bool) -> u8
     one_if(a) + (one_if(b) + (one_if(c) + one_if(d)))
 }
 
-// The tile that a closed sequence starts at. Any other meld has a number above 255, so no tile is in it.
+// The tile that a closed sequence starts at; for any other meld a number above every tile.
 fn closed_start(m: meld::Meld) -> u32
     ensures { λ r. ⌜ r ≡ m .kind * 256 + m .tile ⌝ }
 {

@@ -1,4 +1,4 @@
--- `holds` meets its contract: the definition, asked of the number that a closed sequence starts at.
+-- `holds` meets its contract: the definition, asked of the number at which a closed sequence starts.
 -- Assumes nothing.
 use borrow.Author.Needs.{needs}
 use Rattle.wait.proofs.Starts.{closed-within}

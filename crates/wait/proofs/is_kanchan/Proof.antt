@@ -1,4 +1,4 @@
--- `is_kanchan` meets its contract: the definition, asked of the number that a closed sequence starts at.
+-- `is_kanchan` meets its contract: the definition, asked of the number at which a closed sequence starts.
 -- Assumes nothing.
 use borrow.Author.Needs.{needs}
 use Rattle.wait.proofs.Starts.{closed-middle}

@@ -1,9 +1,9 @@
--- `is_ryanmen` meets its contract: the definition, with the tile's own number in its suit, asked of the number that a closed sequence starts at.
+-- `is_ryanmen` meets its contract: the definition, asked of the number at which a closed sequence starts, with the number of the tile in its suit.
 -- Assumes nothing.
 use borrow.Author.Needs.{needs}
 use mathlib.Core.Bool.{not}
 use lib.Dec.{eqb}
-use Rattle.wait.proofs.Starts.{number, at-first, at-last, closed-twoSided}
+use Rattle.wait.proofs.Starts.{closedStart, at-first, at-last, closed-twoSided}
 use Rattle.wait.proofs.is_ryanmen.Statement.{statement}
 use Rattle.wait.proofs.is_ryanmen.Tie as tie
 
@@ -17,7 +17,7 @@ returns : tie.Need-returns
 returns c =
     let t = c .before .args .t in
     let m = c .before .args .m in
-    simp (c .closed-start .ensures, at-first (λ n. not (eqb n 6)) t (number m), at-last not t (number m), closed-twoSided t m (search needs))
+    simp (c .closed-start .ensures, at-first (λ n. not (eqb n 6)) t (closedStart m), at-last not t (closedStart m), closed-twoSided t m (search needs))
 
 pub is-ryanmen-spec : {M : Type 1} → statement M
 is-ryanmen-spec = tie.close (tie.spec closed-start-requires add-result returns)
