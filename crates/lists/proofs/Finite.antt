@@ -1,12 +1,12 @@
 -- Tests over a finite range that antt computes, and the laws that turn a passed test into the fact at each entry.
 -- Assumes nothing.
-use mathlib.Core.Path.{_≡_, refl, sym, subst}
+use mathlib.Core.Path.{_≡_, refl, sym, ap, _∙_, subst}
 use mathlib.Core.Bool.{Bool, true, false, _&&_, _||_, not, cond, Bool·beq}
 use Prim.Native.Nat.{ℕ, zero, suc, _<_, _≤_}
 use native.Mathlib.Nat.{not-suc-le-zero}
 use native.Mathlib.Decide.{ℕ-discrete}
 use native.Mathlib.Omega.{arith}
-use lib.Dec.{T}
+use lib.Dec.{T, eqb, leb, leb·zero, leb·suc-suc, eqb·suc-zero}
 use Rattle.lists.specs.Fold.{allBelow, one}
 
 pub and-left : (a b : Bool) → T (a && b) → T a
@@ -89,3 +89,8 @@ one-le false = omega arith
 pub cond-le : (b : Bool) (x y n : ℕ) → x ≤ n → y ≤ n → cond b x y ≤ n
 cond-le true x y n h k = h
 cond-le false x y n h k = k
+
+-- there is one, or there is none
+pub leb-one : (n : ℕ) → leb 1 n ≡ not (eqb n 0)
+leb-one zero = refl
+leb-one (suc n) = leb·suc-suc 0 n ∙ leb·zero n ∙ sym (ap not (eqb·suc-zero n))

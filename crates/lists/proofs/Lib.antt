@@ -7,3 +7,5 @@ pub mod Arranged
 pub mod Counted
 pub mod Relations
 pub mod Kept
+pub mod Elements
+pub mod Stores

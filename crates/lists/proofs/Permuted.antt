@@ -3,7 +3,7 @@ use mathlib.Core.Path.{_≡_, refl, sym, ap, ap₂, _∙_, subst}
 use mathlib.Core.Bool.{Bool, true, false, _&&_, _||_, cond}
 use mathlib.Core.List.{List, [], _∷_, map, List·Permᴰ, List·Permᴰ·nil, List·Permᴰ·cons, List·Permᴰ·swap, List·Permᴰ·trans, Permᴰ·refl, Permᴰ·symm}
 use Prim.Native.Nat.{ℕ, _+_}
-use native.Mathlib.Omega.{arith}
+use native.Mathlib.Nat.{add-left-comm}
 use lib.Dec.{T, eqb, eqb→eq}
 use Rattle.lists.specs.Fold.{every, some, total, all, any, sum}
 use Rattle.lists.proofs.Finite.{and-left, and-right, T-eq, or-elim, or-left, or-right}
@@ -32,13 +32,10 @@ some-perm (List·Permᴰ·cons e d) = ap₂ _||_ e (some-perm d)
 some-perm (List·Permᴰ·swap {a = a} {b = b} {l = l} e f) = or-swap a b (some l) ∙ ap₂ (λ (x y : Bool). x || (y || some l)) f e
 some-perm (List·Permᴰ·trans d e) = some-perm d ∙ some-perm e
 
-sum-swap : (a b c : ℕ) → a + (b + c) ≡ b + (a + c)
-sum-swap a b c = omega arith
-
 pub total-perm : {l m : List ℕ} → List·Permᴰ l m → total l ≡ total m
 total-perm List·Permᴰ·nil = refl
 total-perm (List·Permᴰ·cons e d) = ap₂ _+_ e (total-perm d)
-total-perm (List·Permᴰ·swap {a = a} {b = b} {l = l} e f) = sum-swap a b (total l) ∙ ap₂ (λ (x y : ℕ). x + (y + total l)) f e
+total-perm (List·Permᴰ·swap {a = a} {b = b} {l = l} e f) = add-left-comm a b (total l) ∙ ap₂ (λ (x y : ℕ). x + (y + total l)) f e
 total-perm (List·Permᴰ·trans d e) = total-perm d ∙ total-perm e
 
 module _ {A B : Type 0} (f : A → B) where

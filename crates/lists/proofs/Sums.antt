@@ -1,12 +1,15 @@
 -- Sums over a list. Assumes nothing.
 use mathlib.Core.Path.{_≡_, refl, sym, ap, _∙_}
 use mathlib.Core.Logic.{⊎-elim}
+use mathlib.Core.Bool.{Bool}
 use mathlib.Core.List.{List, [], _∷_, _++_, List·Memᴰ, List·Memᴰ·head, List·Memᴰ·tail, List·Memᴰ·not-nil, List·Memᴰ·cases-cons, Memᴰ·cast}
 use Prim.Native.Nat.{ℕ, _+_, _*_, _%_, _≤_}
-use native.Mathlib.Nat.{mul-add}
+use native.Mathlib.Nat.{mul-add, mul-suc}
 use native.Mathlib.Omega.{arith}
-use Rattle.lists.specs.Fold.{sum, total}
+use lib.ListN.{length}
+use Rattle.lists.specs.Fold.{sum, count, one, total}
 use Rattle.lists.specs.Order.{Nodup}
+use Rattle.lists.proofs.Finite.{one-le}
 use Rattle.lists.proofs.Members.{map-members}
 
 module _ {A : Type 0} where
@@ -30,6 +33,18 @@ module _ {A : Type 0} where
   pub sum-times : (k : ℕ) (f : A → ℕ) (l : List A) → k * sum f l ≡ sum (λ a. k * f a) l
   sum-times k f [] = omega arith
   sum-times k f (a ∷ l) = mul-add k (f a) (sum f l) ∙ ap (λ (n : ℕ). k * f a + n) (sum-times k f l)
+
+  -- each at most b
+  pub sum-le : (f : A → ℕ) (b : ℕ) → ((a : A) → f a ≤ b) → (l : List A) → sum f l ≤ b * length l
+  sum-le f b h [] = omega arith
+  sum-le f b h (a ∷ l) =
+      let i = h a in
+      let k = sum-le f b h l in
+      let e = mul-suc b (length l) in
+      omega arith
+
+  pub count-le : (p : A → Bool) (l : List A) → count p l ≤ length l
+  count-le p l = let h = sum-le (λ a. one (p a)) 1 (λ a. one-le (p a)) l in omega arith
 
   -- each a multiple of 3
   pub sum-threes : (f : A → ℕ) (l : List A) → ((a : A) → List·Memᴰ a l → f a % 3 ≡ 0) → sum f l % 3 ≡ 0

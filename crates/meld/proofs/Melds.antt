@@ -103,6 +103,3 @@ sorted-perm ms v = arrange-perm melds melds-nodup ms (λ x i. in-melds x (all-me
 -- ---- they ascend
 pub melds-ascend : Pairwise (λ m x. key m < key x) melds
 melds-ascend = rising-pairwise key melds tt
-
-pub handMelds-ascend : Pairwise (λ m x. key m < key x) handMelds
-handMelds-ascend = rising-pairwise key handMelds tt

@@ -9,7 +9,7 @@ use Rattle.tile.specs.declared.Suits.{Suits}
 use Rattle.tile.specs.declared.Suits.the-variants.{ManPinSou, ManSouPin, PinManSou, PinSouMan, SouManPin, SouPinMan}
 use Rattle.tile.specs.declared.Renaming.{Renaming}
 use Rattle.tile.specs.Renaming.{ren, back}
-use Rattle.tile.specs.Tile.{isSuited, isHonor, isWind, isDragon, isTerminal, isSimple, isTerminalOrHonor}
+use Rattle.tile.specs.Tile.{isHonor, isWind, isDragon, isTerminal, isSimple, isTerminalOrHonor}
 
 -- ---- the test p passes at each renaming
 abbrev pub allSuits : (Suits → Bool) → Bool
@@ -89,9 +89,6 @@ pub wind-stays : (ρ : Renaming) (t : ℕ) → t < 34 → T (isWind t) → ren �
 wind-stays ρ t h w = eqb→eq (ren ρ t) t (or-skip (isWind t) (eqb (ren ρ t) t) w (ren-wind ρ t h))
 
 -- ---- what stays what it is
-pub ren-isSuited : (ρ : Renaming) (t : ℕ) → t < 34 → isSuited (ren ρ t) ≡ isSuited t
-ren-isSuited = tile-law isSuited tt
-
 pub ren-isHonor : (ρ : Renaming) (t : ℕ) → t < 34 → isHonor (ren ρ t) ≡ isHonor t
 ren-isHonor = tile-law isHonor tt
 

@@ -1,0 +1,22 @@
+-- A run of stores from a place on: one store, and the rest. Assumes nothing.
+use mathlib.Core.Path.{_≡_, sym, ap, _∙_}
+use mathlib.Core.List.{List}
+use Prim.Native.Nat.{ℕ, suc, _+_, _<_}
+use native.Mathlib.Numerals.{add-one}
+use native.Mathlib.Omega.{arith}
+use lib.ListN.{length, getD, set, drop}
+use lib.Seq.{drop-cons, sets}
+
+module _ (d s : List ℕ) where
+  -- what stands in s from i on is stored from p on
+  pub sets-next : (p i : ℕ) → i < length s → sets d p (drop i s) ≡ sets (set d p (getD s i 0)) (p + 1) (drop (i + 1) s)
+  sets-next p i h =
+      ap (sets d p) (drop-cons s i 0 h)
+      ∙ ap (λ (k : ℕ). sets (set d p (getD s i 0)) k (drop (suc i) s)) (sym (add-one p))
+      ∙ ap (λ (k : ℕ). sets (set d p (getD s i 0)) (p + 1) (drop k s)) (sym (add-one i))
+
+  -- the whole of s is stored from at on
+  pub sets-turn : (at i : ℕ) → i < length s → sets d (at + i) (drop i s) ≡ sets (set d (at + i) (getD s i 0)) (at + (i + 1)) (drop (i + 1) s)
+  sets-turn at i h =
+      let e : at + i + 1 ≡ at + (i + 1) = omega arith in
+      sets-next (at + i) i h ∙ ap (λ (k : ℕ). sets (set d (at + i) (getD s i 0)) k (drop (i + 1) s)) e
