@@ -3,3 +3,4 @@ pub mod Lowest
 pub mod Weights
 pub mod Sums
 pub mod Tests
+pub mod Records

@@ -299,11 +299,6 @@ pub some-left : (c : ℕ → ℕ) → T (not (isEmpty c)) → meldLists zero c �
 unfolding meldLists
 some-left c t = ap (λ (b : Bool). cond b ([] ∷ []) []) (¬T→false (isEmpty c) (T-not (isEmpty c) t))
 
--- some of the tile u is left
-pub some-left-at : (c : ℕ → ℕ) (u : ℕ) → u < 34 → 1 ≤ c u → meldLists zero c ≡ []
-unfolding meldLists
-some-left-at c u h k = ap (λ (b : Bool). cond b ([] ∷ []) []) (not-empty c u h k)
-
 pub none-left-needed : (n : ℕ) (c : ℕ → ℕ) → T (isEmpty c) → meldLists (suc n) c ≡ []
 unfolding meldLists
 none-left-needed n c t = none-fit n c handMelds (before-unfit c 34 (omega arith) (λ v h. eqb→eq (c v) 0 (at 34 (λ t. eqb (c t) 0) t v h)))

@@ -4,13 +4,14 @@ use mathlib.Core.Logic.{_⊎_, inl, inr}
 use mathlib.Core.Bool.{Bool, true, false, _||_}
 use Prim.Native.Nat.{ℕ, _+_, _<_}
 use native.Mathlib.Omega.{arith}
-use lib.Dec.{T, eqb, eqb→eq, eqb-refl}
+use lib.Dec.{T, eqb, ltb, eqb→eq, lt→ltb, eqb-refl}
 use lib.ListN.{length}
 use Rattle.lists.specs.Fold.{all, one}
 use Rattle.lists.proofs.Finite.{and-left, and-right, or-elim, T→true}
-use Rattle.lists.proofs.Members.{all-mem}
+use Rattle.lists.proofs.Members.{all-mem, all-intro}
+use Rattle.lists.proofs.Kept.{kept}
 use Rattle.tile.specs.Tile.{isTerminalOrHonor, tiles}
-use Rattle.tile.proofs.Tiles.{in-tiles}
+use Rattle.tile.proofs.Tiles.{in-tiles, tile-lt}
 use Rattle.hand.specs.Readings.{twos, isPairs, isOrphans}
 
 module _ (c : ℕ → ℕ) where
@@ -23,6 +24,9 @@ module _ (c : ℕ → ℕ) where
 
   pub seven-twos : T (isPairs c) → length (twos c) ≡ 7
   seven-twos s = eqb→eq (length (twos c)) 7 (and-right (all (λ t. eqb (c t) 0 || eqb (c t) 2) tiles) _ s)
+
+  pub twos-tiles : T (all (λ t. ltb t 34) (twos c))
+  twos-tiles = all-intro (λ t. ltb t 34) (twos c) (λ t i. lt→ltb t 34 (tile-lt (kept (λ t. eqb (c t) 2) tiles i .0)))
 
   -- ---- thirteen orphans
   pub orphans-exact : (p : ℕ) → T (isOrphans c p) → (t : ℕ) → t < 34 → c t ≡ one (isTerminalOrHonor t) + one (eqb t p)

@@ -6,7 +6,7 @@ ghost use Rattle.lists.specs.Fold.{sum, upFrom};
 ghost use Rattle.hand.specs.Counts.{held};
 
 // A byte as a wider number.
-fn wide(x: u8) -> u64
+pub fn wide(x: u8) -> u64
     ensures { λ r. ⌜ r ≡ x ⌝ }
 {
     x as u64
