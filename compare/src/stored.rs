@@ -24,28 +24,41 @@ impl<const RECORD: usize> Sample<RECORD> {
         }
         is_new
     }
+}
 
-    /// A part of so many records: tries until so many tries have added one.
-    pub fn part(
-        &mut self,
+/// A part of a sample: so many records of what is dealt until it fits.
+pub struct Part<D, X> {
+    title: String,
+    records: usize,
+    pub deal: Box<dyn Fn(&mut Rng) -> D>,
+    pub fits: Box<dyn Fn(&X) -> bool>,
+}
+
+impl<D, X> Part<D, X> {
+    pub fn new(
         title: &str,
         records: usize,
-        mut try_one: impl FnMut(&mut Self) -> bool,
-    ) {
-        let mut added = 0;
-        while added < records {
-            added += usize::from(try_one(self));
+        deal: impl Fn(&mut Rng) -> D + 'static,
+        fits: impl Fn(&X) -> bool + 'static,
+    ) -> Part<D, X> {
+        Part {
+            title: title.into(),
+            records,
+            deal: Box::new(deal),
+            fits: Box::new(fits),
         }
-        println!("  {records:5}  {title}");
     }
 }
 
-/// Runs a program that makes a sample, writes it into the file that its only word names, and prints
-/// the tally that it answers.
-pub fn write<const RECORD: usize, T: Display>(
+/// Runs a program that makes a sample of these parts, writes it into the file that its only word
+/// names, and prints the tally. `add_one` deals one of a part, adds its record to the sample and to
+/// the tally if it fits, and says whether it was added.
+pub fn write<const RECORD: usize, D, X, T: Display>(
     program: &str,
     seed: u64,
-    make: impl FnOnce(&mut Rng, &mut Sample<RECORD>) -> T,
+    parts: Vec<Part<D, X>>,
+    mut tally: T,
+    add_one: fn(&Part<D, X>, &mut Rng, &mut T, &mut Sample<RECORD>) -> bool,
 ) -> ExitCode {
     arguments::run(&format!("usage: {program} FILE"), |words| {
         let [path] = words else {
@@ -56,7 +69,14 @@ pub fn write<const RECORD: usize, T: Display>(
             bytes: Vec::new(),
         };
         println!("seed {seed}, no record twice; records of each part:");
-        let tally = make(&mut Rng::new(seed), &mut sample);
+        let rng = &mut Rng::new(seed);
+        for part in &parts {
+            let mut added = 0;
+            while added < part.records {
+                added += usize::from(add_one(part, rng, &mut tally, &mut sample));
+            }
+            println!("  {:5}  {}", part.records, part.title);
+        }
         fs::write(path, &sample.bytes).expect("the file can be written");
         print!("{} bytes in {path}\n{tally}", sample.bytes.len());
         Some(ExitCode::SUCCESS)

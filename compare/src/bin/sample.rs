@@ -29,29 +29,8 @@ const SEED: u64 = 34;
 const RECORD: usize = 256;
 const MOST_LENT: usize = 120;
 
-/// A part of the sample: so many records of hands dealt until the right answer fits.
-struct Part {
-    title: String,
-    records: usize,
-    deal: Box<dyn Fn(&mut Rng) -> Hand>,
-    fits: Box<dyn Fn(&Expected) -> bool>,
-}
-
-impl Part {
-    fn new(
-        title: &str,
-        records: usize,
-        deal: impl Fn(&mut Rng) -> Hand + 'static,
-        fits: impl Fn(&Expected) -> bool + 'static,
-    ) -> Part {
-        Part {
-            title: title.into(),
-            records,
-            deal: Box::new(deal),
-            fits: Box::new(fits),
-        }
-    }
-}
+/// Hands dealt until the right answer fits.
+type Part = stored::Part<Hand, Expected>;
 
 fn parts() -> Vec<Part> {
     let mut parts = vec![
@@ -145,13 +124,5 @@ fn add_one(part: &Part, rng: &mut Rng, tally: &mut Tally, sample: &mut Sample<RE
 }
 
 fn main() -> ExitCode {
-    stored::write("sample", SEED, |rng, sample| {
-        let mut tally = Tally::default();
-        for part in parts() {
-            sample.part(&part.title, part.records, |sample| {
-                add_one(&part, rng, &mut tally, sample)
-            });
-        }
-        tally
-    })
+    stored::write("sample", SEED, parts(), Tally::default(), add_one)
 }

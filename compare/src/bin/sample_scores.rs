@@ -24,7 +24,7 @@ use compare::library::Win;
 use compare::probe::{Reading, ReadingScore, STANDARD};
 use compare::rng::Rng;
 use compare::score_tally::*;
-use compare::stored::{self, put_win};
+use compare::stored::{self, Sample, put_win};
 use compare::wins;
 use std::ops::Range;
 use std::process::ExitCode;
@@ -46,64 +46,54 @@ struct Scored {
     score: ReadingScore,
 }
 
-/// A part of the sample: so many records of readings dealt until one fits.
-struct Part {
-    title: String,
-    records: usize,
-    fits: Box<dyn Fn(&Scored) -> bool>,
-}
+/// Readings dealt until one fits.
+type Part = stored::Part<Scored, Scored>;
 
-impl Part {
-    fn new(title: &str, records: usize, fits: impl Fn(&Scored) -> bool + 'static) -> Part {
-        Part {
-            title: title.into(),
-            records,
-            fits: Box::new(fits),
-        }
-    }
+fn part(title: &str, records: usize, fits: impl Fn(&Scored) -> bool + 'static) -> Part {
+    Part::new(title, records, deal, fits)
 }
 
 fn parts() -> Vec<Part> {
     let mut parts = Vec::new();
     for (place, yaku) in YAKU_ENTRIES.iter().enumerate() {
         let title = format!("{yaku:?}");
-        parts.push(Part::new(&title, 50, move |scored| {
+        parts.push(part(&title, 50, move |scored| {
             scored.score.tallies[place] > 0
         }));
     }
     for place in WINDS {
         let title = format!("{:?} twice", YAKU_ENTRIES[place]);
-        parts.push(Part::new(&title, 25, move |scored| {
+        parts.push(part(&title, 25, move |scored| {
             scored.score.tallies[place] == 2
         }));
     }
     for (place, wait) in WAIT_ENTRIES.iter().enumerate() {
         let title = format!("{wait:?}");
-        parts.push(Part::new(&title, 50, move |scored| {
+        parts.push(part(&title, 50, move |scored| {
             scored.score.waits[place] > 0
         }));
     }
     parts.extend([
-        Part::new("several waits", 150, |scored| {
+        part("several waits", 150, |scored| {
             has_several_waits(&scored.score)
         }),
-        Part::new("a wait twice or more", 50, |scored| {
+        part("a wait twice or more", 50, |scored| {
             has_equal_waits(&scored.score)
         }),
-        Part::new(
+        part(
             "ron tile in a closed triplet and a closed sequence",
             100,
             |scored| has_spared_triplet(&scored.reading, &scored.win),
         ),
-        Part::new(
+        part(
             "winning tile in an open sequence or triplet too",
             100,
             |scored| has_called_tile(&scored.reading, &scored.win),
         ),
-        Part::new("pinfu but for the pair", 50, is_nearly_pinfu),
-        Part::new("nine gates but for the calls", 50, is_nearly_nine_gates),
-        Part::new("no yaku", 150, |scored| scored.score.han == 0),
-        Part::new("any", 600, |_| true),
+        part("pinfu but for the pair", 50, is_nearly_pinfu),
+        part("nine gates but for the calls", 50, is_nearly_nine_gates),
+        part("no yaku", 150, |scored| scored.score.han == 0),
+        part("any", 600, |_| true),
     ]);
     parts
 }
@@ -169,19 +159,21 @@ fn record(scored: &Scored) -> [u8; RECORD] {
     record
 }
 
+/// Deals a reading, and adds its record if it fits the part.
+fn add_one(
+    part: &Part,
+    rng: &mut Rng,
+    tally: &mut ScoreTally,
+    sample: &mut Sample<RECORD>,
+) -> bool {
+    let scored = (part.deal)(rng);
+    let is_taken = (part.fits)(&scored) && sample.add(record(&scored));
+    if is_taken {
+        tally.count(&scored.reading, &scored.win, scored.is_open, &scored.score);
+    }
+    is_taken
+}
+
 fn main() -> ExitCode {
-    stored::write("sample_scores", SEED, |rng, sample| {
-        let mut tally = ScoreTally::new();
-        for part in parts() {
-            sample.part(&part.title, part.records, |sample| {
-                let scored = deal(rng);
-                let is_taken = (part.fits)(&scored) && sample.add(record(&scored));
-                if is_taken {
-                    tally.count(&scored.reading, &scored.win, scored.is_open, &scored.score);
-                }
-                is_taken
-            });
-        }
-        tally
-    })
+    stored::write("sample_scores", SEED, parts(), ScoreTally::new(), add_one)
 }

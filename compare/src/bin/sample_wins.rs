@@ -43,38 +43,15 @@ struct Dealt {
     expected: ExpectedWin,
 }
 
-type Deal = Box<dyn Fn(&mut Rng) -> (Hand, Win)>;
+/// Wins dealt until one fits.
+type Part = stored::Part<(Hand, Win), Dealt>;
 
-/// A part of the sample: so many records of wins dealt until one fits.
-struct Part {
-    title: String,
-    records: usize,
-    deal: Deal,
-    fits: Box<dyn Fn(&Dealt) -> bool>,
-}
-
-impl Part {
-    fn new(
-        title: &str,
-        records: usize,
-        deal: impl Fn(&mut Rng) -> (Hand, Win) + 'static,
-        fits: impl Fn(&Dealt) -> bool + 'static,
-    ) -> Part {
-        Part {
-            title: title.into(),
-            records,
-            deal: Box::new(deal),
-            fits: Box::new(fits),
-        }
-    }
-
-    /// Scored wins of any hands, for which the score is as asked.
-    fn scored(title: &str, records: usize, fits: impl Fn(&Score) -> bool + 'static) -> Part {
-        Part::new(title, records, any_win, move |dealt| {
-            let score = dealt.expected.score_win();
-            score.number == 0 && fits(&score)
-        })
-    }
+/// Scored wins of any hands, for which the score is as asked.
+fn scored(title: &str, records: usize, fits: impl Fn(&Score) -> bool + 'static) -> Part {
+    Part::new(title, records, any_win, move |dealt| {
+        let score = dealt.expected.score_win();
+        score.number == 0 && fits(&score)
+    })
 }
 
 fn parts() -> Vec<Part> {
@@ -110,7 +87,7 @@ fn choices() -> Vec<Part> {
         }));
     }
     let is_later = |score: &Score| score.reading > 0;
-    parts.push(Part::scored("chosen not the first", 100, is_later));
+    parts.push(scored("chosen not the first", 100, is_later));
     parts
 }
 
@@ -119,7 +96,7 @@ fn scores() -> Vec<Part> {
     let mut parts = Vec::new();
     for (place, yaku) in YAKU_ENTRIES.iter().enumerate() {
         let has_yaku = move |score: &Score| score.tallies[place] > 0;
-        parts.push(Part::scored(&format!("{yaku:?}"), 20, has_yaku));
+        parts.push(scored(&format!("{yaku:?}"), 20, has_yaku));
     }
     for (level, name) in LEVELS.iter().enumerate() {
         for (kind, settled) in SETTLEMENTS.iter().enumerate() {
@@ -133,7 +110,7 @@ fn scores() -> Vec<Part> {
     }
     for count in 2..=4 {
         let title = format!("yakuman counted {count} times");
-        parts.push(Part::scored(&title, 20, move |score| {
+        parts.push(scored(&title, 20, move |score| {
             score.yakuman_count == count
         }));
     }
@@ -273,13 +250,5 @@ fn add_one(part: &Part, rng: &mut Rng, tally: &mut WinTally, sample: &mut Sample
 }
 
 fn main() -> ExitCode {
-    stored::write("sample_wins", SEED, |rng, sample| {
-        let mut tally = WinTally::default();
-        for part in parts() {
-            sample.part(&part.title, part.records, |sample| {
-                add_one(&part, rng, &mut tally, sample)
-            });
-        }
-        tally
-    })
+    stored::write("sample_wins", SEED, parts(), WinTally::default(), add_one)
 }
