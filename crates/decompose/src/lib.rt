@@ -19,13 +19,6 @@ pub struct Packed {
     pub high: u64,
 }
 
-// A byte as a wider number.
-fn wide(x: u8) -> u64
-    ensures { λ r. ⌜ r ≡ x ⌝ }
-{
-    x as u64
-}
-
 // The counts from one tile up to another, packed.
 fn pack_range(counts: &[u8], from: usize, to: usize) -> u64
     requires { ⌜ (length (now counts) ≡ 34) × ((from ≤ to) × ((to ≤ 34) × ((to ≤ from + 18) × AtMostFour (now counts)))) ⌝ }
@@ -35,7 +28,7 @@ fn pack_range(counts: &[u8], from: usize, to: usize) -> u64
     let mut i = to;
     while from < i {
         i -= 1;
-        word = word * 8 + wide(counts[i]);
+        word = word * 8 + hand::wide(counts[i]);
     }
     word
 }
@@ -95,7 +88,7 @@ fn sum_numbers(counts: &[u8]) -> u64
     let mut sum: u64 = 0;
     let mut i = 0;
     while i < 33 {
-        sum += wide(counts[i + 1]) + 2 * wide(counts[i + 2]);
+        sum += hand::wide(counts[i + 1]) + 2 * hand::wide(counts[i + 2]);
         i += 3;
     }
     sum

@@ -5,7 +5,7 @@ ghost use mathlib.Core.Bool.{not, _&&_, _||_};
 ghost use mathlib.Core.List.{[], _∷_};
 ghost use Prim.Native.Nat.{_+_, _*_, _/_, _%_, _≤_};
 ghost use lib.Dec.{eqb, leb, ltb};
-ghost use Rattle.lists.specs.Fold.{all, any, count, one};
+ghost use Rattle.lists.specs.Fold.{all, any, count};
 ghost use Rattle.tile.specs.Tile.{isDragon, isStart, isTerminal, isTerminalOrHonor, isWind};
 ghost use Rattle.meld.specs.Meld.{isSequence};
 ghost use Rattle.structure.specs.Structure.{readingOf};
@@ -71,13 +71,6 @@ fn holds_terminal(m: meld::Meld) -> bool
 
 // ---- four melds
 
-// How many of four answers are yes.
-fn how_many(a: bool, b: bool, c: bool, d: bool) -> u8
-    ensures { λ r. ⌜ (r ≡ one a + (one b + (one c + one d))) × (r ≤ 4) ⌝ }
-{
-    wait::one_if(a) + (wait::one_if(b) + (wait::one_if(c) + wait::one_if(d)))
-}
-
 // Is one of the melds a sequence from the tile?
 fn has_run(ms: [meld::Meld; 4], t: u8) -> bool
     ensures { λ r. ⌜ r ≡ any (runFrom t) ms ⌝ }
@@ -97,7 +90,7 @@ fn has_set(ms: [meld::Meld; 4], t: u8) -> bool
 fn count_sets(ms: [meld::Meld; 4], t: u8) -> u8
     ensures { λ r. ⌜ (r ≡ count (setOf (eqb t)) ms) × (r ≤ 4) ⌝ }
 {
-    how_many(
+    wait::how_many(
         is_set_of(ms[0], t),
         is_set_of(ms[1], t),
         is_set_of(ms[2], t),
@@ -109,7 +102,7 @@ fn count_sets(ms: [meld::Meld; 4], t: u8) -> u8
 fn count_kans(ms: [meld::Meld; 4]) -> u8
     ensures { λ r. ⌜ (r ≡ kans ms) × (r ≤ 4) ⌝ }
 {
-    how_many(
+    wait::how_many(
         ms[0].is_kan(),
         ms[1].is_kan(),
         ms[2].is_kan(),
@@ -121,7 +114,7 @@ fn count_kans(ms: [meld::Meld; 4]) -> u8
 fn count_dragons(ms: [meld::Meld; 4]) -> u8
     ensures { λ r. ⌜ (r ≡ dragons ms) × (r ≤ 4) ⌝ }
 {
-    how_many(
+    wait::how_many(
         is_dragon_set(ms[0]),
         is_dragon_set(ms[1]),
         is_dragon_set(ms[2]),
@@ -133,7 +126,7 @@ fn count_dragons(ms: [meld::Meld; 4]) -> u8
 fn count_winds(ms: [meld::Meld; 4]) -> u8
     ensures { λ r. ⌜ (r ≡ winds ms) × (r ≤ 4) ⌝ }
 {
-    how_many(
+    wait::how_many(
         is_wind_set(ms[0]),
         is_wind_set(ms[1]),
         is_wind_set(ms[2]),
@@ -145,7 +138,7 @@ fn count_winds(ms: [meld::Meld; 4]) -> u8
 fn count_concealed(ms: [meld::Meld; 4], w: context::GameContext, kept: bool) -> u8
     ensures { λ r. ⌜ (r ≡ count (concealed w kept) ms) × (r ≤ 4) ⌝ }
 {
-    how_many(
+    wait::how_many(
         wait::is_concealed_set(ms[0], w, kept),
         wait::is_concealed_set(ms[1], w, kept),
         wait::is_concealed_set(ms[2], w, kept),
@@ -171,7 +164,7 @@ fn count_peikou(ms: [meld::Meld; 4]) -> u8
     let d = ms[3];
     let first = is_same_run(a, b) ^ (is_same_run(a, c) ^ is_same_run(a, d));
     let second = is_same_run(b, c) ^ is_same_run(b, d);
-    wait::one_if(first) + (wait::one_if(second) + wait::one_if(is_same_run(c, d)))
+    lists::one_if(first) + (lists::one_if(second) + lists::one_if(is_same_run(c, d)))
 }
 
 // ---- the yaku, in the order of Yaku

@@ -1,4 +1,5 @@
 // Seven pairs and thirteen orphans (is_chiitoitsu and check_kokushi of agari), and the bytes of their records.
+use lists::one_if;
 ghost use mathlib.Core.Path.{_≡_};
 ghost use mathlib.Core.Bool.{true, cond, _||_};
 ghost use mathlib.Core.List.{[], _∷_};
@@ -60,13 +61,6 @@ pub fn is_chiitoitsu(counts: &[u8], kinds: u64) -> bool
         return false;
     }
     none_or_two(counts)
-}
-
-// 1 for yes, 0 for no.
-fn one_if(b: bool) -> u8
-    ensures { λ r. ⌜ (r ≡ one b) × (r ≤ 1) ⌝ }
-{
-    if b { 1 } else { 0 }
 }
 
 // Is the tile a terminal or an honor?

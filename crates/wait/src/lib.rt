@@ -1,4 +1,5 @@
 // Waits (wait.rs of agari): what the winning tile completed, pinfu, and which triplets are concealed.
+pub use lists::one_if;
 ghost use mathlib.Core.Path.{_≡_};
 ghost use Prim.Native.Nat.{_+_, _*_, _≤_};
 ghost use lib.Dec.{eqb};
@@ -8,15 +9,8 @@ ghost use Rattle.structure.specs.Structure.{readingOf};
 ghost use Rattle.wait.specs.Wait.{within, twoSided, edge, middle, closedRun, closedTriplet, waits, weight, pinfu};
 ghost use Rattle.wait.specs.Concealed.{spared, concealed};
 
-// 1 for yes, 0 for no.
-pub fn one_if(b: bool) -> u8
-    ensures { λ r. ⌜ (r ≡ one b) × (r ≤ 1) ⌝ }
-{
-    if b { 1 } else { 0 }
-}
-
 // How many of four answers are yes.
-fn how_many(a: bool, b: bool, c: bool, d: bool) -> u8
+pub fn how_many(a: bool, b: bool, c: bool, d: bool) -> u8
     ensures { λ r. ⌜ (r ≡ one a + (one b + (one c + one d))) × (r ≤ 4) ⌝ }
 {
     one_if(a) + (one_if(b) + (one_if(c) + one_if(d)))
