@@ -9,7 +9,7 @@ use Rattle.tile.specs.declared.Suits.the-variants.{SouPinMan}
 use Rattle.tile.specs.declared.Renaming.{Renaming}
 use Rattle.meld.specs.Meld.{meld}
 use Rattle.context.specs.declared.GameContext.{GameContext}
-use Rattle.context.specs.Context.{renWin}
+use Rattle.context.specs.Context.{plain, renWin}
 use Rattle.hand.specs.Readings.{meldLists, standardsAt, sevenPairs, thirteenOrphans, readings}
 use Rattle.wait.specs.Wait.{pinfu}
 use Rattle.tile_yaku.specs.Tiles.{tanyao, honroutou, tsuuiisou, chinroutou, ryuuiisou, honitsu, chinitsu, nineGates, pureWait, tileYaku}
@@ -42,21 +42,7 @@ none = record { count = 0; melds = replicate 4 (meld 0 0) }
 
 -- ron on sou 2, round East, seat South
 abbrev ron : GameContext
-ron =
-    record {
-      «win_type» = 0;
-      «winning_tile» = 19;
-      «round_wind» = 27;
-      «seat_wind» = 28;
-      «is_riichi» = false;
-      «is_double_riichi» = false;
-      «is_ippatsu» = false;
-      «is_rinshan» = false;
-      «is_chankan» = false;
-      «is_last_tile» = false;
-      «is_tenhou» = false;
-      «is_chiihou» = false;
-    }
+ron = plain 0 19
 
 -- the han of the scored win
 hanOfWin : List ℕ → Calls → GameContext → ℕ

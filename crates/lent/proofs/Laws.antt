@@ -10,9 +10,6 @@ use Rattle.checks.specs.Checks.{called, handCheck}
 use Rattle.checks.proofs.Checked.{pass, refuse}
 use Rattle.lent.specs.Lent.{callsOf}
 
-pub four-lent : (ms : List Meld) → length (callsOf ms .melds) ≡ 4
-four-lent ms = refl
-
 pub called-lent : (ms : List Meld) → length ms ≤ 4 → called (callsOf ms) ≡ ms
 called-lent [] h = refl
 called-lent (a ∷ []) h = refl

@@ -3,13 +3,12 @@ use mathlib.Core.Bool.{Bool, true, false, cond}
 use mathlib.Core.List.{List, [], _∷_, _++_, map}
 use Prim.Native.Nat.{ℕ, zero, suc, _+_, _-_, _/_, _%_}
 use lib.Dec.{eqb}
-use lib.ListN.{length, replicate, take}
 use Rattle.lists.specs.Fold.{count}
 use Rattle.tile.specs.Tile.{tiles}
 use Rattle.meld.specs.declared.Meld.{Meld}
 use Rattle.meld.specs.Meld.{meld}
 use Rattle.context.specs.declared.GameContext.{GameContext}
-use Rattle.checks.specs.declared.Calls.{Calls}
+use Rattle.context.specs.Context.{plain}
 
 -- a tile by its number in a suit, and the honors by name
 abbrev pub man : ℕ → ℕ
@@ -78,9 +77,6 @@ closedKan t = meld t 4
 abbrev pub addedKan : ℕ → Meld
 addedKan t = meld t 6
 
-abbrev pub callsOf : List Meld → Calls
-callsOf ms = record { count = length ms; melds = take 4 (ms ++ replicate 4 (meld 0 0)) }
-
 -- how it was won, and who won
 abbrev pub byRon : ℕ
 byRon = 0
@@ -94,24 +90,7 @@ dealer = true
 abbrev pub nonDealer : Bool
 nonDealer = false
 
--- a win of the seat South in the round East, without flags: by ron or by tsumo, with the tile t
-abbrev pub plain : ℕ → ℕ → GameContext
-plain by t =
-    record {
-      «win_type» = by;
-      «winning_tile» = t;
-      «round_wind» = East;
-      «seat_wind» = South;
-      «is_riichi» = false;
-      «is_double_riichi» = false;
-      «is_ippatsu» = false;
-      «is_rinshan» = false;
-      «is_chankan» = false;
-      «is_last_tile» = false;
-      «is_tenhou» = false;
-      «is_chiihou» = false;
-    }
-
+-- a win of the seat South in the round East, without flags, with the tile t
 abbrev pub ron : ℕ → GameContext
 ron t = plain byRon t
 

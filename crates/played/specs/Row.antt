@@ -17,7 +17,7 @@ use Rattle.scoring.specs.Payment.{payment, paymentAnswer, totalAt}
 use Rattle.unit.specs.Listing.{listing, numberOf, readingsOf}
 use Rattle.choice.specs.declared.ScoreAnswer.{ScoreAnswer}
 use Rattle.win.specs.Win.{winCheck, scoreReading, scoreWin}
-use Rattle.played.specs.Hand.{callsOf}
+use Rattle.lent.specs.Lent.{callsOf}
 
 -- ---- what a row says
 -- what one reading comes to: han, fu, and the total paid
