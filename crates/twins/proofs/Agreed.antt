@@ -1,13 +1,13 @@
 -- The question whether two answers agree is answered yes exactly where they do. Assumes nothing.
-use mathlib.Core.Path.{_≡_, refl, sym, subst, ap, ap₂, _∙_}
+use mathlib.Core.Path.{_≡_, refl, sym, ap, ap₂, _∙_}
 use mathlib.Core.Bool.{Bool, true, _&&_}
 use mathlib.Core.List.{List}
-use Prim.Native.Nat.{ℕ, _+_}
+use Prim.Native.Nat.{ℕ, zero, suc, _+_}
 use native.Mathlib.Omega.{arith}
-use lib.Dec.{T, eqb, eqb→eq}
+use lib.Dec.{eqb, eqb→eq}
 use lib.ListN.{length}
 use borrow.Author.Tests.{eq-eqb}
-use Rattle.lists.proofs.Finite.{and-left, and-right, T→true, true→T}
+use Rattle.lists.proofs.Finite.{and-left, and-right, true→T}
 use Rattle.tile.specs.declared.Renaming.{Renaming}
 use Rattle.context.specs.declared.GameContext.{GameContext}
 use Rattle.context.specs.Context.{renWin}
@@ -39,55 +39,41 @@ agreed a b s =
     (both (eq-eqb _ _ (ap kindOf (s .same-payment)))
     (both (eq-eqb _ _ (ap firstAmount (s .same-payment))) (eq-eqb _ _ (ap secondAmount (s .same-payment)))))))))
 
--- ---- and the other way: the numbers tell levels and settlements apart
+-- ---- and the other way: levels and settlements are read back from their numbers
+levelAt : ℕ → ScoreLevel
+levelAt zero = Normal
+levelAt (suc zero) = Mangan
+levelAt (suc (suc zero)) = Haneman
+levelAt (suc (suc (suc zero))) = Baiman
+levelAt (suc (suc (suc (suc zero)))) = Sanbaiman
+levelAt (suc (suc (suc (suc (suc n))))) = Yakuman n
+
+level-back : (a : ScoreLevel) → levelAt (levelNumber a) ≡ a
+unfolding levelAt
+level-back Normal = refl
+level-back Mangan = refl
+level-back Haneman = refl
+level-back Baiman = refl
+level-back Sanbaiman = refl
+level-back (Yakuman n) = let e : 5 + n ≡ suc (suc (suc (suc (suc n)))) = omega arith in ap levelAt e
+
+paymentAt : ℕ → ℕ → ℕ → Payment
+paymentAt zero m n = Ron m
+paymentAt (suc zero) m n = DealerTsumo m
+paymentAt (suc (suc k)) m n = Tsumo m n
+
+payment-back : (a : Payment) → paymentAt (kindOf a) (firstAmount a) (secondAmount a) ≡ a
+unfolding paymentAt
+payment-back (Ron m) = refl
+payment-back (DealerTsumo m) = refl
+payment-back (Tsumo m n) = refl
+
+-- so equal numbers are of equal levels and settlements
 level-is : (a b : ScoreLevel) → levelNumber a ≡ levelNumber b → a ≡ b
-level-is Normal Normal e = refl
-level-is Normal Mangan e = absurd (omega arith)
-level-is Normal Haneman e = absurd (omega arith)
-level-is Normal Baiman e = absurd (omega arith)
-level-is Normal Sanbaiman e = absurd (omega arith)
-level-is Normal (Yakuman n) e = absurd (omega arith)
-level-is Mangan Normal e = absurd (omega arith)
-level-is Mangan Mangan e = refl
-level-is Mangan Haneman e = absurd (omega arith)
-level-is Mangan Baiman e = absurd (omega arith)
-level-is Mangan Sanbaiman e = absurd (omega arith)
-level-is Mangan (Yakuman n) e = absurd (omega arith)
-level-is Haneman Normal e = absurd (omega arith)
-level-is Haneman Mangan e = absurd (omega arith)
-level-is Haneman Haneman e = refl
-level-is Haneman Baiman e = absurd (omega arith)
-level-is Haneman Sanbaiman e = absurd (omega arith)
-level-is Haneman (Yakuman n) e = absurd (omega arith)
-level-is Baiman Normal e = absurd (omega arith)
-level-is Baiman Mangan e = absurd (omega arith)
-level-is Baiman Haneman e = absurd (omega arith)
-level-is Baiman Baiman e = refl
-level-is Baiman Sanbaiman e = absurd (omega arith)
-level-is Baiman (Yakuman n) e = absurd (omega arith)
-level-is Sanbaiman Normal e = absurd (omega arith)
-level-is Sanbaiman Mangan e = absurd (omega arith)
-level-is Sanbaiman Haneman e = absurd (omega arith)
-level-is Sanbaiman Baiman e = absurd (omega arith)
-level-is Sanbaiman Sanbaiman e = refl
-level-is Sanbaiman (Yakuman n) e = absurd (omega arith)
-level-is (Yakuman m) Normal e = absurd (omega arith)
-level-is (Yakuman m) Mangan e = absurd (omega arith)
-level-is (Yakuman m) Haneman e = absurd (omega arith)
-level-is (Yakuman m) Baiman e = absurd (omega arith)
-level-is (Yakuman m) Sanbaiman e = absurd (omega arith)
-level-is (Yakuman m) (Yakuman n) e = let f : m ≡ n = omega arith in ap Yakuman f
+level-is a b e = sym (level-back a) ∙ ap levelAt e ∙ level-back b
 
 payment-is : (a b : Payment) → kindOf a ≡ kindOf b → firstAmount a ≡ firstAmount b → secondAmount a ≡ secondAmount b → a ≡ b
-payment-is (Ron m) (Ron n) k e f = ap Ron e
-payment-is (Ron m) (DealerTsumo n) k e f = absurd (omega arith)
-payment-is (Ron m) (Tsumo d n) k e f = absurd (omega arith)
-payment-is (DealerTsumo m) (Ron n) k e f = absurd (omega arith)
-payment-is (DealerTsumo m) (DealerTsumo n) k e f = ap DealerTsumo e
-payment-is (DealerTsumo m) (Tsumo d n) k e f = absurd (omega arith)
-payment-is (Tsumo c m) (Ron n) k e f = absurd (omega arith)
-payment-is (Tsumo c m) (DealerTsumo n) k e f = absurd (omega arith)
-payment-is (Tsumo c m) (Tsumo d n) k e f = ap₂ Tsumo e f
+payment-is a b k e f = sym (payment-back a) ∙ (λ i. paymentAt (k i) (e i) (f i)) ∙ payment-back b
 
 pub agree-means : (a b : ScoreAnswer) → agrees a b ≡ true → SameAnswer a b
 unfolding agrees
