@@ -7,12 +7,13 @@ use native.Mathlib.Nat.{not-suc-le-zero, le-of-suc-le-suc}
 use native.Mathlib.Numerals.{add-one}
 use native.Mathlib.Omega.{arith}
 use lib.Dec.{T}
-use lib.ListN.{length, getD, take, drop, set, length-take, drop-of-length-le}
-use lib.Seq.{drop-cons, getD-take, sets, sets-eq}
+use lib.ListN.{length, getD, take, drop, length-take, drop-of-length-le}
+use lib.Seq.{drop-cons, getD-take, sets}
 use Rattle.lists.specs.Fold.{all, upFrom}
 use Rattle.lists.proofs.Finite.{and-left, and-right}
 use Rattle.lists.proofs.Members.{all-mem}
 use Rattle.lists.proofs.Ranges.{upFrom-in}
+use Rattle.lists.proofs.Stores.{sets-first}
 use Rattle.hand.proofs.Sums.{upFrom-next, upFrom-end}
 
 -- ---- a test over the numbers from a on, below b
@@ -59,15 +60,9 @@ module _ {A : Type 0} (p : A → Bool) where
         ap (all p) (drop-of-length-le (take n l) {i = i} k)
 
 -- ---- a copy
-pub copy-next : (d s : List ℕ) (i : ℕ) → i < length s → sets (set d i (getD s i 0)) (i + 1) (drop (i + 1) s) ≡ sets d i (drop i s)
-copy-next d s i h =
-    sym (ap (λ (l : List ℕ). sets d i l) (drop-cons s i 0 h) ∙ ap (λ (k : ℕ). sets (set d i (getD s i 0)) k (drop k s)) (sym (add-one i)))
-
 pub copy-end : (d s : List ℕ) (i : ℕ) → length s ≤ i → d ≡ sets d i (drop i s)
 copy-end d s i h = sym (ap (λ (l : List ℕ). sets d i l) (drop-of-length-le s {i = i} h))
 
 pub copy-whole : (d s : List ℕ) → length d ≡ length s → sets d 0 s ≡ s
 copy-whole d s e =
-    let z : 0 + length s ≡ length s = omega arith in
-    sets-eq s d 0 (omega arith) ∙ ap (λ (k : ℕ). s ++ drop k d) z ∙ ap (λ (l : List ℕ). s ++ l) (drop-of-length-le d {i = length s} (omega arith))
-    ∙ append-nil s
+    sets-first d s (omega arith) ∙ ap (λ (l : List ℕ). s ++ l) (drop-of-length-le d {i = length s} (omega arith)) ∙ append-nil s

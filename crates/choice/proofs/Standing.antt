@@ -1,9 +1,7 @@
 -- What stands at a number of a list: a member, what is picked there, and of a mapped list the value of what stands there. Assumes nothing.
 use mathlib.Core.Path.{_≡_, refl, sym, ap}
 use mathlib.Core.List.{List, [], _∷_, map, List·Memᴰ, List·Memᴰ·head, List·Memᴰ·tail}
-use Prim.Native.Nat.{ℕ, zero, suc, _<_}
-use native.Mathlib.Omega.{arith}
-use lib.ListN.{length}
+use Prim.Native.Nat.{ℕ, zero, suc}
 use Rattle.records.specs.Pick.{pickAt}
 use Rattle.choice.specs.Standing.{StandsAt}
 
@@ -17,11 +15,6 @@ module _ {A : Type 0} where
   pub mem-stands : {l : List A} {x : A} → List·Memᴰ x l → (i : ℕ) × StandsAt x i l
   mem-stands (List·Memᴰ·head e) = (zero, e)
   mem-stands (List·Memᴰ·tail j) = let r = mem-stands j in (suc (r .0), r .1)
-
-  pub stands-below : (x : A) (i : ℕ) (l : List A) → StandsAt x i l → i < length l
-  stands-below x i [] s = absurd s
-  stands-below x zero (a ∷ l) s = omega arith
-  stands-below x (suc i) (a ∷ l) s = let h = stands-below x i l s in omega arith
 
 module _ {A B : Type 0} where
   pub stands-picked : (z : B) (f : A → B) (x : A) (i : ℕ) (l : List A) → StandsAt x i l → pickAt z f l i ≡ f x

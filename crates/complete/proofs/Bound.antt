@@ -20,7 +20,8 @@ use Rattle.meld.specs.Meld.{isMeld, handMelds, sorted}
 use Rattle.meld.proofs.Melds.{picked-melds, sorted-perm}
 use Rattle.hand.specs.Reading.{Reading, pairs, orphans, standard}
 use Rattle.hand.specs.Readings.{meldLists, lessPair, standardsAt, twos, isPairs, sevenPairs, isOrphans, thirteenOrphans, uncalled, readings}
-use Rattle.hand.specs.Records.{twoBytes, meldBytes, kindOf, bodyOf, recordOf, records}
+use Rattle.hand.specs.Records.{twoBytes, kindOf, bodyOf, recordOf, records}
+use Rattle.hand.proofs.Records.{meldBytes-length}
 use Rattle.hand.proofs.Search.{Found, find-sound}
 use Rattle.hand.proofs.Lowest.{few}
 use Rattle.hand.proofs.Tests.{none-or-two, seven-twos, orphans-exact, one-doubled}
@@ -41,10 +42,6 @@ record-length r =
 records-length : (rs : List Reading) → length (records rs) ≡ sum size rs
 records-length [] = refl
 records-length (r ∷ rs) = omega (arith, length-append (recordOf r) (records rs), record-length r, records-length rs)
-
-pub meldBytes-length : (ms : List Meld) → length (meldBytes ms) ≡ 2 * length ms
-meldBytes-length [] = refl
-meldBytes-length (m ∷ ms) = let e = meldBytes-length ms in omega arith
 
 -- ---- a pair: at most 16 readings of 13 bytes
 each-thirteen : (l : List Reading) → ((r : Reading) → List·Memᴰ r l → size r ≡ 13) → sum size l ≡ 13 * length l

@@ -5,7 +5,7 @@ use mathlib.Core.Bool.{Bool, true, false, cond}
 use mathlib.Core.List.{List, [], _++_, List·Memᴰ}
 use Prim.Native.Nat.{ℕ, _-_, _*_, _<_, _≤_}
 use native.Mathlib.Omega.{arith}
-use lib.Dec.{T, eqb, ltb, lt→ltb, eqb→eq, eqb-refl}
+use lib.Dec.{T, eqb, eqb→eq, eqb-refl}
 use lib.ListN.{length}
 use Rattle.lists.specs.Fold.{count}
 use Rattle.lists.proofs.Finite.{and-left}
@@ -20,7 +20,7 @@ use Rattle.meld.specs.Meld.{isHandMeld, sorted}
 use Rattle.meld.proofs.Melds.{is-handMeld}
 use Rattle.hand.specs.Reading.{Reading, AdmitsPairs, AdmitsOrphans, AdmitsStandard, Admits}
 use Rattle.hand.specs.Readings.{twos, isPairs, isOrphans, readings}
-use Rattle.hand.proofs.Tests.{none-or-two, seven-twos, orphans-exact}
+use Rattle.hand.proofs.Tests.{none-or-two, seven-twos, twos-tiles, orphans-exact}
 use Rattle.complete.proofs.Listed.{Hand, Listed, as-pairs, as-orphans, as-standard, listed}
 
 module _ (c : ℕ → ℕ) where
@@ -45,7 +45,7 @@ module _ (c : ℕ → ℕ) where
         uncalled = u;
         seven = seven-twos c s;
         ascending = keep-ascends (λ t. eqb (c t) 2) tiles tiles-ascend;
-        tiles = all-intro (λ t. ltb t 34) (twos c) (λ t i. lt→ltb t 34 (tile-lt (kept (λ t. eqb (c t) 2) tiles i .0)));
+        tiles = twos-tiles c;
         exact = twos-exact s;
       }
 

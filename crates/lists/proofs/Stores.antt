@@ -1,11 +1,11 @@
--- A run of stores from a place on: one store, and the rest. Assumes nothing.
+-- A run of stores from a place on: one store, and the rest; and what it makes of a list. Assumes nothing.
 use mathlib.Core.Path.{_≡_, sym, ap, _∙_}
-use mathlib.Core.List.{List}
-use Prim.Native.Nat.{ℕ, suc, _+_, _<_}
+use mathlib.Core.List.{List, _++_}
+use Prim.Native.Nat.{ℕ, suc, _+_, _<_, _≤_}
 use native.Mathlib.Numerals.{add-one}
 use native.Mathlib.Omega.{arith}
 use lib.ListN.{length, getD, set, drop}
-use lib.Seq.{drop-cons, sets}
+use lib.Seq.{drop-cons, sets, sets-eq}
 
 module _ (d s : List ℕ) where
   -- what stands in s from i on is stored from p on
@@ -20,3 +20,9 @@ module _ (d s : List ℕ) where
   sets-turn at i h =
       let e : at + i + 1 ≡ at + (i + 1) = omega arith in
       sets-next (at + i) i h ∙ ap (λ (k : ℕ). sets (set d (at + i) (getD s i 0)) k (drop (i + 1) s)) e
+
+  -- stored from the first place on, s stands first, and behind it what d had there
+  pub sets-first : length s ≤ length d → sets d 0 s ≡ s ++ drop (length s) d
+  sets-first h =
+      let e : 0 + length s ≡ length s = omega arith in
+      sets-eq s d 0 (omega arith) ∙ ap (λ (k : ℕ). s ++ drop k d) e

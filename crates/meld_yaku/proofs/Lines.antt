@@ -12,7 +12,7 @@ use lib.ListN.{length, getD}
 use borrow.Author.Tests.{lt-ltb}
 use Rattle.lists.specs.Fold.{all, any, upFrom}
 use Rattle.lists.proofs.Finite.{and-left, and-right, and-both, or-elim, or-left, or-right, T-eq}
-use Rattle.structure.proofs.Four.{four}
+use Rattle.lists.proofs.Elements.{four}
 use Rattle.meld.specs.declared.Meld.{Meld}
 use Rattle.meld.specs.Meld.{isSequence, isTripletOrKan}
 use Rattle.meld_yaku.specs.Melds.{runFrom, setOf, threeSuits, ittsu, sanshokuDoujun, sanshokuDoukou}

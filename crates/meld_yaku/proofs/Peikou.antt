@@ -1,7 +1,7 @@
 -- A meld more makes a pair of identical sequences more if it is a sequence and an odd number of the others are the same: only the
 -- term of its own start changes. So the pairs of four melds come of six comparisons. Assumes nothing.
 use mathlib.Core.Path.{_≡_, refl, sym, ap, ap₂, _∙_}
-use mathlib.Core.Bool.{Bool, true, false, _&&_, not, Bool·beq}
+use mathlib.Core.Bool.{Bool, true, false, _&&_, not, and-false, Bool·beq}
 use mathlib.Core.List.{List, [], _∷_}
 use Prim.Native.Nat.{ℕ, _+_, _/_, _%_, _≤_}
 use native.Mathlib.Omega.{arith}
@@ -9,26 +9,19 @@ use native.Mathlib.Decide.{ℕ-discrete}
 use lib.Dec.{T, eqb, ltb, eqb→eq, ltb→lt}
 use lib.ListN.{length, getD}
 use borrow.Author.Tests.{ltb-true, ltb-false, eqb-true, eqb-false, eq-eqb, ne-eqb}
-use Rattle.lists.specs.Fold.{all, allBelow, count, one, sum}
+use Rattle.lists.specs.Fold.{all, allBelow, count, one, sum, total}
 use Rattle.lists.proofs.Finite.{and-left, and-right, at}
-use Rattle.structure.proofs.Four.{four}
+use Rattle.lists.proofs.Members.{map-members}
+use Rattle.lists.proofs.Sums.{sum-zero, sum-plus}
+use Rattle.lists.proofs.Elements.{four}
 use Rattle.tile.specs.Tile.{isStart}
 use Rattle.meld.specs.declared.Meld.{Meld}
 use Rattle.meld.specs.Meld.{isSequence}
 use Rattle.meld_yaku.specs.Melds.{runFrom, peikou, starts}
 
-and-false : (b : Bool) → (b && false) ≡ false
-and-false true = refl
-and-false false = refl
-
 -- ---- a sum of which each term grows
 sum-grown : (f g e : ℕ → ℕ) → ((t : ℕ) → f t ≡ g t + e t) → (l : List ℕ) → sum f l ≡ sum g l + sum e l
-sum-grown f g e h [] = refl
-sum-grown f g e h (t ∷ l) = let a = h t in let b = sum-grown f g e h l in omega arith
-
-sum-none : (l : List ℕ) → sum (λ t. 0) l ≡ 0
-sum-none [] = refl
-sum-none (t ∷ l) = ap (λ (n : ℕ). 0 + n) (sum-none l)
+sum-grown f g e h l = ap total (map-members f (λ t. g t + e t) l (λ t i. h t)) ∙ sum-plus g e l
 
 -- ---- a number is among the starts once, if a sequence can start there
 count-beyond : (x n : ℕ) → n ≤ x → (l : List ℕ) → T (all (λ t. ltb t n) l) → count (eqb x) l ≡ 0
@@ -49,7 +42,7 @@ count-starts x = go (ltb x 27) refl
 
 sum-starts : (b : Bool) (x : ℕ) → sum (λ t. one (b && eqb x t)) starts ≡ one (b && isStart x)
 sum-starts true x = count-starts x
-sum-starts false x = sum-none starts
+sum-starts false x = sum-zero starts
 
 -- ---- halves
 abbrev pub odd : ℕ → Bool

@@ -4,19 +4,20 @@
 use mathlib.Core.Path.{_≡_, refl, sym, ap, subst, _∙_}
 use mathlib.Core.Logic.{_⊎_, inl, inr}
 use mathlib.Core.Bool.{Bool, true, false, cond}
-use Prim.Native.Nat.{ℕ, suc, _+_, _*_, _<_, _≤_}
+use Prim.Native.Nat.{ℕ, suc, _<_, _≤_}
 use native.Mathlib.Omega.{arith}
 use native.Mathlib.Decide.{decLe}
 use lib.Dec.{T}
 use Rattle.lists.proofs.Finite.{T→true}
 use Rattle.context.specs.declared.GameContext.{GameContext}
 use Rattle.context.specs.Context.{isDealer, isTsumo}
-use Rattle.hand.specs.Reading.{Reading, pairs, orphans, standard}
+use Rattle.hand.specs.Reading.{Reading}
 use Rattle.tile_yaku.specs.declared.TileYaku.{TileYaku}
-use Rattle.yaku.proofs.Laws.{Short, han-small}
+use Rattle.structure.proofs.Short.{Short}
+use Rattle.yaku.proofs.Laws.{han-small}
 use Rattle.scoring.specs.Level.{level, basicPoints}
 use Rattle.scoring.specs.Payment.{payment, totalAt}
-use Rattle.scoring.proofs.Laws as scoring
+use Rattle.scoring.proofs.Laws.{fu-small}
 use Rattle.reading_score.specs.declared.ScoringResult.{ScoringResult}
 use Rattle.reading_score.specs.Score.{result, scoreOf, hasYaku, yakumanFirst, inDigits, rank}
 use Rattle.reading_score.specs.Preferred.{Preferred, by-total, by-yakuman, by-han, by-fu}
@@ -139,12 +140,6 @@ module _ (x y : ScoringResult) (i : Small x) (j : Small y) where
       )
 
 -- ---- the scores of readings
--- a reading with at most four melds
-short : (r : Reading) → Short r → scoring.Short r
-short (pairs ps) h = tt
-short (orphans p) h = tt
-short (standard p ms) h = h
-
 -- level, basic points and payment follow from han, fu and yakuman, and from who won how
 pub record Priced (tsumo dealer : Bool) (x : ScoringResult) : Type 0 where
   pub level-is : x .«score_level» ≡ level (x .han) (x .fu) (x .«is_yakuman»)
@@ -154,7 +149,7 @@ pub record Priced (tsumo dealer : Bool) (x : ScoringResult) : Type 0 where
 module _ (w : GameContext) (opened : Bool) (s : TileYaku) (r : Reading) where
   pub score-small : Short r → Small (scoreOf w opened s r)
   unfolding scoreOf result
-  score-small h = record { han = han-small w opened s r h; fu = scoring.fu-small w opened r (short r h) }
+  score-small h = record { han = han-small w opened s r h; fu = fu-small w opened r h }
 
   pub score-priced : Priced (isTsumo w) (isDealer w) (scoreOf w opened s r)
   unfolding scoreOf result

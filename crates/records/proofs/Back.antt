@@ -10,7 +10,7 @@ use Rattle.meld.specs.declared.Meld.{Meld}
 use Rattle.meld.specs.Meld.{meld}
 use Rattle.hand.specs.Reading.{Reading, pairs, orphans, standard}
 use Rattle.hand.specs.Records.{recordOf, records}
-use Rattle.structure.proofs.Four.{four}
+use Rattle.lists.proofs.Elements.{four}
 use Rattle.structure.proofs.Seven.{seven}
 use Rattle.records.specs.Buffer.{byteAt, meldAt, tilesAt, readingAt, readingsIn, placeOf}
 use Rattle.records.specs.Pick.{pickAt}

@@ -12,7 +12,6 @@ use Rattle.lists.specs.Order.{arrange}
 use Rattle.lists.proofs.Finite.{and-right, and-both}
 use Rattle.lists.proofs.Members.{all-intro, all-map, flat-perm, flat-length, length-perm}
 use Rattle.lists.proofs.Arranged.{pick-mem}
-use Rattle.lists.proofs.Kept.{kept}
 use Rattle.tile.specs.Tile.{tiles}
 use Rattle.tile.specs.declared.Renaming.{Renaming}
 use Rattle.tile.specs.Renaming.{ren}
@@ -22,9 +21,11 @@ use Rattle.meld.specs.Meld.{isMeld, melds, sorted}
 use Rattle.meld.specs.Renamed.{renMeld}
 use Rattle.meld.proofs.Melds.{is-meld, arrange-pick, sorted-perm}
 use Rattle.hand.specs.Reading.{Reading, pairs, orphans, standard}
-use Rattle.hand.specs.Readings.{twos, readings}
+use Rattle.hand.specs.Readings.{readings}
 use Rattle.hand.specs.Records.{bodyOf, recordOf, records}
-use Rattle.complete.proofs.Bound.{meldBytes-length, record-length}
+use Rattle.hand.proofs.Records.{meldBytes-length}
+use Rattle.hand.proofs.Tests.{twos-tiles}
+use Rattle.complete.proofs.Bound.{record-length}
 use Rattle.complete.proofs.Listed.{Listed, as-pairs, as-orphans, as-standard, listed}
 use Rattle.renamed.specs.Renamed.{changed, renReading}
 use Rattle.renamed.proofs.Keeps.{InStep, in-step}
@@ -35,9 +36,6 @@ abbrev pub isReading : Reading → Bool
 isReading (pairs ps) = all (λ t. ltb t 34) ps
 isReading (orphans p) = ltb p 34
 isReading (standard p ms) = ltb p 34 && all isMeld ms
-
-twos-tiles : (c : ℕ → ℕ) → T (all (λ t. ltb t 34) (twos c))
-twos-tiles c = all-intro (λ t. ltb t 34) (twos c) (λ t i. lt→ltb t 34 (tile-lt (kept (λ t. eqb (c t) 2) tiles i .0)))
 
 sorted-melds : (ms : List Meld) → T (all isMeld (sorted ms))
 sorted-melds ms = all-intro isMeld (sorted ms) (λ m i. is-meld m (pick-mem (arrange-pick melds ms) i))

@@ -1,22 +1,25 @@
 -- Laws of rounding, totals, levels, basic points and fu. Assumes nothing.
 use mathlib.Core.Path.{_≡_, refl}
 use mathlib.Core.Bool.{Bool, true, false, _&&_, _||_, cond}
-use mathlib.Core.List.{List, [], _∷_}
+use mathlib.Core.List.{List}
 use Prim.Native.Nat.{ℕ, _+_, _-_, _*_, _/_, _%_, _^_, _<_, _≤_, max}
 use native.Mathlib.Omega.{arith}
-use native.Mathlib.Nat.{mul-suc}
 use lib.Dec.{eqb, leb, lit≤, lit<}
 use lib.ListN.{length}
 use borrow.Author.Tests.{le-ltb}
-use Rattle.lists.specs.Fold.{any, one, sum}
-use Rattle.tile.specs.Tile.{isDragon, isTerminalOrHonor}
+use Rattle.lists.specs.Fold.{any, sum}
+use Rattle.lists.proofs.Finite.{cond-le}
+use Rattle.lists.proofs.Sums.{sum-le}
+use Rattle.tile.specs.Tile.{isTerminalOrHonor}
 use Rattle.meld.specs.declared.Meld.{Meld}
 use Rattle.meld.specs.Meld.{isKan, isSequence}
 use Rattle.context.specs.declared.GameContext.{GameContext}
 use Rattle.context.specs.Context.{isTsumo}
 use Rattle.hand.specs.Reading.{Reading, pairs, orphans, standard}
-use Rattle.wait.specs.Wait.{closedRun, edge, middle, pinfu, weight}
+use Rattle.structure.proofs.Short.{Short}
+use Rattle.wait.specs.Wait.{closedRun, edge, middle, pinfu}
 use Rattle.wait.specs.Concealed.{concealed, spared}
+use Rattle.wait.proofs.Waits.{weight-le}
 use Rattle.scoring.specs.declared.PaymentAnswer.the-variants.{Paid}
 use Rattle.scoring.specs.declared.ScoreLevel.the-variants.{Normal, Mangan, Haneman, Baiman, Sanbaiman, Yakuman}
 use Rattle.scoring.specs.Fu.{meldFu, pairFu, waitFu, baseFu, roundUpTo10, atLeast30, standardFu, fu}
@@ -100,22 +103,6 @@ every-score-is-paid han fu yakuman dealer winType h t =
     simp (le-ltb 1 winType t, le-ltb 152000 (basicPoints han fu yakuman) (basic-le han fu yakuman h))
 
 -- ---- fu
-cond-le : (b : Bool) (m n k : ℕ) → m ≤ k → n ≤ k → cond b m n ≤ k
-cond-le true m n k h i = h
-cond-le false m n k h i = i
-
-one-le : (b : Bool) → one b ≤ 1
-one-le true = lit≤ tt
-one-le false = lit≤ tt
-
-sum-le : {A : Type 0} (f : A → ℕ) (b : ℕ) → ((a : A) → f a ≤ b) → (l : List A) → sum f l ≤ b * length l
-sum-le f b h [] = omega arith
-sum-le f b h (a ∷ l) =
-    let i = h a in
-    let k = sum-le f b h l in
-    let e = mul-suc b (length l) in
-    omega arith
-
 -- the fu of a meld by its four questions: sequence, terminal or honor, kan, concealed
 fu-cases : (a b c d : Bool) → cond a 0 (cond b 4 2 * (cond c 4 1 * cond d 2 1)) ≤ 32
 fu-cases true b c d = lit≤ tt
@@ -124,13 +111,6 @@ fu-cases false b c d =
 
 meldFu-le : (w : GameContext) (kept : Bool) (m : Meld) → meldFu w kept m ≤ 32
 meldFu-le w kept m = fu-cases (isSequence m) (isTerminalOrHonor (m .tile)) (isKan m) (concealed w kept m)
-
-weight-le : (w : GameContext) (t : ℕ) → weight w t ≤ 3
-weight-le w t =
-    let a = one-le (isDragon t) in
-    let b = one-le (eqb t (w .«round_wind»)) in
-    let c = one-le (eqb t (w .«seat_wind»)) in
-    omega arith
 
 -- at most 170: four closed kans of terminals or honors and a pair of the double wind, won by ron
 pub standardFu-le : (w : GameContext) (opened : Bool) (p : ℕ) (ms : List Meld) → length ms ≤ 4 → standardFu w opened p ms ≤ 170
@@ -146,12 +126,6 @@ standardFu-le w opened p ms h =
     let f : max n 30 ≤ 170 = omega arith in
     cond-le (pinfu w opened (standard p ms)) (cond (isTsumo w) 20 30) (atLeast30 opened n) 170
     (cond-le (isTsumo w) 20 30 170 (lit≤ tt) (lit≤ tt)) (cond-le opened (max n 30) n 170 f e)
-
--- a reading with at most four melds
-abbrev pub Short : Reading → Type 0
-Short (pairs ps) = Unit {0}
-Short (orphans p) = Unit {0}
-Short (standard p ms) = length ms ≤ 4
 
 pub fu-small : (w : GameContext) (opened : Bool) (r : Reading) → Short r → fu w opened r < 256
 unfolding fu

@@ -4,9 +4,9 @@ use mathlib.Core.Logic.{_⊎_, inl, inr}
 use mathlib.Core.Bool.{Bool, true, false, _&&_, not, cond}
 use Prim.Native.Nat.{ℕ, zero, suc, _+_, _-_, _*_, _/_, _%_, _^_, _≤_, _<_}
 use native.Mathlib.Omega.{arith}
-use lib.Dec.{T, eqb, leb, ltb, eqb→eq, leb→le, leb·zero, leb·suc-suc, eqb·suc-zero}
+use lib.Dec.{T, eqb, leb, ltb, eqb→eq, leb→le}
 use borrow.Author.Tests.{le-leb, lt-leb, leb-true, leb-false, ltb-true, eq-eqb, eqb-true}
-use Rattle.lists.proofs.Finite.{at, and-left, and-right, T→true, true→T, T-eq, allBelow-intro}
+use Rattle.lists.proofs.Finite.{at, and-left, and-right, T→true, true→T, T-eq, allBelow-intro, leb-one}
 use Rattle.tile.specs.Tile.{isStart}
 use Rattle.meld.specs.declared.Meld.{Meld}
 use Rattle.meld.specs.Meld.{meld, runUses, uses}
@@ -198,12 +198,8 @@ module _ (s : Split) (f : Fair s) (z : ℕ) (l : Lowest (s .word) z) where
 
 -- ---- at the lowest tile
 
-some-there : (n : ℕ) → leb 1 n ≡ not (eqb n 0)
-some-there zero = refl
-some-there (suc n) = leb·suc-suc 0 n ∙ leb·zero n ∙ sym (ap not (eqb·suc-zero n))
-
 above : (n : ℕ) → T (not (eqb n 0)) → 1 ≤ n
-above n h = leb→le 1 n (true→T (leb 1 n) (some-there n ∙ T→true _ h))
+above n h = leb→le 1 n (true→T (leb 1 n) (leb-one n ∙ T→true _ h))
 
 guarded : (a b x y : Bool) → (T (a && b) → x ≡ y) → ((a && b) && x) ≡ (a && (b && y))
 guarded true true x y f = f tt
@@ -267,8 +263,8 @@ module _ (s : Split) (a : AtLowest s) where
       three : T (isStart (s .tile)) → fits (meld (s .tile) 0) (left s) ≡ (not (eqb (s .word / 8 % 8) 0) && not (eqb (s .word / 64 % 8) 0))
       three h =
           let e : s .word / 8 / 8 % 8 ≡ s .word / 64 % 8 = omega arith in
-          let i = ap (leb 1) (left-next 1 (omega arith) h) ∙ some-there (s .word / 8 % 8) in
-          let j = ap (leb 1) (left-next 2 (omega arith) h ∙ e) ∙ some-there (s .word / 64 % 8) in
+          let i = ap (leb 1) (left-next 1 (omega arith) h) ∙ leb-one (s .word / 8 % 8) in
+          let j = ap (leb 1) (left-next 2 (omega arith) h ∙ e) ∙ leb-one (s .word / 64 % 8) in
           fits-sequence (left s) (s .tile) h ∙ ap₂ _&&_ (le-leb 1 (left s (s .tile)) (omega (arith, left-here, a .there))) (ap₂ _&&_ i j)
 
 -- ---- without a meld

@@ -4,7 +4,7 @@ use mathlib.Core.Path.{_≡_, refl, sym, ap, ap₂, _∙_, subst}
 use mathlib.Core.Logic.{⊎-elim}
 use mathlib.Core.Bool.{Bool, true, false, cond}
 use mathlib.Core.List.{List, [], _∷_, _++_, map, List·Memᴰ, List·Memᴰ·head, List·Memᴰ·tail, List·Memᴰ·not-nil, List·Memᴰ·cases-cons, List·Permᴰ, List·Permᴰ·cons, List·Permᴰ·swap, List·Permᴰ·trans, Permᴰ·refl, Permᴰ·append-left, Permᴰ·middle, append-nil}
-use Prim.Native.Nat.{ℕ, zero, suc, _+_, _*_, _/_, _%_, _≤_, _<_}
+use Prim.Native.Nat.{ℕ, zero, suc, _+_, _/_, _%_, _≤_, _<_}
 use native.Mathlib.Omega.{arith}
 use lib.Dec.{T, leb}
 use lib.ListN.{length, length-append, replicate}
@@ -19,6 +19,7 @@ use Rattle.meld.specs.Meld.{isMeld, key, melds, sorted}
 use Rattle.meld.proofs.Melds.{arrange-same, arrange-id, meld-kind, meld-tile, melds-nodup, in-melds, melds-ascend}
 use Rattle.hand.specs.Reading.{standard}
 use Rattle.hand.specs.Records.{meldBytes, recordOf, records}
+use Rattle.hand.proofs.Records.{meldBytes-length}
 use Rattle.search.specs.Slots.{put, putAll, slotsOf, slotBytes, slotRecord, recordsWith}
 
 -- ---- insertion: the lower of two melds stays in a place, the higher goes on to the next
@@ -199,14 +200,10 @@ slot-bytes (m ∷ ms) v =
     let good = and-left (isMeld m) _ v in
     ap₂ _∷_ (key-tile m good) (ap₂ _∷_ (key-kind m good) (slot-bytes ms (and-right (isMeld m) _ v)))
 
-length-bytes : (ms : List Meld) → length (meldBytes ms) ≡ 2 * length ms
-length-bytes [] = refl
-length-bytes (m ∷ ms) = let h = length-bytes ms in omega arith
-
 record-four : (p : ℕ) (ms : List Meld) → T (all isMeld ms) → length ms ≡ 4 → slotRecord p (map key ms) ≡ recordOf (standard p ms)
 unfolding slotRecord recordOf
 record-four p ms v e =
-    let h = length-bytes ms in
+    let h = meldBytes-length ms in
     let n : length (p ∷ meldBytes ms) + 4 ≡ 13 = omega arith in
     ap (λ (r : List ℕ). 13 ∷ (0 ∷ (3 ∷ (0 ∷ (p ∷ r))))) (slot-bytes ms v)
     ∙ ap (λ (s : ℕ). s % 256 ∷ (s / 256 ∷ (3 ∷ (0 ∷ (p ∷ meldBytes ms))))) (sym n)

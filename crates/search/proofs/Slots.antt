@@ -1,24 +1,15 @@
 -- Four slots, the bytes of their record, and runs of stores. Assumes nothing.
-use mathlib.Core.Path.{_≡_, refl, sym, ap, _∙_}
+use mathlib.Core.Path.{_≡_, sym, ap, _∙_}
 use mathlib.Core.Bool.{cond}
 use mathlib.Core.List.{List, [], _∷_, _++_}
-use Prim.Native.Nat.{ℕ, suc, _+_, _/_, _%_, _<_}
+use Prim.Native.Nat.{ℕ, suc, _+_, _/_, _%_}
 use native.Mathlib.Nat.{add-zero}
-use native.Mathlib.Numerals.{add-one}
 use native.Mathlib.Omega.{arith}
 use lib.Dec.{leb}
-use lib.ListN.{length, getD, set, drop}
-use lib.Seq.{drop-cons, sets}
+use lib.ListN.{length, getD, set}
+use lib.Seq.{sets}
+use Rattle.lists.proofs.Elements.{four}
 use Rattle.search.specs.Slots.{put, slotBytes, slotRecord}
-
--- a list of four by its elements
-four : (l : List ℕ) → length l ≡ 4 → l ≡ getD l 0 0 ∷ getD l 1 0 ∷ getD l 2 0 ∷ getD l 3 0 ∷ []
-four [] e = absurd (omega arith)
-four (a ∷ []) e = absurd (omega arith)
-four (a ∷ b ∷ []) e = absurd (omega arith)
-four (a ∷ b ∷ c ∷ []) e = absurd (omega arith)
-four (a ∷ b ∷ c ∷ d ∷ []) e = refl
-four (a ∷ b ∷ c ∷ d ∷ x ∷ l) e = absurd (omega arith)
 
 -- a number put in from slot to slot: y, z, w are what is handed on
 pub put-is : (x y z w p q r s : ℕ) (l : List ℕ) → length l ≡ 4
@@ -31,28 +22,19 @@ pub put-is : (x y z w p q r s : ℕ) (l : List ℕ) → length l ≡ 4
     → s ≡ cond (leb w (getD l 3 0)) w (getD l 3 0)
     → p ∷ q ∷ r ∷ s ∷ [] ≡ put x l
 unfolding put
-put-is x y z w p q r s l h e f g i j k m = let u = ap (put x) (four l h) in cc u
+put-is x y z w p q r s l h e f g i j k m = let u = ap (put x) (four l 0 h) in cc u
 
 -- the bytes of a record, slot by slot
 pub four-bytes : (p : ℕ) (l : List ℕ) → length l ≡ 4
     → slotRecord p l ≡ 13 ∷ 0 ∷ 3 ∷ 0 ∷ p ∷ getD l 0 0 / 7 % 256 ∷ getD l 0 0 % 7 ∷ getD l 1 0 / 7 % 256 ∷ getD l 1 0 % 7
     ∷ getD l 2 0 / 7 % 256 ∷ getD l 2 0 % 7 ∷ getD l 3 0 / 7 % 256 ∷ getD l 3 0 % 7 ∷ []
 unfolding slotRecord slotBytes
-four-bytes p l e = ap (slotRecord p) (four l e)
+four-bytes p l e = ap (slotRecord p) (four l 0 e)
 
 pub record-length : (p : ℕ) (l : List ℕ) → length l ≡ 4 → length (slotRecord p l) ≡ 13
 record-length p l e = ap length (four-bytes p l e)
 
 -- ---- runs of stores
-
--- one store, and the rest
-pub sets-turn : (d s : List ℕ) (at i : ℕ) → i < length s
-    → sets d (at + i) (drop i s) ≡ sets (set d (at + i) (getD s i 0)) (at + (i + 1)) (drop (i + 1) s)
-sets-turn d s at i h =
-    let e : suc (at + i) ≡ at + (i + 1) = omega arith in
-    ap (sets d (at + i)) (drop-cons s i 0 h)
-    ∙ ap (λ (k : ℕ). sets (set d (at + i) (getD s i 0)) k (drop (suc i) s)) e
-    ∙ ap (λ (k : ℕ). sets (set d (at + i) (getD s i 0)) (at + (i + 1)) (drop k s)) (sym (add-one i))
 
 pub sets-append : (a b d : List ℕ) (i : ℕ) → sets d i (a ++ b) ≡ sets (sets d i a) (i + length a) b
 sets-append [] b d i = ap (λ (k : ℕ). sets d k b) (sym (add-zero i))

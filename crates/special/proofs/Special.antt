@@ -4,6 +4,7 @@ use mathlib.Core.Bool.{Bool, true, false, _&&_, _||_, not, cond, and-true, and-f
 use mathlib.Core.List.{List, [], _∷_, _++_, map, append-nil, List·Memᴰ}
 use Prim.Native.Nat.{ℕ, suc, _+_, _≤_, _<_}
 use native.Mathlib.Omega.{arith}
+use native.Mathlib.Numerals.{add-four}
 use lib.Dec.{T, eqb, ltb, eqb→eq}
 use lib.Count.{ones}
 use lib.ListN.{length, set}
@@ -122,14 +123,11 @@ head-written out at size kind =
     let g : at + 3 ≡ suc (suc (suc at)) = omega arith in
     rw (e, f, g)
 
-behind-head : (at : ℕ) → at + 4 ≡ suc (suc (suc (suc at)))
-behind-head at = omega arith
-
 pub orphans-written :
     (out out′ : List ℕ) (at p : ℕ) → out′ ≡ sets out at (5 ∷ 0 ∷ 2 ∷ 0 ∷ []) → set out′ (at + 4) p ≡ sets out at (recordOf (orphans p))
 unfolding recordOf
 orphans-written out out′ at p e =
-    ap (λ (o : List ℕ). set o (at + 4) p) e ∙ ap (λ (n : ℕ). set (sets out at (5 ∷ 0 ∷ 2 ∷ 0 ∷ [])) n p) (behind-head at)
+    ap (λ (o : List ℕ). set o (at + 4) p) e ∙ ap (λ (n : ℕ). set (sets out at (5 ∷ 0 ∷ 2 ∷ 0 ∷ [])) n p) (add-four at)
 
 module _ (c : ℕ → ℕ) (h : isPairs c ≡ true) where
   seven-record : records (sevenPairs c) ≡ 11 ∷ 0 ∷ 1 ∷ 0 ∷ twos c
@@ -145,5 +143,5 @@ module _ (c : ℕ → ℕ) (h : isPairs c ≡ true) where
   pairs-written out out′ out″ at e f =
       f
       ∙ ap (λ (o : List ℕ). sets o (at + 4) (twos c)) e
-      ∙ ap (λ (n : ℕ). sets (sets out at (11 ∷ 0 ∷ 1 ∷ 0 ∷ [])) n (twos c)) (behind-head at)
+      ∙ ap (λ (n : ℕ). sets (sets out at (11 ∷ 0 ∷ 1 ∷ 0 ∷ [])) n (twos c)) (add-four at)
       ∙ ap (λ (l : List ℕ). sets out at l) (sym seven-record)

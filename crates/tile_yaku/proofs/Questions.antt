@@ -3,11 +3,11 @@
 use mathlib.Core.Path.{_≡_, refl, sym, ap, ap₂, _∙_}
 use mathlib.Core.Bool.{Bool, true, false, _&&_, _||_, not, and-false, and-self, Bool·beq}
 use mathlib.Core.List.{List, [], _∷_}
-use Prim.Native.Nat.{ℕ, zero, suc, _+_, _%_, _<_, _≤_}
+use Prim.Native.Nat.{ℕ, _+_, _%_, _<_, _≤_}
 use native.Mathlib.Omega.{arith}
-use lib.Dec.{T, eqb, leb, eqb·suc-zero, leb·suc-suc, leb·zero}
+use lib.Dec.{T, eqb, leb}
 use Rattle.lists.specs.Fold.{all, any}
-use Rattle.lists.proofs.Finite.{and-left, and-right, beq→eq}
+use Rattle.lists.proofs.Finite.{and-left, and-right, beq→eq, leb-one}
 use Rattle.tile.specs.Tile.{isGreen, isHonor, isSimple, isTerminal, isTerminalOrHonor, tiles}
 use Rattle.tile_yaku.specs.declared.TileYaku.{TileYaku}
 use Rattle.tile_yaku.specs.declared.Sorts.{Sorts}
@@ -17,11 +17,6 @@ use Rattle.tile_yaku.proofs.Below.{someBelow, flag-on, flag-end}
 -- the tile t is there and passes the question q
 abbrev pub there : (ℕ → ℕ) → (ℕ → Bool) → ℕ → Bool
 there c q t = leb 1 (c t) && q t
-
--- there is one or there is none
-leb-one : (x : ℕ) → leb 1 x ≡ not (eqb x 0)
-leb-one zero = refl
-leb-one (suc x) = leb·suc-suc 0 x ∙ leb·zero x ∙ sym (ap not (eqb·suc-zero x))
 
 -- at one tile: z, none of it is there; a, b, it passes two questions; m, n, some other tile there does
 not-either : (z a b m n : Bool) → ((z || not (a || b)) && (not m && not n)) ≡ (not (not z && a || m) && not (not z && b || n))

@@ -4,15 +4,16 @@ use mathlib.Core.List.{List, [], _∷_, map}
 use Prim.Native.Nat.{ℕ, _+_, _<_, _≤_}
 use lib.ListN.{length, length-map, getD, drop, set}
 use lib.Seq.{sets}
-use Rattle.structure.proofs.Four.{four}
+use Rattle.lists.proofs.Elements.{four}
+use Rattle.lists.proofs.Stores.{sets-next}
 use Rattle.tile.specs.Tile.{tiles}
 use Rattle.tile.specs.declared.Renaming.{Renaming}
 use Rattle.tile.specs.Renaming.{ren, back}
 use Rattle.meld.specs.declared.Meld.{Meld}
 use Rattle.meld.specs.Renamed.{renMeld}
 use Rattle.checks.specs.declared.Calls.{Calls}
-use Rattle.checks.proofs.Turns.{copy-next, copy-end, copy-whole}
 use Rattle.lists.proofs.Members.{take-map}
+use Rattle.checks.proofs.Turns.{copy-end, copy-whole}
 use Rattle.hand.specs.Counts.{held}
 use Rattle.renamed.specs.Renamed.{renCounts}
 use Rattle.renamed.proofs.Counts.{at-tile}
@@ -31,7 +32,7 @@ module _ (undo : Renaming) (cs : List ℕ) (d : List ℕ) (t : ℕ) where
   moved-next x h e =
       ap (λ (y : ℕ). sets (set d t y) (t + 1) (drop (t + 1) (map (λ t. held cs (ren undo t)) tiles)))
       (e ∙ sym (at-tile (λ t. held cs (ren undo t)) t h))
-      ∙ copy-next d (map (λ t. held cs (ren undo t)) tiles) t h
+      ∙ sym (sets-next d (map (λ t. held cs (ren undo t)) tiles) t t h)
 
   pub moved-end : 34 ≤ t → d ≡ sets d t (drop t (moved undo cs))
   unfolding moved

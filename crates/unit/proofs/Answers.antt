@@ -1,17 +1,16 @@
 -- The answer and the buffer of a listing, by the three ways it ends: refused by a check, refused for want of room, listed.
 -- Assumes nothing.
-use mathlib.Core.Path.{_≡_, refl, sym, ap, _∙_}
-use mathlib.Core.Bool.{Bool, true, false, _&&_, cond}
-use mathlib.Core.List.{List, [], _∷_, _++_}
+use mathlib.Core.Path.{_≡_, sym, ap, _∙_}
+use mathlib.Core.Bool.{Bool, true, _&&_, cond}
+use mathlib.Core.List.{List, _++_}
 use Prim.Native.Nat.{ℕ, _+_, _≤_, _<_}
-use native.Mathlib.Omega.{arith}
 use lib.Dec.{eqb, leb}
-use lib.ListN.{length, take, drop}
-use lib.Seq.{sets, sets-eq}
+use lib.ListN.{length, drop}
+use lib.Seq.{sets}
+use Rattle.lists.proofs.Stores.{sets-first}
 use borrow.Author.Tests.{eq-eqb, ne-eqb, le-leb, lt-leb}
 use Rattle.checks.specs.declared.Calls.{Calls}
 use Rattle.checks.specs.Checks.{handCheck}
-use Rattle.unit.specs.declared.Listing.{Listing}
 use Rattle.unit.specs.declared.Listing.the-variants.{Refused, Listed}
 use Rattle.unit.specs.Listing.{handReadings, handRecords, listing, written}
 
@@ -45,8 +44,7 @@ module _ (cs : List ℕ) (k : Calls) where
     pub listed-buffer : (buffer out : List ℕ) → length (handRecords cs k) ≤ length buffer → out ≡ sets buffer 0 (handRecords cs k) → out ≡ written cs k buffer
     unfolding written
     listed-buffer buffer out h e =
-        let none : 0 + length (handRecords cs k) ≡ length (handRecords cs k) = omega arith in
         let accepted : eqb (handCheck cs k) 0 && leb (length (handRecords cs k)) (length buffer) ≡ true =
         simp (eq-eqb (handCheck cs k) 0 passed, le-leb (length (handRecords cs k)) (length buffer) h) in
-        e ∙ sets-eq (handRecords cs k) buffer 0 (omega arith) ∙ ap (λ (n : ℕ). handRecords cs k ++ drop n buffer) none
+        e ∙ sets-first buffer (handRecords cs k) h
         ∙ ap (λ (b : Bool). cond b (handRecords cs k ++ drop (length (handRecords cs k)) buffer) buffer) (sym accepted)

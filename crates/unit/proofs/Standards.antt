@@ -16,7 +16,8 @@ use Rattle.hand.specs.Reading.{standard}
 use Rattle.hand.specs.Records.{recordOf, records}
 use Rattle.hand.specs.Readings.{lessPair, meldLists, standardsAt}
 use Rattle.hand.proofs.Lowest.{flat-append, few, lists-length, lists-melds}
-use Rattle.search.specs.Slots.{put, putAll, slotsOf, slotBytes, slotRecord, recordsWith}
+use Rattle.search.specs.Slots.{put, putAll, slotsOf, slotRecord, recordsWith}
+use Rattle.search.proofs.Slots.{record-length}
 use Rattle.search.proofs.Merged.{merged-all}
 use Rattle.decompose.specs.Pairs.{withPair, foundWith, recordsOver}
 
@@ -81,15 +82,6 @@ putAll-length : (xs l : List ℕ) → length (putAll xs l) ≡ length l
 unfolding putAll
 putAll-length [] l = refl
 putAll-length (x ∷ xs) l = putAll-length xs (put x l) ∙ put-length x l
-
-bytes-length : (l : List ℕ) → length (slotBytes l) ≡ 2 * length l
-unfolding slotBytes
-bytes-length [] = refl
-bytes-length (x ∷ l) = let e = bytes-length l in omega arith
-
-record-length : (p : ℕ) (slots : List ℕ) → length slots ≡ 4 → length (slotRecord p slots) ≡ 13
-unfolding slotRecord
-record-length p slots e = let b = bytes-length slots in omega arith
 
 with-length : (p : ℕ) (slots : List ℕ) → length slots ≡ 4 → (ls : List (List Meld)) → length (recordsWith p slots ls) ≡ 13 * length ls
 unfolding recordsWith

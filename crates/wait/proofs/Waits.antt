@@ -1,19 +1,23 @@
--- Open melds and kans give no wait, and a wait is counted at most once for each of the four melds. Assumes nothing.
+-- Open melds and kans give no wait; a wait is counted at most once for each of the four melds; and an honor counts at most three
+-- times. Assumes nothing.
 use mathlib.Core.Path.{_≡_, subst, ap}
-use mathlib.Core.Bool.{Bool, true, false, _&&_}
-use mathlib.Core.List.{List, [], _∷_, List·Memᴰ}
+use mathlib.Core.Bool.{Bool, false, _&&_}
+use mathlib.Core.List.{List, List·Memᴰ}
 use Prim.Native.Nat.{ℕ, _≤_}
 use native.Mathlib.Omega.{arith}
 use borrow.Author.Tests.{ne-eqb}
 use lib.Dec.{T, eqb, leb, leb→le, le→leb}
 use lib.ListN.{length}
 use Rattle.lists.specs.Fold.{all, count, one}
-use Rattle.lists.proofs.Finite.{and-both}
+use Rattle.lists.proofs.Finite.{and-both, one-le}
 use Rattle.lists.proofs.Members.{all-mem}
+use Rattle.lists.proofs.Sums.{count-le}
+use Rattle.tile.specs.Tile.{isDragon}
+use Rattle.context.specs.declared.GameContext.{GameContext}
 use Rattle.meld.specs.declared.Meld.{Meld}
 use Rattle.meld.specs.Meld.{isOpen, isKan, meld}
 use Rattle.hand.specs.Reading.{standard}
-use Rattle.wait.specs.Wait.{closedRun, closedTriplet, twoSided, middle, edge, waits}
+use Rattle.wait.specs.Wait.{closedRun, closedTriplet, twoSided, middle, edge, waits, weight}
 
 -- ---- open melds and kans
 -- a kind that passes a test is not one that fails it
@@ -33,14 +37,6 @@ pub kan-no-shanpon : (t : ℕ) (m : Meld) → T (isKan m) → closedTriplet t m 
 kan-no-shanpon t m o = ap (λ (b : Bool). b && eqb t (m .tile)) (other-kind isKan m 2 o (λ x. x))
 
 -- ---- tallies
-pub one-le : (b : Bool) → one b ≤ 1
-one-le true = omega arith
-one-le false = omega arith
-
-pub count-le : {A : Type 0} (p : A → Bool) (l : List A) → count p l ≤ length l
-count-le p [] = omega arith
-count-le p (a ∷ l) = omega (arith, one-le (p a), count-le p l)
-
 module _ (t p : ℕ) (ms : List Meld) (four : length ms ≡ 4) where
   counted : (q : Meld → Bool) → T (leb (count q ms) 4)
   counted q = le→leb (count q ms) 4 (omega (arith, count-le q ms))
@@ -56,3 +52,11 @@ module _ (t p : ℕ) (ms : List Meld) (four : length ms ≡ 4) where
 
   pub tally-le : (n : ℕ) → List·Memᴰ n (waits t (standard p ms)) → n ≤ 4
   tally-le n i = leb→le n 4 (all-mem (λ n. leb n 4) small i)
+
+-- ---- a dragon, the round wind and the seat wind count once each
+pub weight-le : (w : GameContext) (t : ℕ) → weight w t ≤ 3
+weight-le w t =
+    let dragon = one-le (isDragon t) in
+    let round = one-le (eqb t (w .«round_wind»)) in
+    let seat = one-le (eqb t (w .«seat_wind»)) in
+    omega arith

@@ -1,16 +1,17 @@
 -- The buffer that all records were written into holds all readings of the hand, in their order; and picking one of them by its number
 -- is reading the record at its place. Assumes nothing.
 use mathlib.Core.Path.{_≡_, sym, ap, _∙_}
-use mathlib.Core.List.{List, _++_, List·Memᴰ}
-use Prim.Native.Nat.{ℕ, _+_, _≤_, _<_}
+use mathlib.Core.List.{List, List·Memᴰ}
+use Prim.Native.Nat.{ℕ, _≤_, _<_}
 use native.Mathlib.Omega.{arith}
 use lib.ListN.{length, drop}
-use lib.Seq.{sets, sets-eq}
+use lib.Seq.{sets}
+use Rattle.lists.proofs.Stores.{sets-first}
 use Rattle.hand.specs.Counts.{held}
 use Rattle.hand.specs.Reading.{Reading, pairs, orphans, standard}
 use Rattle.hand.specs.Records.{records}
 use Rattle.hand.specs.Readings.{readings}
-use Rattle.yaku.proofs.Laws.{Short}
+use Rattle.structure.proofs.Short.{Short}
 use Rattle.checks.specs.declared.Calls.{Calls}
 use Rattle.checks.specs.Checks.{called, handCheck}
 use Rattle.checks.proofs.Passed.{few-called}
@@ -26,12 +27,6 @@ short : (r : Reading) → Sized r → Short r
 short (pairs ps) h = tt
 short (orphans p) h = tt
 short (standard p ms) h = omega arith
-
--- the bytes written first, then what the buffer held behind them
-written : (b₀ bytes : List ℕ) → length bytes ≤ length b₀ → sets b₀ 0 bytes ≡ bytes ++ drop (length bytes) b₀
-written b₀ bytes h =
-    let none : 0 + length bytes ≡ length bytes = omega arith in
-    sets-eq bytes b₀ 0 (omega arith) ∙ ap (λ (n : ℕ). bytes ++ drop n b₀) none
 
 -- ---- a hand that passes the checks; the four melds of the calls are four (an array of four in the code)
 module _ (cs : List ℕ) (k : Calls) (four : length (k .melds) ≡ 4) (passes : handCheck cs k ≡ 0) where
@@ -50,7 +45,7 @@ module _ (cs : List ℕ) (k : Calls) (four : length (k .melds) ≡ 4) (passes : 
   unfolding handRecords handReadings
   held-readings b₀ b n e h f =
       let all = readings (held cs) (called k) in
-      rw (e, f, written b₀ (records all) h) (read-back all (drop (length (records all)) b₀) sized)
+      rw (e, f, sets-first b₀ (records all) h) (read-back all (drop (length (records all)) b₀) sized)
 
 -- ---- a buffer b that holds the m readings of the hand: f of the reading with the number n, z where there is none
 module _ {B : Type 0} (cs : List ℕ) (k : Calls) (b : List ℕ) (m : ℕ) (holds : readingsIn b m 0 ≡ handReadings cs k) (z : B) (f : Reading → B) (n : ℕ) where

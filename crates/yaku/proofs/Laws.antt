@@ -9,39 +9,19 @@ use native.Mathlib.Nat.{le-trans, mul-le-mul, mul-le-mul-left}
 use native.Mathlib.Omega.{arith}
 use lib.Dec.{T, eqb, leb, leb→le, lit≤}
 use borrow.Author.Tests.{le-leb}
-use lib.ListN.{length, getD, replicate}
+use lib.ListN.{getD, replicate}
 use Rattle.lists.specs.Fold.{any, one}
 use Rattle.lists.proofs.Finite.{and-left, and-right, and-both, true→T, at}
-use Rattle.tile.specs.Tile.{isDragon}
-use Rattle.meld.specs.declared.Meld.{Meld}
+use Rattle.lists.proofs.Sums.{count-le}
 use Rattle.context.specs.declared.GameContext.{GameContext}
 use Rattle.hand.specs.Reading.{Reading, pairs, orphans, standard}
-use Rattle.structure.specs.declared.Hand.{Hand}
-use Rattle.structure.specs.declared.HandStructure.{HandStructure}
-use Rattle.structure.specs.declared.HandStructure.the-variants.{Standard, Chiitoitsu, Kokushi}
-use Rattle.structure.specs.Structure.{read, readingOf}
-use Rattle.wait.specs.Wait.{weight}
-use Rattle.wait.proofs.Waits.{one-le, count-le}
+use Rattle.structure.proofs.Short.{Short}
+use Rattle.wait.proofs.Waits.{weight-le}
 use Rattle.tile_yaku.specs.declared.TileYaku.{TileYaku}
 use Rattle.meld_yaku.specs.Melds.{setOf, yakuhai}
 use Rattle.meld_yaku.specs.Standard.{yakuhaiOf}
 use Rattle.yaku.specs.Tally.{oneHan, moreHan, yakuman, isYakuman, ordinary, tallies}
 use Rattle.yaku.specs.Han.{hanOf, dot, han}
-
--- a reading with at most four melds
-abbrev pub Short : Reading → Type 0
-Short (pairs ps) = Unit {0}
-Short (orphans p) = Unit {0}
-Short (standard p ms) = length ms ≤ 4
-
--- what the code's value stands for has four melds
-short-read : (s : HandStructure) (ms : List Meld) (ps : List ℕ) → length ms ≡ 4 → Short (read s ms ps)
-short-read (Standard p) ms ps h = omega arith
-short-read Chiitoitsu ms ps h = tt
-short-read (Kokushi p) ms ps h = tt
-
-pub short-reading : (h : Hand) → length (h .melds) ≡ 4 → Short (readingOf h)
-short-reading h = short-read (h .structure) (h .melds) (h .pairs)
 
 -- ---- tallies within bounds, place by place
 abbrev within : List ℕ → List ℕ → Bool
@@ -83,13 +63,6 @@ none-within (true ∷ bs) e = absurd (subst T e tt)
 none-within (false ∷ bs) e = none-within bs e
 
 -- ---- the others are at most 1, a yakuhai tally at most 12
-weight-le : (w : GameContext) (t : ℕ) → weight w t ≤ 3
-weight-le w t =
-    let dragon = one-le (isDragon t) in
-    let round = one-le (eqb t (w .«round_wind»)) in
-    let seat = one-le (eqb t (w .«seat_wind»)) in
-    omega arith
-
 yakuhai-le : (w : GameContext) (r : Reading) → Short r → (t : ℕ) → yakuhaiOf w r t ≤ 12
 unfolding yakuhai
 yakuhai-le w (pairs ps) h t = lit≤ tt

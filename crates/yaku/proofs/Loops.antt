@@ -2,13 +2,12 @@
 use mathlib.Core.Path.{_≡_, refl, sym, ap, ap₂, _∙_}
 use mathlib.Core.Bool.{Bool, true, false, _||_, or-false}
 use mathlib.Core.List.{List, _++_}
-use Prim.Native.Nat.{ℕ, suc, _+_, _*_, _<_, _≤_}
+use Prim.Native.Nat.{ℕ, _+_, _*_, _<_, _≤_}
 use native.Mathlib.Numerals.{add-one}
-use native.Mathlib.Omega.{arith}
-use lib.ListN.{length, getD, drop, set, replicate, drop-of-length-le}
+use lib.ListN.{length, getD, drop, replicate, drop-of-length-le}
 use lib.Seq.{drop-cons, sets}
 use Rattle.lists.specs.Fold.{any}
-use Rattle.structure.proofs.Four.{elements}
+use Rattle.lists.proofs.Elements.{elements}
 use Rattle.yaku.specs.Han.{dot}
 
 -- ---- is there one that passes the question: b is the answer so far
@@ -34,16 +33,6 @@ dot-turn vs ns i h k = rw (add-one, drop-cons vs i 0, drop-cons ns i 0)
 pub dot-end : (vs ns : List ℕ) (i : ℕ) → length vs ≤ i → dotFrom vs ns i ≡ 0
 unfolding dotFrom
 dot-end vs ns i h = ap (λ (l : List ℕ). dot l (drop i ns)) (drop-of-length-le vs {i = i} h)
-
--- ---- stores: one, and the rest
-pub sets-turn : (d s : List ℕ) (at i : ℕ) → i < length s → sets d (at + i) (drop i s) ≡ sets (set d (at + i) (getD s i 0)) (at + (i + 1)) (drop (i + 1) s)
-sets-turn d s at i h =
-    ap (λ (l : List ℕ). sets d (at + i) l) (drop-cons s i 0 h)
-    ∙ ap (λ (k : ℕ). sets (set d (at + i) (getD s i 0)) k (drop (suc i) s)) e
-    ∙ ap (λ (k : ℕ). sets (set d (at + i) (getD s i 0)) (at + (i + 1)) (drop k s)) (sym (add-one i))
-  where
-    e : suc (at + i) ≡ at + (i + 1)
-    e = omega arith
 
 -- ---- the parts in their places
 module _ (c : List ℕ) (k : length c ≡ 15) where

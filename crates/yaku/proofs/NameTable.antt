@@ -1,7 +1,7 @@
 -- The table of names: each name once, in the order of the tallies, and the tables of han are the names' han. Assumes nothing.
 use mathlib.Core.Path.{_≡_, refl, sym, ap, ap₂, _∙_}
 use mathlib.Core.Bool.{Bool, true, false, _&&_, cond, and-false, Bool·beq}
-use mathlib.Core.List.{List, [], _∷_, _++_, map}
+use mathlib.Core.List.{List, _++_, map}
 use Prim.Native.Nat.{ℕ, zero, suc, _+_, _-_, _<_, _≤_}
 use native.Mathlib.Decide.{decLt}
 use native.Mathlib.Omega.{arith}
@@ -9,6 +9,7 @@ use lib.Dec.{T, leb, ltb, leb→le, ltb→lt}
 use borrow.Author.Tests.{le-ltb}
 use lib.ListN.{getD, replicate, length, List·getD-map, List·getD-eq-default}
 use Rattle.lists.specs.Fold.{upFrom}
+use Rattle.lists.proofs.Elements.{same-default}
 use Rattle.lists.proofs.Finite.{at, beq→eq, and-left, and-right, true→T}
 use Rattle.tile.specs.declared.Tile.{Tile}
 use Rattle.tile.specs.Tile.{isHonor}
@@ -117,11 +118,6 @@ module _ {A : Type 0} (f : Yaku → A) (same : (t : Tile) → f (Yakuhai t) ≡ 
   in-table y = List·getD-map f names (place y) nowhere ∙ at-place y
 
 -- ---- the value of a name, read off its table
-same-default : (l : List ℕ) (i d e : ℕ) → i < length l → getD l i d ≡ getD l i e
-same-default [] i d e h = absurd (omega arith)
-same-default (x ∷ l) zero d e h = refl
-same-default (x ∷ l) (suc i) d e h = same-default l i d e (omega arith)
-
 module _ (f : Yaku → ℕ) (same : (t : Tile) → f (Yakuhai t) ≡ 1) (l : List ℕ) (table : map f names ≡ l) (size : length l ≡ 47) where
   value : (y : Yaku) → getD l (place y) 1 ≡ f y
   value y = ap₂ (λ (k : List ℕ) (d : ℕ). getD k (place y) d) (sym table) (sym (same _)) ∙ in-table f (λ t. same t ∙ sym (same _)) y

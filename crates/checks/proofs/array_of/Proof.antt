@@ -5,7 +5,8 @@ use Prim.Native.Nat.{_-_}
 use native.Mathlib.Omega.{arith}
 use lib.ListN.{length, drop, length-set}
 use lib.Seq.{sets}
-use Rattle.checks.proofs.Turns.{copy-next, copy-end, copy-whole}
+use Rattle.lists.proofs.Stores.{sets-next}
+use Rattle.checks.proofs.Turns.{copy-end, copy-whole}
 use borrow.Author.Needs.{needs}
 use Rattle.checks.proofs.array_of.Statement.{statement}
 use Rattle.checks.proofs.array_of.Tie as tie
@@ -35,7 +36,7 @@ loop-again : tie.Need-loop-again Inv-loop μ-loop
 loop-again c =
     let l = c .before .before .loop in
     let a = c .before .before .before .args in
-    (copy-next (l .array) (a .counts .now) (l .i) (omega arith) ∙ l .inv .0, simp length-set (l .inv .1))
+    (sym (sets-next (l .array) (a .counts .now) (l .i) (l .i) (omega arith)) ∙ l .inv .0, simp length-set (l .inv .1))
 
 returns : tie.Need-returns Inv-loop μ-loop
 returns c =

@@ -1,6 +1,6 @@
 -- `sets_of_number` meets its contract. Assumes nothing.
+use mathlib.Core.Bool.{and-true}
 use borrow.Author.Needs.{needs}
-use Rattle.structure.proofs.Four.{and-true}
 use Rattle.meld_yaku.proofs.sets_of_number.Statement.{statement}
 use Rattle.meld_yaku.proofs.sets_of_number.Tie as tie
 

@@ -1,9 +1,9 @@
 -- `straight_of_suit` meets its contract. Assumes nothing.
+use mathlib.Core.Bool.{and-true}
 use Prim.Native.Nat.{_/_, _<_}
 use native.Mathlib.Omega.{arith}
 use borrow.Author.Tests.{le-ltb, lt-ltb}
 use borrow.Author.Needs.{needs}
-use Rattle.structure.proofs.Four.{and-true}
 use Rattle.meld_yaku.proofs.straight_of_suit.Statement.{statement}
 use Rattle.meld_yaku.proofs.straight_of_suit.Tie as tie
 

@@ -5,7 +5,7 @@ use Prim.Native.Nat.{ℕ, _+_, _-_, _≤_}
 use mathlib.Core.List.{List}
 use lib.ListN.{length, drop, length-set, drop-of-length-le}
 use lib.Seq.{sets}
-use Rattle.search.proofs.Slots.{sets-turn}
+use Rattle.lists.proofs.Stores.{sets-turn}
 use borrow.Author.Needs.{needs}
 use Rattle.search.proofs.put_all.Statement.{statement}
 use Rattle.search.proofs.put_all.Tie as tie

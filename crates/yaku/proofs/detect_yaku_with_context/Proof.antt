@@ -4,7 +4,8 @@ use mathlib.Core.Path.{sym, _∙_}
 use lib.ListN.{length-map}
 use Rattle.structure.specs.Structure.{readingOf}
 use Rattle.yaku.proofs.Found.{all-found}
-use Rattle.yaku.proofs.Laws.{short-reading, han-small}
+use Rattle.structure.proofs.Short.{short-reading}
+use Rattle.yaku.proofs.Laws.{han-small}
 use borrow.Author.Needs.{needs}
 use Rattle.yaku.proofs.detect_yaku_with_context.Statement.{statement}
 use Rattle.yaku.proofs.detect_yaku_with_context.Tie as tie

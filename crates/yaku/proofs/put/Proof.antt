@@ -5,7 +5,7 @@ use Prim.Native.Nat.{ℕ, _+_, _-_, _≤_}
 use native.Mathlib.Omega.{arith}
 use lib.ListN.{length, drop, drop-of-length-le}
 use lib.Seq.{sets}
-use Rattle.yaku.proofs.Loops.{sets-turn}
+use Rattle.lists.proofs.Stores.{sets-turn}
 use borrow.Author.Needs.{needs}
 use Rattle.yaku.proofs.put.Statement.{statement}
 use Rattle.yaku.proofs.put.Tie as tie
