@@ -1,9 +1,9 @@
 -- A reading of a win and its renamed one score alike, in all but the places of the honors' tallies, and so have the same rank.
 -- Assumes nothing.
 use mathlib.Core.Path.{_≡_, refl, sym, ap, ap₂, subst, _∙_}
-use mathlib.Core.Bool.{Bool, not, cond}
+use mathlib.Core.Bool.{Bool, cond}
 use mathlib.Core.List.{List, map, List·Memᴰ, List·Permᴰ, List·Permᴰ·trans}
-use Prim.Native.Nat.{ℕ, suc, _+_, _<_}
+use Prim.Native.Nat.{ℕ, suc, _<_}
 use lib.Dec.{T}
 use Rattle.lists.specs.Fold.{any, some}
 use Rattle.lists.proofs.Permuted.{map-perm}

@@ -2,7 +2,7 @@
 -- finished hand apart: seven pairs, thirteen orphans, or a pair and four melds. c t is how many of the tile t the hand holds, calls not
 -- counted, and k are the calls. These are definitions.
 use mathlib.Core.Path.{_≡_}
-use mathlib.Core.Bool.{Bool, cond}
+use mathlib.Core.Bool.{cond}
 use mathlib.Core.List.{List, [], _++_}
 use Prim.Native.Nat.{ℕ, _+_, _*_, _<_}
 use lib.Dec.{T, eqb, ltb}

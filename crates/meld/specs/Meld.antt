@@ -1,6 +1,6 @@
 -- Melds: questions about one meld, and the melds there are. Kinds: 0 closed sequence, 1 open sequence, 2 closed triplet,
 -- 3 open triplet, 4 closed kan, 5 open kan, 6 added kan. These are definitions.
-use mathlib.Core.Bool.{Bool, true, false, _&&_, _||_, not, cond}
+use mathlib.Core.Bool.{Bool, _&&_, _||_, not, cond}
 use mathlib.Core.List.{List, [], _∷_}
 use Prim.Native.Nat.{ℕ, _+_, _*_}
 use lib.Dec.{eqb, ltb, leb}

@@ -1,7 +1,7 @@
 -- The renamed meld: its tiles are renamed, and the lowest of them is then its tile. (Bytes that are no sequence have only their tile renamed.)
 -- This is a definition.
 use mathlib.Core.Bool.{_&&_, cond}
-use Prim.Native.Nat.{ℕ, _+_, min}
+use Prim.Native.Nat.{_+_, min}
 use Rattle.tile.specs.Tile.{isStart}
 use Rattle.tile.specs.declared.Renaming.{Renaming}
 use Rattle.tile.specs.Renaming.{ren}

@@ -8,8 +8,7 @@ use Rattle.lists.specs.Order.{Nodup, Pairwise}
 use Rattle.tile.specs.Tile.{tiles}
 use Rattle.hand.specs.Counts.{held}
 use Rattle.hand.specs.Reading.{Reading, Admits}
-use Rattle.hand.specs.Records.{records, Before}
-use Rattle.hand.specs.Readings.{readings}
+use Rattle.hand.specs.Records.{Before}
 use Rattle.complete.proofs.Sound.{listed-admitted}
 use Rattle.complete.proofs.Complete.{admitted-listed}
 use Rattle.complete.proofs.Once.{readings-once}

@@ -1,7 +1,7 @@
 -- The score of a reading: all that is answered of it. w is the win, `opened` whether something was called from another player, s the answers
 -- to the yaku that depend on the tiles alone (tile_yaku), r the reading. These are definitions.
 use mathlib.Core.Bool.{Bool, cond, not}
-use mathlib.Core.List.{List, [], _∷_}
+use mathlib.Core.List.{List}
 use Prim.Native.Nat.{ℕ, suc, _+_, _*_}
 use lib.Dec.{eqb}
 use Rattle.lists.specs.Fold.{any}

@@ -1,6 +1,6 @@
 -- How the code reads records back from its buffer; no rule of the game. The law `read-back` says that it gets the readings whose records were
 -- written. These are definitions.
-use mathlib.Core.Bool.{Bool, cond}
+use mathlib.Core.Bool.{cond}
 use mathlib.Core.List.{List, [], _∷_}
 use Prim.Native.Nat.{ℕ, zero, suc, _+_}
 use lib.Dec.{eqb}

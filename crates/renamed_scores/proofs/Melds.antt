@@ -1,23 +1,22 @@
 -- The yaku of the pair and the melds stay when the reading and the winning tile are renamed. Assumes nothing.
 use mathlib.Core.Path.{_≡_, refl, ap, ap₂, _∙_}
-use mathlib.Core.Bool.{Bool, false, _&&_, _||_, not}
+use mathlib.Core.Bool.{Bool, false, _&&_, not}
 use mathlib.Core.List.{List}
 use Prim.Native.Nat.{ℕ, _/_, _<_}
 use lib.Dec.{T, eqb, ltb, ltb→lt}
 use Rattle.lists.specs.Fold.{any, count}
 use Rattle.lists.proofs.Permuted.{sum-over, lines-over}
-use Rattle.tile.specs.Tile.{isDragon, isStart, isTerminal, isTerminalOrHonor, isWind}
+use Rattle.tile.specs.Tile.{isDragon, isStart, isWind}
 use Rattle.tile.specs.declared.Renaming.{Renaming}
 use Rattle.tile.specs.Renaming.{ren}
 use Rattle.tile.proofs.Renamings.{ren-isDragon, ren-isTerminal, ren-isTerminalOrHonor, ren-isWind}
 use Rattle.meld.specs.declared.Meld.{Meld}
-use Rattle.meld.specs.Meld.{isKan, isMeld, isSequence, isTripletOrKan}
-use Rattle.meld.specs.Renamed.{renMeld}
+use Rattle.meld.specs.Meld.{isKan, isSequence, isTripletOrKan}
 use Rattle.meld.proofs.Renamed.{Moved, all-moved, any-moved, count-moved}
 use Rattle.context.specs.declared.GameContext.{GameContext}
 use Rattle.context.specs.Context.{renWin}
 use Rattle.wait.specs.Concealed.{concealed, spared}
-use Rattle.meld_yaku.specs.Melds.{runFrom, setOf, endRun, toitoi, kans, dragons, winds, sanAnkou, straights, ittsu, sanshokuDoujun, sanshokuDoukou, peikou, chanta, junchan, shousangen}
+use Rattle.meld_yaku.specs.Melds.{runFrom, setOf, toitoi, kans, dragons, winds, sanAnkou, straights, ittsu, sanshokuDoujun, sanshokuDoukou, peikou, chanta, junchan, shousangen}
 use Rattle.meld_yaku.proofs.Renamed.{dragon-set, wind-set, outer-meld, terminal-meld, ren-setOf, renStart, ren-runFrom, starts-over, runLines, setLines, straights-same, runLines-same, setLines-same}
 use Rattle.meld_yaku.specs.Yakuman.{suuankou, daisangen, shousuushii, daisuushii, suuKantsu}
 use Rattle.renamed_scores.proofs.Waits.{ren-spared, ren-concealed}

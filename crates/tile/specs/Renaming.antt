@@ -1,7 +1,7 @@
 -- A renaming (a term of the scope paper) gives every tile the name of another by one rule, under which a hand should keep its worth: the
 -- suits change places, all numbers n stay or all become 10 - n, White and Red stay or change places. Suits and honors are independent
 -- parts. These are definitions.
-use mathlib.Core.Bool.{Bool, _&&_, _||_, cond}
+use mathlib.Core.Bool.{_&&_, _||_, cond}
 use Prim.Native.Nat.{ℕ, _+_, _-_, _*_, _/_, _%_}
 use lib.Dec.{eqb, ltb}
 use Rattle.tile.specs.declared.Suits.{Suits}

@@ -1,5 +1,5 @@
 -- What listing the readings of a hand answers, and what it leaves in the lent buffer. These are definitions.
-use mathlib.Core.Bool.{Bool, _&&_, cond}
+use mathlib.Core.Bool.{_&&_, cond}
 use mathlib.Core.List.{List, _++_}
 use Prim.Native.Nat.{ℕ}
 use lib.Dec.{eqb, leb}

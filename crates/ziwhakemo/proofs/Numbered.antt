@@ -27,7 +27,7 @@ use denote.Laws.{Is}
 use denote.Memory.{pointee}
 use denote.Plain.{uint-vals, uint-tells}
 use denote.Builtin.{u8, usize}
-use denote.Signature.{Signature, plain, shrSliceOf}
+use denote.Signature.{plain, shrSliceOf}
 use denote.Slice.{sliceTy, sliceVal, ShrSlice, Room, slice-vals, shr-slice-tells}
 use denote.Struct.Laws as LL
 use denote.Triple.Statement.{Contract, Triple}

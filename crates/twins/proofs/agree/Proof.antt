@@ -1,6 +1,6 @@
 -- `agree` meets its contract: what it answers, and that it is yes under the conditions of the theorem. Assumes nothing.
-use mathlib.Core.Path.{_≡_, sym, ap₂, _∙_}
-use lib.ListN.{length, length-map}
+use mathlib.Core.Path.{sym, ap₂, _∙_}
+use lib.ListN.{length-map}
 use Rattle.twins.specs.Twins.{agrees}
 use Rattle.twins.proofs.Agreed.{calls-agree}
 use borrow.Author.Needs.{needs}

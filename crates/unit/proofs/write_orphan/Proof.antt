@@ -1,16 +1,11 @@
 -- `unit::write_orphan` meets its contract. Assumes nothing.
-use mathlib.Core.Path.{_≡_, refl, sym, ap, _∙_}
-use mathlib.Core.Bool.{Bool, true, false, cond}
-use mathlib.Core.List.{List, []}
-use Prim.Native.Nat.{ℕ, _+_, _%_}
+use mathlib.Core.Path.{_≡_, sym, ap, _∙_}
+use Prim.Native.Nat.{ℕ, _%_}
 use native.Mathlib.Omega.{arith}
-use lib.Dec.{ltb}
 use lib.ListN.{length}
 use lib.Seq.{sets}
-use borrow.Author.Tests.{lt-ltb, le-ltb}
 use Rattle.hand.specs.Reading.{orphans}
 use Rattle.hand.specs.Records.{recordOf}
-use Rattle.unit.specs.FirstPass.{orphanRecords}
 use borrow.Author.Needs.{needs}
 use Rattle.unit.proofs.Listed.{orphans-there, orphans-not, orphans-size}
 use Rattle.unit.proofs.write_orphan.Statement.{statement}

@@ -1,6 +1,4 @@
 -- `ziwhakemo::values_of` meets its contract. Assumes nothing.
-use mathlib.Core.Path.{sym, ap, _∙_}
-use Rattle.ziwhakemo.specs.Answers.{paid}
 use borrow.Author.Needs.{needs}
 use Rattle.ziwhakemo.proofs.values_of.Statement.{statement}
 use Rattle.ziwhakemo.proofs.values_of.Tie as tie

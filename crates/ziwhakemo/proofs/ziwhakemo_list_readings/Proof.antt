@@ -17,7 +17,7 @@ use ghost.Atoms.{Atoms}
 use contract.Lifetimes.{Lfts, Shares}
 use contract.Monad.{Fun}
 use contract.Running.{givenOf, tables}
-use types.Kit.{Given, Item, ‵, raw, _⊛_, _$_, _∵_, !, qed, by, move, drop, use1, use2, split3, fsplit, fjoin, feqL, suffices}
+use types.Kit.{Given, ‵, raw, _⊛_, _$_, _∵_, !, qed, by, move, drop, use1, use2, split3, fsplit, fjoin, feqL, suffices}
 use types.Part.{whole, sub, look-in, agg}
 use types.Run.{look, init, forget, stop, hop, fld, from, load, addr, and-then, no-more, assigns, land, returns, enter, alloc1, alloc0, params1, pass1, pass0, free1, free0}
 use sound.WpLaws.{FmC}
