@@ -1,11 +1,12 @@
 // Yaku that ask the pair and the melds of a standard reading (yaku.rs of agari). Each check takes its case apart and otherwise answers
 // no at that line.
+use wait::how_many;
 ghost use mathlib.Core.Path.{_≡_};
 ghost use mathlib.Core.Bool.{not, _&&_, _||_};
 ghost use mathlib.Core.List.{[], _∷_};
 ghost use Prim.Native.Nat.{_+_, _*_, _/_, _%_, _≤_};
 ghost use lib.Dec.{eqb, leb, ltb};
-ghost use Rattle.lists.specs.Fold.{all, any, count};
+ghost use Rattle.lists.specs.Fold.{all, any, count, one};
 ghost use Rattle.tile.specs.Tile.{isDragon, isStart, isTerminal, isTerminalOrHonor, isWind};
 ghost use Rattle.meld.specs.Meld.{isSequence};
 ghost use Rattle.structure.specs.Structure.{readingOf};
@@ -90,7 +91,7 @@ fn has_set(ms: [meld::Meld; 4], t: u8) -> bool
 fn count_sets(ms: [meld::Meld; 4], t: u8) -> u8
     ensures { λ r. ⌜ (r ≡ count (setOf (eqb t)) ms) × (r ≤ 4) ⌝ }
 {
-    wait::how_many(
+    how_many(
         is_set_of(ms[0], t),
         is_set_of(ms[1], t),
         is_set_of(ms[2], t),
@@ -102,7 +103,7 @@ fn count_sets(ms: [meld::Meld; 4], t: u8) -> u8
 fn count_kans(ms: [meld::Meld; 4]) -> u8
     ensures { λ r. ⌜ (r ≡ kans ms) × (r ≤ 4) ⌝ }
 {
-    wait::how_many(
+    how_many(
         ms[0].is_kan(),
         ms[1].is_kan(),
         ms[2].is_kan(),
@@ -114,7 +115,7 @@ fn count_kans(ms: [meld::Meld; 4]) -> u8
 fn count_dragons(ms: [meld::Meld; 4]) -> u8
     ensures { λ r. ⌜ (r ≡ dragons ms) × (r ≤ 4) ⌝ }
 {
-    wait::how_many(
+    how_many(
         is_dragon_set(ms[0]),
         is_dragon_set(ms[1]),
         is_dragon_set(ms[2]),
@@ -126,7 +127,7 @@ fn count_dragons(ms: [meld::Meld; 4]) -> u8
 fn count_winds(ms: [meld::Meld; 4]) -> u8
     ensures { λ r. ⌜ (r ≡ winds ms) × (r ≤ 4) ⌝ }
 {
-    wait::how_many(
+    how_many(
         is_wind_set(ms[0]),
         is_wind_set(ms[1]),
         is_wind_set(ms[2]),
@@ -138,7 +139,7 @@ fn count_winds(ms: [meld::Meld; 4]) -> u8
 fn count_concealed(ms: [meld::Meld; 4], w: context::GameContext, kept: bool) -> u8
     ensures { λ r. ⌜ (r ≡ count (concealed w kept) ms) × (r ≤ 4) ⌝ }
 {
-    wait::how_many(
+    how_many(
         wait::is_concealed_set(ms[0], w, kept),
         wait::is_concealed_set(ms[1], w, kept),
         wait::is_concealed_set(ms[2], w, kept),
