@@ -28,7 +28,7 @@ module _ (p : ℕ → Bool) where
       go false e = refl
       go true e = absurd (subst T f (at n p (subst T (sym e) tt) i h))
 
-  -- ---- some number passes: one more, one that does not pass, and one that does
+  -- ---- some number passes: one more, one that does not pass, one that does, and none
   pub some-next : (n : ℕ) → someBelow (n + 1) p ≡ (p n || someBelow n p)
   some-next n = rw add-one
 
@@ -45,6 +45,10 @@ module _ (p : ℕ → Bool) where
       go : Dec (n ≡ m) → (n < m → p n ≡ true → someBelow m p ≡ true) → (p m || someBelow m p) ≡ true
       go (yes q) r = ap (λ (b : Bool). b || someBelow m p) (subst (λ (k : ℕ). p k ≡ true) q e)
       go (no q) r = ap (λ (b : Bool). p m || b) (r (omega arith) e) ∙ or-true (p m)
+
+  pub some-none : (n : ℕ) → ((k : ℕ) → k < n → p k ≡ false) → someBelow n p ≡ false
+  some-none zero h = refl
+  some-none (suc n) h = ap₂ _||_ (h n (omega arith)) (some-none n (λ k i. h k (omega arith)))
 
   -- ---- over the tiles
   all-up : (n : ℕ) (l : List ℕ) → all p (upTo n l) ≡ (allBelow n p && all p l)

@@ -1,15 +1,17 @@
--- Nine gates: the test at each tile of the walk over suits and numbers, and the honors apart. Assumes nothing.
+-- Nine gates: the test at each tile of the walk over suits and numbers, and the honors apart; they make a full flush. Assumes nothing.
 use mathlib.Core.Path.{_≡_, refl, sym, subst, ap, ap₂, _∙_}
-use mathlib.Core.Bool.{Bool, true, false, _&&_, _||_, not, cond, and-assoc, or-true, or-false}
+use mathlib.Core.Bool.{Bool, true, false, _&&_, _||_, not, cond, and-assoc, and-false, or-true, or-false}
 use Prim.Native.Nat.{ℕ, zero, suc, _+_, _*_, _/_, _%_, _<_, _≤_}
 use native.Mathlib.Omega.{arith}
-use lib.Dec.{eqb, leb, ltb}
-use borrow.Author.Tests.{lt-ltb}
+use lib.Dec.{T, eqb, leb, ltb, eqb→eq, leb→le}
+use borrow.Author.Tests.{lt-ltb, le-leb, eq-eqb}
 use Rattle.lists.specs.Fold.{all, sum, allBelow}
+use Rattle.lists.proofs.Finite.{at, true→T}
 use Rattle.tile.specs.Tile.{isHonor, isSuited, tiles}
-use Rattle.tile_yaku.specs.Tiles.{some, gate, nineGates}
-use Rattle.tile_yaku.proofs.Below.{all-on, all-bad, all-tiles}
+use Rattle.tile_yaku.specs.Tiles.{some, oneSuit, chinitsu, gate, nineGates}
+use Rattle.tile_yaku.proofs.Below.{all-on, all-bad, all-tiles, some-of, some-none}
 use Rattle.tile_yaku.proofs.Questions.{only-not}
+use Rattle.tile_yaku.proofs.Suits.{thereAt, present, one-suit-by}
 
 -- the test at the number n of the suit s
 abbrev pub gateAt : (ℕ → ℕ) → ℕ → ℕ → ℕ → Bool
@@ -78,19 +80,69 @@ nine-gates-are c =
     (ap₂ _||_ (gates-apart c 0) (ap₂ _||_ (gates-apart c 1) (ap (λ (x : Bool). x || false) (gates-apart c 2)))
     ∙ some-suit (not (some isHonor c)) (allBelow 27 (gate c 0)) (allBelow 27 (gate c 1)) (allBelow 27 (gate c 2)))
 
--- not with an honor
-module _ (c : ℕ → ℕ) (honor : Bool) (e : honor ≡ some isHonor c) where
-  pub not-with-honor : honor ≡ true → false ≡ nineGates c
-  not-with-honor h = sym (nine-gates-are c ∙ ap (λ (x : Bool). not x && someGates c && fourteen c) (sym e ∙ h))
+-- ---- a suit with the gates is there, and no other suit is
+module _ (c : ℕ → ℕ) (of : ℕ) (h : of < 3) (all : allBelow 27 (gate c of) ≡ true) where
+  at-gate : (s n : ℕ) → s < 3 → n < 9 → T (gateAt c of s n)
+  at-gate s n i k =
+      subst T (sym (gate-at c of s n i k)) (at 27 (gate c of) (true→T _ all) (s * 9 + n) (omega arith))
 
-  -- without: not where no suit has the gates, else where there are 14 tiles
+  own-there : present c of ≡ true
+  own-there = some-of (thereAt c of) 0 9 (omega arith) (le-leb 1 (c (of * 9 + 0)) (omega (arith, leb→le 3 (c (of * 9 + 0)) three)))
+    where
+      three : T (leb 3 (c (of * 9 + 0)))
+      three = subst (λ (b : Bool). T (cond b (leb 3 (c (of * 9 + 0))) (eqb (c (of * 9 + 0)) 0))) (eq-eqb of of refl) (at-gate of 0 h (omega arith))
+
+  none-there : (s : ℕ) → s < 3 → eqb s of ≡ false → present c s ≡ false
+  none-there s i e = some-none (thereAt c s) 9 (λ n k. ap (leb 1) (eqb→eq (c (s * 9 + n)) 0 (none n k)))
+    where
+      none : (n : ℕ) → n < 9 → T (eqb (c (s * 9 + n)) 0)
+      none n k = subst (λ (b : Bool). T (cond b (leb (cond (eqb n 0 || eqb n 8) 3 1) (c (s * 9 + n))) (eqb (c (s * 9 + n)) 0))) e (at-gate s n i k)
+
+gates-one-suit : (c : ℕ → ℕ) → someGates c ≡ true → oneSuit c ≡ true
+gates-one-suit c e = go (allBelow 27 (gate c 0)) (allBelow 27 (gate c 1)) (allBelow 27 (gate c 2)) refl refl refl e
+  where
+    go :
+        (a b d : Bool) → allBelow 27 (gate c 0) ≡ a → allBelow 27 (gate c 1) ≡ b → allBelow 27 (gate c 2) ≡ d
+        → (a || (b || d)) ≡ true → oneSuit c ≡ true
+    go true b d x y z e =
+        one-suit-by c true false false (own-there c 0 (omega arith) x) (none-there c 0 (omega arith) x 1 (omega arith) refl)
+        (none-there c 0 (omega arith) x 2 (omega arith) refl)
+    go false true d x y z e =
+        one-suit-by c false true false (none-there c 1 (omega arith) y 0 (omega arith) refl) (own-there c 1 (omega arith) y)
+        (none-there c 1 (omega arith) y 2 (omega arith) refl)
+    go false false true x y z e =
+        one-suit-by c false false true (none-there c 2 (omega arith) z 0 (omega arith) refl)
+        (none-there c 2 (omega arith) z 1 (omega arith) refl) (own-there c 2 (omega arith) z)
+    go false false false x y z e = absurd (subst T (sym e) tt)
+
+-- ---- an honor, one suit, gates and 14 tiles: nine gates make a full flush, which has no honor
+only-flush : (honor suit gates total : Bool) → (gates ≡ true → suit ≡ true) → (suit && not honor) ≡ false → false ≡ (not honor && gates && total)
+only-flush true suit gates total h e = refl
+only-flush false suit false total h e = refl
+only-flush false suit true total h e = absurd (subst T (sym (ap (λ (b : Bool). b && true) (h refl)) ∙ e) tt)
+
+flush-honor : (honor suit : Bool) → (suit && not honor) ≡ true → honor ≡ false
+flush-honor false suit e = refl
+flush-honor true suit e = sym e ∙ and-false suit
+
+-- not without a full flush
+module _ (c : ℕ → ℕ) (flush : Bool) (e : flush ≡ chinitsu c) where
+  pub not-without-flush : flush ≡ false → false ≡ nineGates c
+  unfolding chinitsu
+  not-without-flush h = only-flush (some isHonor c) (oneSuit c) (someGates c) (fourteen c) (gates-one-suit c) (sym e ∙ h) ∙ sym (nine-gates-are c)
+
+  no-honor : flush ≡ true → some isHonor c ≡ false
+  unfolding chinitsu
+  no-honor h = flush-honor (some isHonor c) (oneSuit c) (sym e ∙ h)
+
+  -- in one: not where no suit has the gates, else where there are 14 tiles
   module _
-      (k : honor ≡ false) (a b d : Bool) (f : a ≡ allBelow 27 (gate c 0)) (g : b ≡ allBelow 27 (gate c 1)) (h : d ≡ allBelow 27 (gate c 2))
+      (k : flush ≡ true) (a b d : Bool) (f : a ≡ allBelow 27 (gate c 0)) (g : b ≡ allBelow 27 (gate c 1)) (h : d ≡ allBelow 27 (gate c 2))
     where
       by-suits : nineGates c ≡ ((a || (b || d)) && fourteen c)
       by-suits =
           nine-gates-are c
-          ∙ ap₂ (λ (x y : Bool). not x && y && fourteen c) (sym e ∙ k) (sym (ap₂ _||_ f (ap₂ _||_ g h)))
+          ∙ ap₂ (λ (x y : Bool). not x && y && fourteen c) (no-honor k) (sym (ap₂ _||_ f (ap₂ _||_ g h)))
 
       pub not-in-suits : (a || (b || d)) ≡ false → false ≡ nineGates c
       not-in-suits n = sym (by-suits ∙ ap (λ (x : Bool). x && fourteen c) n)

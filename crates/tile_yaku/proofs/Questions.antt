@@ -121,7 +121,7 @@ module _ (c : ℕ → ℕ) (s : Sorts) (e : s ≡ sortsOf c) where
     unfolding honitsu
     honitsu-is = ap₂ (λ (x : Bool) (s : Sorts). x && s .honor) f e
 
-    chinitsu-is : (flush && not (s .honor)) ≡ chinitsu c
+    pub chinitsu-is : (flush && not (s .honor)) ≡ chinitsu c
     unfolding chinitsu
     chinitsu-is = ap₂ (λ (x : Bool) (s : Sorts). x && not (s .honor)) f e
 

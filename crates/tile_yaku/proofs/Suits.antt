@@ -96,11 +96,16 @@ three-suits false false false = refl
 suits-count : (a b d x y z : Bool) → a ≡ x → b ≡ y → d ≡ z → eqb (one a + (one b + (one d + 0))) 1 ≡ eqb (one x + (one y + (one z + 0))) 1
 suits-count a b d x y z e f g = cc
 
+-- exactly one suit is there, by what is known of each
+pub one-suit-by :
+    (c : ℕ → ℕ) (a b d : Bool) → present c 0 ≡ a → present c 1 ≡ b → present c 2 ≡ d → oneSuit c ≡ eqb (one a + (one b + (one d + 0))) 1
+one-suit-by c a b d e f g =
+    suits-count (some (ofSuit 0) c) (some (ofSuit 1) c) (some (ofSuit 2) c) a b d (some-man c ∙ e) (some-pin c ∙ f) (some-sou c ∙ g)
+
 only-last : (c : ℕ → ℕ) → ltb (onlySuit c 3) 3 ≡ oneSuit c
 only-last c =
     three-suits (present c 0) (present c 1) (present c 2)
-    ∙ sym (suits-count (some (ofSuit 0) c) (some (ofSuit 1) c) (some (ofSuit 2) c) (present c 0) (present c 1) (present c 2)
-    (some-man c) (some-pin c) (some-sou c))
+    ∙ sym (one-suit-by c (present c 0) (present c 1) (present c 2) refl refl refl)
 
 -- the end after all suits, and the end at a second suit
 pub flush-end : (c : ℕ → ℕ) (s o : ℕ) → 3 ≤ s → s ≤ 3 → SoFar c s 0 o → ltb o 3 ≡ oneSuit c

@@ -7,7 +7,7 @@ ghost use lib.ListN.{length};
 ghost use Rattle.lists.specs.Fold.{allBelow};
 ghost use Rattle.tile.specs.Tile.{isGreen, isHonor, isSimple, isTerminal};
 ghost use Rattle.hand.specs.Counts.{held};
-ghost use Rattle.tile_yaku.specs.Tiles.{some, oneSuit, gate, nineGates, pureWait, tileYaku};
+ghost use Rattle.tile_yaku.specs.Tiles.{some, oneSuit, chinitsu, gate, nineGates, pureWait, tileYaku};
 
 // What all tiles together are.
 pub struct TileYaku {
@@ -113,12 +113,12 @@ fn fits_gate(count: u8, in_suit: bool, terminal: bool) -> bool
     count == 0
 }
 
-// Nine gates: 14 tiles of one suit, at least three of each terminal and one of each other number.
-fn check_chuuren_poutou(counts: &[u8], honor: bool) -> bool
-    requires { ⌜ (length (now counts) ≡ 34) × (honor ≡ some isHonor (held (now counts))) ⌝ }
+// Nine gates: 14 tiles of one suit, at least three of each terminal and one of each other number. Only a full flush has them.
+fn check_chuuren_poutou(counts: &[u8], full_flush: bool) -> bool
+    requires { ⌜ (length (now counts) ≡ 34) × («full_flush» ≡ chinitsu (held (now counts))) ⌝ }
     ensures { λ r. ⌜ r ≡ nineGates (held (now (counts .entry))) ⌝ }
 {
-    if honor {
+    if !full_flush {
         return false;
     }
     if !(gates_of(counts, 0) | (gates_of(counts, 1) | gates_of(counts, 2))) {
@@ -153,15 +153,16 @@ pub fn tile_yaku(counts: &[u8], t: u8) -> TileYaku
     let terminal = sorts.terminal;
     let honor = sorts.honor;
     let flush = check_flush(counts);
+    let full_flush = flush & !honor;
     TileYaku {
         tanyao: !terminal & !honor,
         honroutou: !simple,
         honitsu: flush & honor,
-        chinitsu: flush & !honor,
+        chinitsu: full_flush,
         tsuuiisou: !simple & !terminal,
         chinroutou: !simple & !honor,
         ryuuiisou: !sorts.other_than_green,
-        nine_gates: check_chuuren_poutou(counts, honor),
+        nine_gates: check_chuuren_poutou(counts, full_flush),
         pure_wait: is_pure_wait(counts, t),
     }
 }

@@ -1,8 +1,6 @@
 -- `tile_yaku` meets its contract: each answer by the sorts of tiles there are and by the calls. Assumes nothing.
-use mathlib.Core.Path.{ap}
 use Rattle.hand.specs.Counts.{held}
-use Rattle.tile_yaku.specs.declared.Sorts.{Sorts}
-use Rattle.tile_yaku.proofs.Questions.{answers}
+use Rattle.tile_yaku.proofs.Questions.{chinitsu-is, answers}
 use borrow.Author.Needs.{needs}
 use Rattle.tile_yaku.proofs.tile_yaku.Statement.{statement}
 use Rattle.tile_yaku.proofs.tile_yaku.Tie as tie
@@ -15,7 +13,10 @@ check-flush-requires c κs = search needs
 
 check-chuuren-poutou-requires : tie.Need-check-chuuren-poutou-requires
 check-chuuren-poutou-requires c κs =
-    (c .before .before .before .before .pre, ap (λ (s : Sorts). s .honor) (c .before .before .sorts-of .ensures))
+    let start = c .before .before .before .before in
+    let s = c .before .before .sorts-of in
+    let f = c .before .check-flush in
+    (start .pre, chinitsu-is (held (start .args .counts .now)) (s .result) (s .ensures) (f .result) (f .ensures))
 
 is-pure-wait-requires : tie.Need-is-pure-wait-requires
 is-pure-wait-requires c κs = search needs
