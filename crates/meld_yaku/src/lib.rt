@@ -3,11 +3,11 @@
 use wait::how_many;
 ghost use mathlib.Core.Path.{_≡_};
 ghost use mathlib.Core.Bool.{not, _&&_, _||_};
-ghost use mathlib.Core.List.{[], _∷_};
+ghost use mathlib.Core.List.{[], _∷_, map};
 ghost use Prim.Native.Nat.{_+_, _*_, _/_, _%_, _≤_};
 ghost use lib.Dec.{eqb, leb, ltb};
-ghost use Rattle.lists.specs.Fold.{all, any, count, one};
-ghost use Rattle.tile.specs.Tile.{isDragon, isStart, isTerminal, isTerminalOrHonor, isWind};
+ghost use Rattle.lists.specs.Fold.{all, any, count, one, upFrom};
+ghost use Rattle.tile.specs.Tile.{isDragon, isHonor, isStart, isTerminal, isTerminalOrHonor, isWind};
 ghost use Rattle.meld.specs.Meld.{isSequence};
 ghost use Rattle.structure.specs.Structure.{readingOf};
 ghost use Rattle.wait.specs.Concealed.{concealed};
@@ -45,6 +45,14 @@ fn is_wind_set(m: meld::Meld) -> bool
 {
     let t = tile::Tile(m.tile);
     m.is_triplet_or_kan() & t.is_wind()
+}
+
+// Is it a triplet or kan of an honor?
+fn is_honor_set(m: meld::Meld) -> bool
+    ensures { λ r. ⌜ r ≡ setOf isHonor m ⌝ }
+{
+    let t = tile::Tile(m.tile);
+    m.is_triplet_or_kan() & t.is_honor()
 }
 
 // Is it 123 or 789?
@@ -192,6 +200,32 @@ pub fn check_yakuhai(h: structure::Hand, w: context::GameContext, t: u8) -> u8
     };
     let ms = h.melds;
     count_sets(ms, t) * wait::weight(w, t)
+}
+
+// Is one of the melds a triplet or kan of an honor?
+fn has_honor_set(ms: [meld::Meld; 4]) -> bool
+    ensures { λ r. ⌜ r ≡ any (setOf isHonor) ms ⌝ }
+{
+    is_honor_set(ms[0]) | (is_honor_set(ms[1]) | (is_honor_set(ms[2]) | is_honor_set(ms[3])))
+}
+
+// The tallies of the seven honors, East to Red. Most hands have no triplet or kan of an honor.
+pub fn check_all_yakuhai(h: structure::Hand, w: context::GameContext) -> [u8; 7]
+    ensures { λ r. ⌜ r ≡ map (yakuhaiOf w (readingOf h)) (upFrom 7 27) ⌝ }
+{
+    let ms = h.melds;
+    if !has_honor_set(ms) {
+        return [0; 7];
+    }
+    [
+        check_yakuhai(h, w, 27),
+        check_yakuhai(h, w, 28),
+        check_yakuhai(h, w, 29),
+        check_yakuhai(h, w, 30),
+        check_yakuhai(h, w, 31),
+        check_yakuhai(h, w, 32),
+        check_yakuhai(h, w, 33),
+    ]
 }
 
 // Are all four melds triplets or kans?

@@ -89,6 +89,7 @@ fn one_han(
     let tsumo = w.is_tsumo();
     let riichi = w.is_riichi & !opened;
     let rinshan = w.is_rinshan & tsumo;
+    let honors = meld_yaku::check_all_yakuhai(h, w);
     [
         wait::one_if(riichi & !w.is_double_riichi),
         wait::one_if(riichi & (w.is_ippatsu & !rinshan)),
@@ -96,13 +97,13 @@ fn one_han(
         wait::one_if(unless_orphans(s.tanyao, h)),
         wait::one_if(wait::is_pinfu(h, w, opened)),
         wait::one_if(meld_yaku::check_iipeikou(h, opened)),
-        meld_yaku::check_yakuhai(h, w, 27),
-        meld_yaku::check_yakuhai(h, w, 28),
-        meld_yaku::check_yakuhai(h, w, 29),
-        meld_yaku::check_yakuhai(h, w, 30),
-        meld_yaku::check_yakuhai(h, w, 31),
-        meld_yaku::check_yakuhai(h, w, 32),
-        meld_yaku::check_yakuhai(h, w, 33),
+        honors[0],
+        honors[1],
+        honors[2],
+        honors[3],
+        honors[4],
+        honors[5],
+        honors[6],
         wait::one_if(rinshan),
         wait::one_if(w.is_chankan & !tsumo),
         wait::one_if(w.is_last_tile & (tsumo & !w.is_rinshan)),

@@ -8,6 +8,9 @@ use Rattle.yaku.proofs.one_han.Tie as tie
 is-tsumo-requires : tie.Need-is-tsumo-requires
 is-tsumo-requires c κs = search needs
 
+check-all-yakuhai-requires : tie.Need-check-all-yakuhai-requires
+check-all-yakuhai-requires c κs = search needs
+
 one-if-requires : tie.Need-one-if-requires
 one-if-requires c κs = search needs
 
@@ -35,26 +38,26 @@ check-iipeikou-requires c κs = search needs
 one-if-requires-6 : tie.Need-one-if-requires-6
 one-if-requires-6 c κs = search needs
 
-check-yakuhai-requires : tie.Need-check-yakuhai-requires
-check-yakuhai-requires c κs = search needs
+array-read-t28 : tie.Need-array-read-t28
+array-read-t28 c = search needs
 
-check-yakuhai-requires-2 : tie.Need-check-yakuhai-requires-2
-check-yakuhai-requires-2 c κs = search needs
+array-read-t31 : tie.Need-array-read-t31
+array-read-t31 c = search needs
 
-check-yakuhai-requires-3 : tie.Need-check-yakuhai-requires-3
-check-yakuhai-requires-3 c κs = search needs
+array-read-t34 : tie.Need-array-read-t34
+array-read-t34 c = search needs
 
-check-yakuhai-requires-4 : tie.Need-check-yakuhai-requires-4
-check-yakuhai-requires-4 c κs = search needs
+array-read-t37 : tie.Need-array-read-t37
+array-read-t37 c = search needs
 
-check-yakuhai-requires-5 : tie.Need-check-yakuhai-requires-5
-check-yakuhai-requires-5 c κs = search needs
+array-read-t40 : tie.Need-array-read-t40
+array-read-t40 c = search needs
 
-check-yakuhai-requires-6 : tie.Need-check-yakuhai-requires-6
-check-yakuhai-requires-6 c κs = search needs
+array-read-t43 : tie.Need-array-read-t43
+array-read-t43 c = search needs
 
-check-yakuhai-requires-7 : tie.Need-check-yakuhai-requires-7
-check-yakuhai-requires-7 c κs = search needs
+array-read-t46 : tie.Need-array-read-t46
+array-read-t46 c = search needs
 
 one-if-requires-7 : tie.Need-one-if-requires-7
 one-if-requires-7 c κs = search needs
@@ -75,21 +78,15 @@ returns c =
     let e16 = e17 .before .before in
     let e15 = e16 .before .before .before in
     let e14 = e15 .before .before in
-    let e13 = e14 .before in
-    let e12 = e13 .before in
-    let e11 = e12 .before in
-    let e10 = e11 .before in
-    let e9 = e10 .before in
-    let e8 = e9 .before in
-    let e7 = e8 .before in
-    let e6 = e7 .before in
+    let e6 = e14 .before in
     let e5 = e6 .before .before in
     let e4 = e5 .before .before in
     let e3 = e4 .before .before in
     let e2 = e3 .before in
     let e1 = e2 .before .before in
+    let honors = e1 .before .before in
     simp (
-      e1 .before .before .before .before .is-tsumo .ensures,
+      honors .before .before .before .is-tsumo .ensures,
       e1 .one-if .ensures .0,
       e2 .one-if2 .ensures .0,
       e3 .one-if3 .ensures .0,
@@ -99,13 +96,7 @@ returns c =
       e5 .one-if5 .ensures .0,
       e6 .before .check-iipeikou .ensures,
       e6 .one-if6 .ensures .0,
-      e7 .check-yakuhai .ensures .0,
-      e8 .check-yakuhai2 .ensures .0,
-      e9 .check-yakuhai3 .ensures .0,
-      e10 .check-yakuhai4 .ensures .0,
-      e11 .check-yakuhai5 .ensures .0,
-      e12 .check-yakuhai6 .ensures .0,
-      e13 .check-yakuhai7 .ensures .0,
+      honors .check-all-yakuhai .ensures,
       e14 .one-if7 .ensures .0,
       e15 .one-if8 .ensures .0,
       e16 .one-if9 .ensures .0,
@@ -117,6 +108,7 @@ one-han-spec =
     tie.close
     (tie.spec
     is-tsumo-requires
+    check-all-yakuhai-requires
     one-if-requires
     one-if-requires-2
     one-if-requires-3
@@ -126,13 +118,13 @@ one-han-spec =
     one-if-requires-5
     check-iipeikou-requires
     one-if-requires-6
-    check-yakuhai-requires
-    check-yakuhai-requires-2
-    check-yakuhai-requires-3
-    check-yakuhai-requires-4
-    check-yakuhai-requires-5
-    check-yakuhai-requires-6
-    check-yakuhai-requires-7
+    array-read-t28
+    array-read-t31
+    array-read-t34
+    array-read-t37
+    array-read-t40
+    array-read-t43
+    array-read-t46
     one-if-requires-7
     one-if-requires-8
     one-if-requires-9
