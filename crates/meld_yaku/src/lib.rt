@@ -8,7 +8,7 @@ ghost use Prim.Native.Nat.{_+_, _*_, _/_, _%_, _≤_};
 ghost use lib.Dec.{eqb, leb, ltb};
 ghost use Rattle.lists.specs.Fold.{all, any, count, one, upFrom};
 ghost use Rattle.tile.specs.Tile.{isDragon, isHonor, isStart, isTerminal, isTerminalOrHonor, isWind};
-ghost use Rattle.meld.specs.Meld.{isSequence};
+ghost use Rattle.meld.specs.Meld.{isSequence, isTripletOrKan};
 ghost use Rattle.structure.specs.Structure.{readingOf};
 ghost use Rattle.wait.specs.Concealed.{concealed};
 ghost use Rattle.meld_yaku.specs.Melds.{runFrom, setOf, endRun, toitoi, kans, dragons, winds, sanAnkou, ittsu, threeSuits, sanshokuDoujun, sanshokuDoukou, peikou, chanta, junchan, shousangen};
@@ -228,6 +228,30 @@ pub fn check_all_yakuhai(h: structure::Hand, w: context::GameContext) -> [u8; 7]
     ]
 }
 
+// How many triplets and kans there are.
+fn count_triplets(ms: [meld::Meld; 4]) -> u8
+    ensures { λ r. ⌜ (r ≡ count isTripletOrKan ms) × (r ≤ 4) ⌝ }
+{
+    how_many(
+        ms[0].is_triplet_or_kan(),
+        ms[1].is_triplet_or_kan(),
+        ms[2].is_triplet_or_kan(),
+        ms[3].is_triplet_or_kan(),
+    )
+}
+
+// Are there three triplets or kans or more? Most hands have fewer, and many yaku need them.
+pub fn has_three_sets(h: structure::Hand) -> bool
+    ensures { λ r. ⌜ r ≡ ofStandard (λ p ms. leb 3 (count isTripletOrKan ms)) (readingOf h) ⌝ }
+{
+    let s = h.structure;
+    let structure::HandStructure::Standard { pair: _ } = s else {
+        return false;
+    };
+    let ms = h.melds;
+    3 <= count_triplets(ms)
+}
+
 // Are all four melds triplets or kans?
 fn is_toitoi(ms: [meld::Meld; 4]) -> bool
     ensures { λ r. ⌜ r ≡ toitoi ms ⌝ }
@@ -399,6 +423,39 @@ pub fn check_kantsu(h: structure::Hand, n: u8) -> bool
     };
     let ms = h.melds;
     count_kans(ms) == n
+}
+
+// The yaku of three triplets or kans, the four together.
+pub struct SetYaku {
+    pub toitoi: bool,
+    pub sanshoku_doukou: bool,
+    pub sanankou: bool,
+    pub sankantsu: bool,
+}
+
+// Toitoi, Sanshoku doukou, San ankou and San kantsu: all no at once where there are fewer than three triplets and kans.
+pub fn check_sets(h: structure::Hand, w: context::GameContext) -> SetYaku
+    ensures { λ r. ⌜ r ≡ record {
+      toitoi = ofStandard (λ p ms. toitoi ms) (readingOf h);
+      «sanshoku_doukou» = ofStandard (λ p ms. sanshokuDoukou ms) (readingOf h);
+      sanankou = ofStandard (λ p ms. sanAnkou w ms) (readingOf h);
+      sankantsu = ofStandard (λ p ms. eqb (kans ms) 3) (readingOf h);
+    } ⌝ }
+{
+    if !has_three_sets(h) {
+        return SetYaku {
+            toitoi: false,
+            sanshoku_doukou: false,
+            sanankou: false,
+            sankantsu: false,
+        };
+    }
+    SetYaku {
+        toitoi: check_toitoi(h),
+        sanshoku_doukou: check_sanshoku_doukou(h),
+        sanankou: check_sanankou(h, w),
+        sankantsu: check_kantsu(h, 3),
+    }
 }
 
 // Shousangen: two dragon sets and a pair of the third.

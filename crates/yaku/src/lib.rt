@@ -120,16 +120,17 @@ fn more_han(
 ) -> [u8; 15]
     ensures { λ r. ⌜ r ≡ moreHan w opened s (readingOf h) ⌝ }
 {
+    let sets = meld_yaku::check_sets(h, w);
     [
         wait::one_if((w.is_riichi & !opened) & w.is_double_riichi),
-        wait::one_if(meld_yaku::check_toitoi(h)),
+        wait::one_if(sets.toitoi),
         wait::one_if(meld_yaku::check_sanshoku(h)),
-        wait::one_if(meld_yaku::check_sanshoku_doukou(h)),
+        wait::one_if(sets.sanshoku_doukou),
         wait::one_if(meld_yaku::check_ittsu(h)),
         wait::one_if(is_chiitoitsu(h)),
         wait::one_if(meld_yaku::check_chanta(h)),
-        wait::one_if(meld_yaku::check_sanankou(h, w)),
-        wait::one_if(meld_yaku::check_kantsu(h, 3)),
+        wait::one_if(sets.sanankou),
+        wait::one_if(sets.sankantsu),
         wait::one_if(unless_orphans(s.honroutou, h)),
         wait::one_if(meld_yaku::check_shousangen(h)),
         wait::one_if(unless_orphans(s.honitsu, h)),

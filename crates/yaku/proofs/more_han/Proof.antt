@@ -5,11 +5,11 @@ use borrow.Author.Needs.{needs}
 use Rattle.yaku.proofs.more_han.Statement.{statement}
 use Rattle.yaku.proofs.more_han.Tie as tie
 
+check-sets-requires : tie.Need-check-sets-requires
+check-sets-requires c κs = search needs
+
 one-if-requires : tie.Need-one-if-requires
 one-if-requires c κs = search needs
-
-check-toitoi-requires : tie.Need-check-toitoi-requires
-check-toitoi-requires c κs = search needs
 
 one-if-requires-2 : tie.Need-one-if-requires-2
 one-if-requires-2 c κs = search needs
@@ -19,9 +19,6 @@ check-sanshoku-requires c κs = search needs
 
 one-if-requires-3 : tie.Need-one-if-requires-3
 one-if-requires-3 c κs = search needs
-
-check-sanshoku-doukou-requires : tie.Need-check-sanshoku-doukou-requires
-check-sanshoku-doukou-requires c κs = search needs
 
 one-if-requires-4 : tie.Need-one-if-requires-4
 one-if-requires-4 c κs = search needs
@@ -44,14 +41,8 @@ check-chanta-requires c κs = search needs
 one-if-requires-7 : tie.Need-one-if-requires-7
 one-if-requires-7 c κs = search needs
 
-check-sanankou-requires : tie.Need-check-sanankou-requires
-check-sanankou-requires c κs = search needs
-
 one-if-requires-8 : tie.Need-one-if-requires-8
 one-if-requires-8 c κs = search needs
-
-check-kantsu-requires : tie.Need-check-kantsu-requires
-check-kantsu-requires c κs = search needs
 
 one-if-requires-9 : tie.Need-one-if-requires-9
 one-if-requires-9 c κs = search needs
@@ -102,21 +93,20 @@ returns c =
     let e11 = e12 .before .before in
     let e10 = e11 .before .before in
     let e9 = e10 .before .before in
-    let e8 = e9 .before .before in
-    let e7 = e8 .before .before in
+    let e8 = e9 .before in
+    let e7 = e8 .before in
     let e6 = e7 .before .before in
     let e5 = e6 .before .before in
     let e4 = e5 .before .before in
-    let e3 = e4 .before .before in
+    let e3 = e4 .before in
     let e2 = e3 .before .before in
-    let e1 = e2 .before .before in
+    let e1 = e2 .before in
     simp (
+      e1 .before .before .before .check-sets .ensures,
       e1 .one-if .ensures .0,
-      e2 .before .check-toitoi .ensures,
       e2 .one-if2 .ensures .0,
       e3 .before .check-sanshoku .ensures,
       e3 .one-if3 .ensures .0,
-      e4 .before .check-sanshoku-doukou .ensures,
       e4 .one-if4 .ensures .0,
       e5 .before .check-ittsu .ensures,
       e5 .one-if5 .ensures .0,
@@ -124,9 +114,7 @@ returns c =
       e6 .one-if6 .ensures .0,
       e7 .before .check-chanta .ensures,
       e7 .one-if7 .ensures .0,
-      e8 .before .check-sanankou .ensures,
       e8 .one-if8 .ensures .0,
-      e9 .before .check-kantsu .ensures,
       e9 .one-if9 .ensures .0,
       e10 .before .unless-orphans .ensures,
       e10 .one-if10 .ensures .0,
@@ -146,12 +134,11 @@ pub more-han-spec : {M : Type 1} → statement M
 more-han-spec =
     tie.close
     (tie.spec
+    check-sets-requires
     one-if-requires
-    check-toitoi-requires
     one-if-requires-2
     check-sanshoku-requires
     one-if-requires-3
-    check-sanshoku-doukou-requires
     one-if-requires-4
     check-ittsu-requires
     one-if-requires-5
@@ -159,9 +146,7 @@ more-han-spec =
     one-if-requires-6
     check-chanta-requires
     one-if-requires-7
-    check-sanankou-requires
     one-if-requires-8
-    check-kantsu-requires
     one-if-requires-9
     unless-orphans-requires
     one-if-requires-10
