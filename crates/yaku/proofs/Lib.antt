@@ -2,3 +2,4 @@ pub mod Loops
 pub mod Laws
 pub mod Found
 pub mod NameTable
+pub mod NoYakuman

@@ -140,6 +140,20 @@ fn more_han(
     ]
 }
 
+// May there be a yakuman? It takes a first draw, rare tiles, thirteen orphans, or three triplets or kans.
+fn may_be_yakuman(
+    h: structure::Hand,
+    s: tile_yaku::TileYaku,
+    w: context::GameContext,
+    opened: bool,
+) -> bool
+    ensures { λ r. ⌜ (r ≡ false → isYakuman w opened s (readingOf h) ≡ false) ⌝ }
+{
+    let tiles = (s.tsuuiisou | s.chinroutou) | (s.ryuuiisou | (!opened & s.nine_gates));
+    let orphans = won_on_pair(h, w) | won_beside_pair(h, w);
+    (w.is_tenhou | w.is_chiihou) | (tiles | (orphans | meld_yaku::has_three_sets(h)))
+}
+
 // The tallies of yakuman, Tenhou to JunseiChuurenPoutou.
 fn yakuman_tallies(
     h: structure::Hand,
@@ -149,6 +163,9 @@ fn yakuman_tallies(
 ) -> [u8; 15]
     ensures { λ r. ⌜ r ≡ map one (yakuman w opened s (readingOf h)) ⌝ }
 {
+    if !may_be_yakuman(h, s, w, opened) {
+        return [0; 15];
+    }
     let tsumo = w.is_tsumo();
     let dealer = w.is_dealer();
     [

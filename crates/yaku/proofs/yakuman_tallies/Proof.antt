@@ -1,10 +1,21 @@
--- `yakuman_tallies` meets its contract: the fifteen tallies of yakuman, each by what its check ensures.
+-- `yakuman_tallies` meets its contract: the fifteen tallies of yakuman, 0 where none may be, else each by what its check ensures.
 -- Assumes nothing.
 use Rattle.meld_yaku.specs.Melds.{kans}
 use Rattle.meld_yaku.specs.Yakuman.{suuKantsu}
+use Rattle.structure.specs.Structure.{readingOf}
+use Rattle.yaku.proofs.NoYakuman.{all-zero}
 use borrow.Author.Needs.{needs}
+use borrow.Author.Tests.{not-true}
 use Rattle.yaku.proofs.yakuman_tallies.Statement.{statement}
 use Rattle.yaku.proofs.yakuman_tallies.Tie as tie
+
+may-be-yakuman-requires : tie.Need-may-be-yakuman-requires
+may-be-yakuman-requires c κs = search needs
+
+returns : tie.Need-returns
+returns c =
+    let a = c .before .before .args in
+    all-zero (a .w) (a .opened) (a .s) (readingOf (a .h)) (c .before .may-be-yakuman .ensures (not-true _ (c .if1 .taken)))
 
 is-tsumo-requires : tie.Need-is-tsumo-requires
 is-tsumo-requires c κs = search needs
@@ -99,9 +110,9 @@ if-standard-requires-3 c κs = search needs
 one-if-requires-15 : tie.Need-one-if-requires-15
 one-if-requires-15 c κs = search needs
 
-returns : tie.Need-returns
+returns-2 : tie.Need-returns-2
 unfolding suuKantsu kans
-returns c =
+returns-2 c =
     let e15 = c in
     let e14 = e15 .before .before .before in
     let e13 = e14 .before .before in
@@ -155,6 +166,8 @@ pub yakuman-tallies-spec : {M : Type 1} → statement M
 yakuman-tallies-spec =
     tie.close
     (tie.spec
+    may-be-yakuman-requires
+    returns
     is-tsumo-requires
     is-dealer-requires
     one-if-requires
@@ -186,4 +199,4 @@ yakuman-tallies-spec =
     one-if-requires-14
     if-standard-requires-3
     one-if-requires-15
-    returns)
+    returns-2)
