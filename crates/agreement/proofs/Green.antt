@@ -16,6 +16,7 @@ use Rattle.tile_yaku.specs.Tiles.{tanyao, honroutou, tsuuiisou, chinroutou, ryu
 use Rattle.meld_yaku.specs.Melds.{toitoi, kans, yakuhai, dragons, winds, sanAnkou, ittsu, sanshokuDoujun, sanshokuDoukou, peikou, chanta, junchan, shousangen}
 use Rattle.meld_yaku.specs.Yakuman.{suuankou, daisangen, shousuushii, daisuushii, suuKantsu}
 use Rattle.yaku.specs.Tally.{oneHan, moreHan, isYakuman, ordinary, tallies}
+use Rattle.yaku.specs.Names.{names}
 use Rattle.yaku.specs.Han.{hanOf, han}
 use Rattle.scoring.specs.Fu.{standardFu, fu}
 use Rattle.scoring.specs.Level.{level, basicPoints}
@@ -50,7 +51,7 @@ hanOfWin cs k w = scoreWin cs k w .score .han
 
 -- Ryuuiisou; and Iipeikou with Honitsu
 two-han : (hanOfWin green none ron ≡ 13) × (hanOfWin (renCounts swap green) none (renWin swap ron) ≡ 4)
-unfolding hanOfWin scoreWin winCheck orThen check handCheck choice chooseBy rank scores scoreIn scoreOf result handReadings readings standardsAt meldLists sevenPairs thirteenOrphans tallies ordinary isYakuman oneHan moreHan han hanOf fu standardFu pinfu level basicPoints payment tileYaku tanyao honroutou tsuuiisou chinroutou ryuuiisou honitsu chinitsu nineGates pureWait toitoi kans yakuhai dragons winds sanAnkou ittsu sanshokuDoujun sanshokuDoukou peikou chanta junchan shousangen suuankou daisangen shousuushii daisuushii suuKantsu
+unfolding hanOfWin scoreWin winCheck orThen check handCheck choice chooseBy rank scores scoreIn scoreOf result handReadings readings standardsAt meldLists sevenPairs thirteenOrphans tallies ordinary isYakuman oneHan moreHan han hanOf names fu standardFu pinfu level basicPoints payment tileYaku tanyao honroutou tsuuiisou chinroutou ryuuiisou honitsu chinitsu nineGates pureWait toitoi kans yakuhai dragons winds sanAnkou ittsu sanshokuDoujun sanshokuDoukou peikou chanta junchan shousangen suuankou daisangen shousuushii daisuushii suuKantsu
 two-han = (refl, refl)
 
 -- all that the theorem asks but a condition on green tiles, and two scored wins that do not agree

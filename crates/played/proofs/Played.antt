@@ -10,6 +10,7 @@ use Rattle.tile_yaku.specs.Tiles.{tanyao, honroutou, tsuuiisou, chinroutou, ryu
 use Rattle.meld_yaku.specs.Melds.{toitoi, kans, yakuhai, dragons, winds, sanAnkou, ittsu, sanshokuDoujun, sanshokuDoukou, peikou, chanta, junchan, shousangen}
 use Rattle.meld_yaku.specs.Yakuman.{suuankou, daisangen, shousuushii, daisuushii, suuKantsu}
 use Rattle.yaku.specs.Tally.{oneHan, moreHan, isYakuman, ordinary, tallies}
+use Rattle.yaku.specs.Names.{names}
 use Rattle.yaku.specs.Han.{hanOf, han}
 use Rattle.scoring.specs.Fu.{standardFu, fu}
 use Rattle.scoring.specs.Level.{level, basicPoints}
@@ -24,7 +25,7 @@ use Rattle.played.specs.Played.{played}
 
 -- every row of the table holds
 pub played-hold : T (all holds played)
-unfolding meldLists standardsAt sevenPairs thirteenOrphans readings recordOf pinfu tanyao honroutou tsuuiisou chinroutou ryuuiisou honitsu chinitsu nineGates pureWait tileYaku toitoi kans yakuhai dragons winds sanAnkou ittsu sanshokuDoujun sanshokuDoukou peikou chanta junchan shousangen suuankou daisangen shousuushii daisuushii suuKantsu oneHan moreHan isYakuman ordinary tallies hanOf han standardFu fu level basicPoints payment paymentAnswer check handCheck handReadings handRecords listing result scoreOf rank chooseBy choice numbered orThen winCheck scoreIn scores scoreWin scoreReading
+unfolding meldLists standardsAt sevenPairs thirteenOrphans readings recordOf pinfu tanyao honroutou tsuuiisou chinroutou ryuuiisou honitsu chinitsu nineGates pureWait tileYaku toitoi kans yakuhai dragons winds sanAnkou ittsu sanshokuDoujun sanshokuDoukou peikou chanta junchan shousangen suuankou daisangen shousuushii daisuushii suuKantsu oneHan moreHan isYakuman ordinary tallies hanOf names han standardFu fu level basicPoints payment paymentAnswer check handCheck handReadings handRecords listing result scoreOf rank chooseBy choice numbered orThen winCheck scoreIn scores scoreWin scoreReading
 played-hold = tt
 
 -- so does each row that stands in it

@@ -21,6 +21,7 @@ use Rattle.meld_yaku.specs.Melds.{toitoi, kans, sanAnkou, ittsu, sanshokuDoujun
 use Rattle.meld_yaku.specs.Standard.{ofStandard, yakuhaiOf}
 use Rattle.meld_yaku.specs.Yakuman.{suuankou, daisangen, shousuushii, daisuushii, suuKantsu}
 use Rattle.yaku.specs.Tally.{isChiitoitsu, unlessOrphans, riichi, rinshan, oneHan, moreHan, yakuman, isYakuman, ordinary, tallies}
+use Rattle.yaku.specs.Names.{names}
 use Rattle.yaku.specs.Han.{hanOf, dot, han}
 use Rattle.renamed_scores.proofs.Asked.{Asked, ren-ofStandard, ren-isChiitoitsu, ren-unlessOrphans, ren-orphansWon}
 use Rattle.renamed_scores.proofs.Waits.{ren-isDealer, pinfu-renamed}
@@ -35,7 +36,7 @@ HonorsApart F =
 
 -- each honor counts one han
 honors-apart : (opened : Bool) → HonorsApart (dot (hanOf opened))
-unfolding hanOf
+unfolding hanOf names
 honors-apart true a b c d e h f g l s = omega arith
 honors-apart false a b c d e h f g l s = omega arith
 

@@ -21,6 +21,7 @@ use Rattle.tile_yaku.specs.declared.TileYaku.{TileYaku}
 use Rattle.meld_yaku.specs.Melds.{setOf, yakuhai}
 use Rattle.meld_yaku.specs.Standard.{yakuhaiOf}
 use Rattle.yaku.specs.Tally.{oneHan, moreHan, yakuman, isYakuman, ordinary, tallies}
+use Rattle.yaku.specs.Names.{names}
 use Rattle.yaku.specs.Han.{hanOf, dot, han}
 
 -- ---- tallies within bounds, place by place
@@ -95,12 +96,12 @@ module _ (w : GameContext) (opened : Bool) (s : TileYaku) (r : Reading) where
 
 -- ---- the han: of yakuman alone, or of the others alone
 yakuman-most : (opened : Bool) → dot (hanOf opened) (replicate 32 0 ++ replicate 15 1) ≤ 255
-unfolding hanOf
+unfolding hanOf names
 yakuman-most true = lit≤ tt
 yakuman-most false = lit≤ tt
 
 ordinary-most : (opened : Bool) → dot (hanOf opened) ((oneHanMost ++ moreHanMost) ++ replicate 15 0) ≤ 255
-unfolding hanOf
+unfolding hanOf names
 ordinary-most true = lit≤ tt
 ordinary-most false = lit≤ tt
 
@@ -150,5 +151,5 @@ abbrev pub openValue : ℕ → ℕ → Bool
 openValue closed opened = eqb opened 0 || (eqb opened closed || eqb (opened + 1) closed)
 
 pub table-rule : (i : ℕ) → i < 47 → T (openValue (getD (hanOf false) i 0) (getD (hanOf true) i 0))
-unfolding hanOf
+unfolding hanOf names
 table-rule = at 47 (λ i. openValue (getD (hanOf false) i 0) (getD (hanOf true) i 0)) tt

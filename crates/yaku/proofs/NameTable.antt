@@ -1,5 +1,5 @@
--- The table of names: each name once, in the order of the tallies, and the tables of han are the names' han. Assumes nothing.
-use mathlib.Core.Path.{_≡_, refl, sym, ap, ap₂, _∙_}
+-- The table of names: each name once, in the order of the tallies, and what is read off a table in that order. Assumes nothing.
+use mathlib.Core.Path.{_≡_, refl, sym, ap, _∙_}
 use mathlib.Core.Bool.{Bool, true, false, _&&_, cond, and-false, Bool·beq}
 use mathlib.Core.List.{List, _++_, map}
 use Prim.Native.Nat.{ℕ, zero, suc, _+_, _-_, _<_, _≤_}
@@ -15,23 +15,13 @@ use Rattle.tile.specs.declared.Tile.{Tile}
 use Rattle.tile.specs.Tile.{isHonor}
 use Rattle.yaku.specs.declared.names.Yaku.{Yaku}
 use Rattle.yaku.specs.declared.names.Yaku.the-variants.{Riichi, Ippatsu, MenzenTsumo, Tanyao, Pinfu, Iipeikou, Yakuhai, RinshanKaihou, Chankan, HaiteiRaoyue, HouteiRaoyui, DoubleRiichi, Toitoi, SanshokuDoujun, SanshokuDoukou, Ittsu, Chiitoitsu, Chanta, SanAnkou, SanKantsu, Honroutou, Shousangen, Honitsu, Junchan, Ryanpeikou, Chinitsu, Tenhou, Chiihou, KokushiMusou, Suuankou, Daisangen, Shousuushii, Daisuushii, Tsuuiisou, Chinroutou, Ryuuiisou, ChuurenPoutou, SuuKantsu, Kokushi13Wait, SuuankouTanki, JunseiChuurenPoutou}
-use Rattle.yaku.specs.Names.{hanClosed, hanOpen, isYakumanName, place, yakuhaiName, names}
-use Rattle.yaku.specs.Han.{hanOf}
+use Rattle.yaku.specs.Names.{isYakumanName, place, yakuhaiName, names}
 
 -- ---- each by one computed test
 -- the place of the i-th name is i
 pub places : map place names ≡ upFrom 47 0
 unfolding names
 places = refl
-
--- the tables of han
-pub closed-table : map hanClosed names ≡ hanOf false
-unfolding names hanOf
-closed-table = refl
-
-pub open-table : map hanOpen names ≡ hanOf true
-unfolding names hanOf
-open-table = refl
 
 -- the last 15 are the yakuman, and no other is one
 pub yakuman-last : map isYakumanName names ≡ replicate 32 false ++ replicate 15 true
@@ -117,18 +107,22 @@ module _ {A : Type 0} (f : Yaku → A) (same : (t : Tile) → f (Yakuhai t) ≡ 
   unfolding nameAt
   in-table y = List·getD-map f names (place y) nowhere ∙ at-place y
 
--- ---- the value of a name, read off its table
-module _ (f : Yaku → ℕ) (same : (t : Tile) → f (Yakuhai t) ≡ 1) (l : List ℕ) (table : map f names ≡ l) (size : length l ≡ 47) where
-  value : (y : Yaku) → getD l (place y) 1 ≡ f y
-  value y = ap₂ (λ (k : List ℕ) (d : ℕ). getD k (place y) d) (sym table) (sym (same _)) ∙ in-table f (λ t. same t ∙ sym (same _)) y
+-- ---- the han of a name, read off the table
+module _ (f : Yaku → ℕ) (same : (t : Tile) → f (Yakuhai t) ≡ 1) where
+  value : (y : Yaku) → getD (map f names) (place y) 1 ≡ f y
+  value y = ap (λ (d : ℕ). getD (map f names) (place y) d) (sym (same _)) ∙ in-table f (λ t. same t ∙ sym (same _)) y
+
+  size : length (map f names) ≡ 47
+  unfolding names
+  size = refl
 
   -- i is the place of the name y
   module _ (y : Yaku) (i : ℕ) (e : i ≡ place y) where
-    pub at-name : i < 47 → getD l i 0 ≡ f y
-    at-name h = same-default l i 0 1 (omega arith) ∙ ap (λ (k : ℕ). getD l k 1) e ∙ value y
+    pub at-name : i < 47 → getD (map f names) i 0 ≡ f y
+    at-name h = same-default (map f names) i 0 1 (omega (arith, size)) ∙ ap (λ (k : ℕ). getD (map f names) k 1) e ∙ value y
 
     pub past-names : 47 ≤ i → 1 ≡ f y
-    past-names h = sym (List·getD-eq-default l 1 {n = i} (omega arith)) ∙ ap (λ (k : ℕ). getD l k 1) e ∙ value y
+    past-names h = sym (List·getD-eq-default (map f names) 1 {n = i} (omega (arith, size))) ∙ ap (λ (k : ℕ). getD (map f names) k 1) e ∙ value y
 
 -- ---- the yakuman are those from place 32 on
 abbrev lastFifteen : List Bool
