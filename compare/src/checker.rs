@@ -7,7 +7,7 @@ use crate::rng::Rng;
 use crate::tally::Tally;
 
 /// A buffer that always suffices.
-const SUFFICES: usize = 1467;
+pub const SUFFICES: usize = 1467;
 /// The longest buffer that is lent.
 const MOST_LENT: usize = 1500;
 /// Bytes before and behind the lent buffer, which have to stay as they were too.

@@ -1,19 +1,21 @@
 //! Compares the proved library with agari-core.
 
 use compare::arguments::{self, Options};
-use compare::{points, readings, scored_wins, scores};
+use compare::{points, readings, scored_wins, scores, twins};
 use std::process::ExitCode;
 use std::time::Duration;
 
 const USAGE: &str = "usage: compare readings [--seed N] [--random N] [--suit] [--mixed SECONDS]
        compare points
        compare scores [--seed N] [--wins N]
-       compare wins [--seed N] [--random N] [--suit]";
+       compare wins [--seed N] [--random N] [--suit]
+       compare twins [--seed N] [--random N]";
 const SEED: u64 = 1;
 const RANDOM_HANDS: u64 = 5_000_000;
 const MIXED_SECONDS: u64 = 600;
 const SCORED_WINS: u64 = 3_000_000;
 const RANDOM_WINS: u64 = 7_000_000;
+const RANDOM_TWINS: u64 = 1_000_000;
 
 fn main() -> ExitCode {
     arguments::run(USAGE, |words| {
@@ -34,6 +36,7 @@ fn compare(words: &[&str]) -> Option<u64> {
         "points" => words.is_empty().then(points::compare),
         "scores" => compare_scores(words),
         "wins" => compare_wins(words),
+        "twins" => compare_twins(words),
         _ => None,
     }
 }
@@ -75,4 +78,11 @@ fn compare_wins(words: &[&str]) -> Option<u64> {
         options.suit = true;
     }
     Some(scored_wins::compare(&options))
+}
+
+fn compare_twins(words: &[&str]) -> Option<u64> {
+    let given = Options::read(words, &["--seed", "--random"], &[])?;
+    let seed = given.number("--seed").unwrap_or(SEED);
+    let wins = given.number("--random").unwrap_or(RANDOM_TWINS);
+    Some(twins::compare(seed, wins))
 }

@@ -7,7 +7,7 @@ use crate::library::{Listing, Meld};
 /// The number of refusals that do not depend on the lent buffer.
 pub const FAULTS: usize = 6;
 /// The refusal of a buffer that is too short.
-const TOO_SHORT: usize = 7;
+pub const TOO_SHORT: usize = 7;
 
 /// What is expected for a hand, whatever buffer is lent.
 pub struct Expected {
@@ -97,7 +97,7 @@ fn records(hand: &Hand) -> Vec<Record> {
 }
 
 /// The record as it is written: its length, its kind, its content.
-fn bytes(record: &Record) -> Vec<u8> {
+pub fn bytes(record: &Record) -> Vec<u8> {
     let length = (4 + record.content.len()) as u16;
     [
         &length.to_le_bytes()[..],

@@ -7,7 +7,7 @@ use crate::random;
 use crate::rng::Rng;
 use crate::win_checker::WinChecker;
 use crate::win_damage;
-use crate::win_oracle::{ExpectedHand, ExpectedWin};
+use crate::win_oracle::ExpectedHand;
 use crate::win_tally::WinTally;
 use crate::wins;
 use std::time::Instant;
@@ -92,22 +92,26 @@ fn compare_random(checker: &mut WinChecker, seed: u64, wins: u64) {
     let mut rng = Rng::new(!seed);
     let mut left = wins;
     while left > 0 {
-        if rng.percent(22) {
-            let (hand, win) = win_damage::damaged(&mut rng);
-            checker.check(&hand, &win, &ExpectedWin::of(&hand, &win));
-            left -= 1;
-            continue;
-        }
-        let hand = sound_hand(&mut rng);
+        let (hand, wins) = random_wins(&mut rng, left);
         let expected = ExpectedHand::of(&hand);
-        for tile in wins::winning_tiles(&mut rng, &hand) {
-            if left > 0 {
-                let win = wins::win(&mut rng, &hand, tile);
-                checker.check(&hand, &win, &expected.won(&hand, &win));
-                left -= 1;
-            }
+        for win in &wins {
+            checker.check(&hand, win, &expected.won(&hand, win));
         }
+        left -= wins.len() as u64;
     }
+}
+
+/// A random hand, and its wins by one or more of its tiles, at most so many.
+pub fn random_wins(rng: &mut Rng, most: u64) -> (Hand, Vec<Win>) {
+    if rng.percent(22) {
+        let (hand, win) = win_damage::damaged(rng);
+        return (hand, vec![win]);
+    }
+    let hand = sound_hand(rng);
+    let tiles = wins::winning_tiles(rng, &hand).into_iter();
+    let tiles = tiles.take(most as usize);
+    let wins = tiles.map(|tile| wins::win(rng, &hand, tile)).collect();
+    (hand, wins)
 }
 
 /// A hand with no fault, most often with a reading.

@@ -224,7 +224,7 @@ impl fmt::Display for WinTally {
 }
 
 /// Counts with their names.
-fn counted(names: &[&str], counts: &[u64]) -> String {
+pub fn counted(names: &[&str], counts: &[u64]) -> String {
     let entries: Vec<String> = names
         .iter()
         .zip(counts)

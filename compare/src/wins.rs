@@ -10,7 +10,7 @@ const WINDS: [u8; 4] = [27, 28, 29, 30];
 const DRAGONS: [u8; 3] = [31, 32, 33];
 const HONOURS: [usize; 7] = [27, 28, 29, 30, 31, 32, 33];
 const TERMINALS: [usize; 6] = [0, 8, 9, 17, 18, 26];
-const GREENS: [usize; 6] = [19, 20, 21, 23, 25, 32];
+pub const GREENS: [usize; 6] = [19, 20, 21, 23, 25, 32];
 /// Where sequences with a terminal start.
 const OUTER_STARTS: [u8; 6] = [0, 6, 9, 15, 18, 24];
 

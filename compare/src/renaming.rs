@@ -1,0 +1,152 @@
+//! Renamings of tiles, and with them of hands, wins and records, as the scope paper defines them.
+
+use crate::agari::Record;
+use crate::hand::*;
+use crate::library::{Meld, Win};
+use crate::probe::STANDARD;
+
+const WHITE: u8 = 31;
+const RED: u8 = 33;
+/// What man, pin and sou become: no two the same.
+const ORDERS: [[u8; 3]; 6] = [
+    [0, 1, 2],
+    [0, 2, 1],
+    [1, 0, 2],
+    [1, 2, 0],
+    [2, 0, 1],
+    [2, 1, 0],
+];
+
+/// One rule for all 34 tiles.
+#[derive(Clone, Copy, Debug)]
+pub struct Renaming {
+    /// The suit that each suit becomes.
+    suits: [u8; 3],
+    /// Whether all numbers n become 10 - n.
+    is_mirrored: bool,
+    /// Whether White and Red change places.
+    are_dragons_exchanged: bool,
+}
+
+impl Renaming {
+    /// The number of renamings.
+    pub const ALL: usize = 4 * ORDERS.len();
+
+    /// The renaming with a number below that. The first leaves every tile as it is.
+    pub fn numbered(number: usize) -> Renaming {
+        Renaming {
+            suits: ORDERS[number / 4],
+            is_mirrored: number / 2 % 2 == 1,
+            are_dragons_exchanged: number % 2 == 1,
+        }
+    }
+
+    fn tile(&self, tile: u8) -> u8 {
+        let (suit, place) = (tile / 9, tile % 9);
+        match tile {
+            0..27 if self.is_mirrored => 9 * self.suits[usize::from(suit)] + 8 - place,
+            0..27 => 9 * self.suits[usize::from(suit)] + place,
+            WHITE if self.are_dragons_exchanged => RED,
+            RED if self.are_dragons_exchanged => WHITE,
+            _ => tile,
+        }
+    }
+
+    /// A meld of its renamed tiles, of which the lowest names it.
+    fn meld(&self, meld: Meld) -> Meld {
+        let tiles = meld.tiles().map(|tile| self.tile(tile as u8));
+        Meld::new(tiles.min().expect("a meld has tiles"), meld.kind)
+    }
+
+    /// A hand that passes the checks: each count becomes that of the renamed tile, and calls keep
+    /// their order and kinds.
+    pub fn hand(&self, hand: &Hand) -> Hand {
+        let mut renamed = Hand::empty();
+        for (tile, &count) in hand.counts().iter().enumerate() {
+            renamed.counts[usize::from(self.tile(tile as u8))] = count;
+        }
+        for &meld in hand.called() {
+            renamed.call(self.meld(meld));
+        }
+        renamed
+    }
+
+    /// The same win by the renamed tile.
+    pub fn win(&self, win: &Win) -> Win {
+        Win {
+            winning_tile: self.tile(win.winning_tile),
+            ..*win
+        }
+    }
+
+    /// The record of a reading that is renamed in its pair or pairs and its melds, which are put in
+    /// order again.
+    pub fn record(&self, record: &Record) -> Record {
+        let is_standard = record.kind == u16::from(STANDARD);
+        let tiles = if is_standard { 1 } else { record.content.len() };
+        let (tiles, melds) = record.content.split_at(tiles);
+        let mut tiles: Vec<u8> = tiles.iter().map(|&tile| self.tile(tile)).collect();
+        tiles.sort();
+        let melds = melds.chunks(2).map(|meld| Meld::new(meld[0], meld[1]));
+        let mut melds: Vec<Meld> = melds.map(|meld| self.meld(meld)).collect();
+        melds.sort();
+        let melds = melds.iter().flat_map(|meld| [meld.tile, meld.kind]);
+        Record {
+            kind: record.kind,
+            content: tiles.into_iter().chain(melds).collect(),
+        }
+    }
+}
+
+#[cfg(test)]
+mod tests {
+    use super::*;
+    use std::collections::HashSet;
+
+    fn renamed(renaming: &Renaming) -> Vec<u8> {
+        (0..KINDS as u8).map(|tile| renaming.tile(tile)).collect()
+    }
+
+    #[test]
+    fn renamings_are_24_and_no_two_tiles_become_the_same() {
+        let all: HashSet<Vec<u8>> = (0..Renaming::ALL)
+            .map(|number| renamed(&Renaming::numbered(number)))
+            .collect();
+        assert_eq!(all.len(), 24);
+        for mut tiles in all {
+            tiles.sort();
+            assert!(tiles.into_iter().eq(0..KINDS as u8));
+        }
+    }
+
+    #[test]
+    fn a_mirrored_sequence_starts_at_8_less_its_start() {
+        // Man becomes pin, pin becomes man, numbers are mirrored, dragons stay.
+        let renaming = Renaming::numbered(4 * 2 + 2);
+        for start in 1..=7 {
+            let meld = Meld::new(start - 1, OPEN_SEQUENCE);
+            let mirrored = Meld::new(9 + 8 - start - 1, OPEN_SEQUENCE);
+            assert_eq!(renaming.meld(meld), mirrored);
+        }
+        assert_eq!(renaming.meld(Meld::new(33, ADDED_KAN)).tile, 33);
+    }
+
+    #[test]
+    fn a_renamed_record_is_in_order_again() {
+        // Sou becomes man, man becomes sou, White and Red change places.
+        let renaming = Renaming::numbered(4 * 5 + 1);
+        let standard = Record {
+            kind: 3,
+            content: vec![31, 0, 0, 4, 2, 18, 1, 33, 6],
+        };
+        assert_eq!(
+            renaming.record(&standard).content,
+            [33, 0, 1, 18, 0, 22, 2, 31, 6]
+        );
+        let pairs = Record {
+            kind: 1,
+            content: vec![0, 1, 9, 18, 31, 32, 33],
+        };
+        assert_eq!(renaming.record(&pairs).content, [0, 9, 18, 19, 31, 32, 33]);
+    }
+}

@@ -1,0 +1,157 @@
+//! The comparison of random wins with the same wins renamed.
+
+use crate::agreement::{ANSWERS, Outcome, PARTS, Twins};
+use crate::checker::SUFFICES;
+use crate::faults::{listed, listed_from};
+use crate::hand::Hand;
+use crate::library::Win;
+use crate::renaming::Renaming;
+use crate::rng::Rng;
+use crate::scored_wins::random_wins;
+use crate::win_oracle::ExpectedWin;
+use crate::win_tally::counted;
+use std::fmt;
+use std::time::Instant;
+
+/// How many differences are printed.
+const PRINTED: u64 = 5;
+
+/// Compares so many random wins, each with one of the renamings by turns, and answers the number of
+/// pairs that differ.
+pub fn compare(seed: u64, wins: u64) -> u64 {
+    println!("random wins and the same wins renamed, seed {seed}");
+    let start = Instant::now();
+    let mut rng = Rng::new(!seed);
+    let mut checker = TwinChecker::new(seed);
+    let mut left = wins;
+    while left > 0 {
+        let (hand, wins) = random_wins(&mut rng, left);
+        for win in &wins {
+            checker.check(&hand, win);
+        }
+        left -= wins.len() as u64;
+    }
+    let seconds = start.elapsed().as_secs_f64();
+    println!("{}  {seconds:.1} s", checker.tally);
+    checker.tally.differ
+}
+
+/// Compares pairs, and counts what it saw.
+struct TwinChecker {
+    rng: Rng,
+    /// What stands in the lent buffers before.
+    old: Vec<u8>,
+    tally: TwinTally,
+}
+
+impl TwinChecker {
+    fn new(seed: u64) -> TwinChecker {
+        let mut rng = Rng::new(seed);
+        let old = (0..SUFFICES).map(|_| rng.byte()).collect();
+        TwinChecker {
+            rng,
+            old,
+            tally: TwinTally::default(),
+        }
+    }
+
+    /// Compares a win that passes the checks with its renamed one.
+    fn check(&mut self, hand: &Hand, win: &Win) {
+        let number = (self.tally.wins % Renaming::ALL as u64) as usize;
+        self.tally.wins += 1;
+        if ExpectedWin::of(hand, win).faults.contains(&true) {
+            self.tally.damaged += 1;
+            return;
+        }
+        let twins = Twins::new(&mut self.rng, hand, win, Renaming::numbered(number));
+        let outcome = twins.outcome(&mut self.rng, &self.old);
+        if let Some(unit) = twins.are_green().iter().position(|&green| green) {
+            self.tally.count_green(unit, &outcome);
+            return;
+        }
+        self.tally.count(number, &outcome);
+        if outcome.differ.contains(&true) && self.tally.differ <= PRINTED {
+            print(&twins, &outcome);
+        }
+    }
+}
+
+fn print(twins: &Twins, outcome: &Outcome) {
+    let parts = PARTS.iter().zip(outcome.differ);
+    let differing: Vec<&str> = parts.filter(|part| part.1).map(|part| *part.0).collect();
+    println!("DIFFERS: {}, {:?}", differing.join(", "), twins.renaming);
+    for unit in 0..2 {
+        println!("  {}", twins.hands[unit]);
+        println!("  {:?}", twins.wins[unit]);
+        println!("  scored {}", outcome.scores[unit]);
+    }
+}
+
+/// A pair is a win and the same win renamed.
+#[derive(Default)]
+struct TwinTally {
+    wins: u64,
+    /// Wins that are refused with 1 to 6, 8 or 9, which are not renamed.
+    damaged: u64,
+    /// Pairs whose first hand is all green, and those whose second alone is.
+    green: [u64; 2],
+    /// Those of them that differ.
+    green_differ: [u64; 2],
+    /// The other pairs by renaming, and by readings, five or more together.
+    renamings: [u64; Renaming::ALL],
+    readings: [u64; 6],
+    /// The same by the answer to the first scored win.
+    answers: [u64; ANSWERS.len()],
+    /// Those whose records did not fit into the shorter buffer.
+    too_short: u64,
+    /// Those that differ, all together and part by part.
+    differ: u64,
+    parts: [u64; PARTS.len()],
+}
+
+impl TwinTally {
+    fn count_green(&mut self, unit: usize, outcome: &Outcome) {
+        self.green[unit] += 1;
+        self.green_differ[unit] += u64::from(outcome.differ.contains(&true));
+    }
+
+    fn count(&mut self, renaming: usize, outcome: &Outcome) {
+        self.renamings[renaming] += 1;
+        self.readings[outcome.readings.min(5)] += 1;
+        let number = outcome.scores[0].number as usize;
+        if let Some(place) = ANSWERS.iter().position(|&answer| answer == number) {
+            self.answers[place] += 1;
+        }
+        self.too_short += u64::from(outcome.is_too_short);
+        self.differ += u64::from(outcome.differ.contains(&true));
+        for (count, differs) in self.parts.iter_mut().zip(outcome.differ) {
+            *count += u64::from(differs);
+        }
+    }
+}
+
+impl fmt::Display for TwinTally {
+    fn fmt(&self, f: &mut fmt::Formatter) -> fmt::Result {
+        let renamings = self.renamings.iter();
+        let occurred = renamings.clone().filter(|&&pairs| pairs > 0).count();
+        let rarest = renamings.clone().min().unwrap_or(&0);
+        let pairs: u64 = renamings.sum();
+        let readings = listed_from(0, &self.readings);
+        let answers = listed(&ANSWERS, &self.answers);
+        let parts = counted(&PARTS, &self.parts);
+        let [first, second] = self.green;
+        let [first_differ, second_differ] = self.green_differ;
+        writeln!(f, "  wins {}, pairs {pairs}", self.wins)?;
+        writeln!(f, "  left out, refused by a check: {}", self.damaged)?;
+        write!(f, "  left out, first hand all green: {first}, ")?;
+        writeln!(f, "of which differ: {first_differ}")?;
+        write!(f, "  left out, second hand alone all green: {second}, ")?;
+        writeln!(f, "of which differ: {second_differ}")?;
+        write!(f, "  renamings: {occurred} of {}, ", Renaming::ALL)?;
+        writeln!(f, "the rarest in {rarest} pairs")?;
+        writeln!(f, "  pairs by readings: {readings}")?;
+        writeln!(f, "    by answer to the scored wins: {answers}")?;
+        writeln!(f, "    refused alike with 7: {}", self.too_short)?;
+        writeln!(f, "  differ: {} ({parts})", self.differ)
+    }
+}
