@@ -101,7 +101,7 @@ fn compare_random(checker: &mut WinChecker, seed: u64, wins: u64) {
     }
 }
 
-/// A random hand, and its wins by one or more of its tiles, at most so many.
+/// A random hand, with faults or without, and one or more wins with it, at most so many.
 pub fn random_wins(rng: &mut Rng, most: u64) -> (Hand, Vec<Win>) {
     if rng.percent(22) {
         let (hand, win) = win_damage::damaged(rng);
