@@ -20,7 +20,7 @@ use Rattle.tile_yaku.specs.declared.TileYaku.{TileYaku}
 use Rattle.meld_yaku.specs.Melds.{toitoi, kans, sanAnkou, ittsu, sanshokuDoujun, sanshokuDoukou, peikou, chanta, junchan, shousangen}
 use Rattle.meld_yaku.specs.Standard.{ofStandard, yakuhaiOf}
 use Rattle.meld_yaku.specs.Yakuman.{suuankou, daisangen, shousuushii, daisuushii, suuKantsu}
-use Rattle.yaku.specs.Tally.{isChiitoitsu, unlessOrphans, riichi, rinshan, oneHan, moreHan, yakuman, isYakuman, ordinary, tallies}
+use Rattle.yaku.specs.Tally.{unlessOrphans, riichi, rinshan, oneHan, moreHan, yakuman, isYakuman, ordinary, tallies}
 use Rattle.yaku.specs.Names.{names}
 use Rattle.yaku.specs.Han.{hanOf, dot, han}
 use Rattle.renamed_scores.proofs.Asked.{Asked, ren-ofStandard, ren-isChiitoitsu, ren-unlessOrphans, ren-orphansWon}
@@ -68,14 +68,6 @@ module _
         (λ p k ms ns mv. ap₂ (λ (a b : Bool). a && f b) (ren-suuankou ρ ms ns mv w h) (ren-eqb ρ (w .«winning_tile») p h k))
         r v
 
-    -- Chinroutou, as the tallies have it: not beside seven pairs of honors
-    all-terminals :
-        unlessOrphans (s .chinroutou && not (isChiitoitsu (renReading ρ r) && s .tsuuiisou)) (renReading ρ r)
-        ≡ unlessOrphans (s .chinroutou && not (isChiitoitsu r && s .tsuuiisou)) r
-    all-terminals =
-        ren-unlessOrphans ρ (s .chinroutou && not (isChiitoitsu (renReading ρ r) && s .tsuuiisou)) r
-        ∙ ap (λ (b : Bool). unlessOrphans (s .chinroutou && not (b && s .tsuuiisou)) r) (ren-isChiitoitsu ρ r)
-
     yakuman-stays : yakuman (renWin ρ w) opened s (renReading ρ r) ≡ yakuman w opened s r
     yakuman-stays =
         let dealer = ren-isDealer ρ w winds in
@@ -97,7 +89,7 @@ module _
         ∷ small i
         ∷ great i
         ∷ ren-unlessOrphans ρ (s .tsuuiisou) r i
-        ∷ all-terminals i
+        ∷ ren-unlessOrphans ρ (s .chinroutou) r i
         ∷ green i
         ∷ gates i
         ∷ kantsu i

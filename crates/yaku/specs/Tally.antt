@@ -99,7 +99,7 @@ yakuman w opened s r =
     ∷ ofStandard (λ p ms. shousuushii p ms) r
     ∷ ofStandard (λ p ms. daisuushii ms) r
     ∷ unlessOrphans (s .tsuuiisou) r
-    ∷ unlessOrphans (s .chinroutou && not (isChiitoitsu r && s .tsuuiisou)) r
+    ∷ unlessOrphans (s .chinroutou) r
     ∷ ofStandard (λ p ms. s .ryuuiisou) r
     ∷ ofStandard (λ p ms. not opened && (s .«nine_gates» && not (s .«pure_wait»))) r
     ∷ ofStandard (λ p ms. suuKantsu ms) r

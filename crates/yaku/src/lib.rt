@@ -177,7 +177,7 @@ fn yakuman_tallies(
         wait::one_if(meld_yaku::check_shousuushii(h)),
         wait::one_if(meld_yaku::check_daisuushii(h)),
         wait::one_if(unless_orphans(s.tsuuiisou, h)),
-        wait::one_if(unless_orphans(s.chinroutou & !(is_chiitoitsu(h) & s.tsuuiisou), h)),
+        wait::one_if(unless_orphans(s.chinroutou, h)),
         wait::one_if(if_standard(s.ryuuiisou, h)),
         wait::one_if(if_standard(!opened & (s.nine_gates & !s.pure_wait), h)),
         wait::one_if(meld_yaku::check_kantsu(h, 4)),

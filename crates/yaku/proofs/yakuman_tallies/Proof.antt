@@ -65,9 +65,6 @@ unless-orphans-requires c κs = search needs
 one-if-requires-8 : tie.Need-one-if-requires-8
 one-if-requires-8 c κs = search needs
 
-is-chiitoitsu-requires : tie.Need-is-chiitoitsu-requires
-is-chiitoitsu-requires c κs = search needs
-
 unless-orphans-requires-2 : tie.Need-unless-orphans-requires-2
 unless-orphans-requires-2 c κs = search needs
 
@@ -120,7 +117,7 @@ returns-2 c =
     let e11 = e12 .before .before in
     let e10 = e11 .before .before .before .before in
     let e9 = e10 .before .before in
-    let e8 = e9 .before .before .before .before .before in
+    let e8 = e9 .before .before in
     let e7 = e8 .before .before in
     let e6 = e7 .before .before in
     let e5 = e6 .before .before in
@@ -145,7 +142,6 @@ returns-2 c =
       e7 .one-if7 .ensures .0,
       e8 .before .unless-orphans .ensures,
       e8 .one-if8 .ensures .0,
-      e9 .before .before .before .before .is-chiitoitsu .ensures,
       e9 .before .unless-orphans2 .ensures,
       e9 .one-if9 .ensures .0,
       e10 .before .if-standard .ensures,
@@ -184,7 +180,6 @@ yakuman-tallies-spec =
     one-if-requires-7
     unless-orphans-requires
     one-if-requires-8
-    is-chiitoitsu-requires
     unless-orphans-requires-2
     one-if-requires-9
     if-standard-requires
