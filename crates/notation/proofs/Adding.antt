@@ -26,6 +26,10 @@ add-both n a b = omega arith
 pub add-few : (n m : ℕ) → addTo 0 n ≡ m → m ≤ 4 → n ≡ m
 add-few n m e h = omega arith
 
+-- and back
+pub few-added : (n m : ℕ) → n ≡ m → m ≤ 4 → addTo 0 n ≡ m
+few-added n m e h = omega arith
+
 other : (cs : List ℕ) (t u : ℕ) → (u ≡ t → ⊥) → held cs u ≡ addTo (held cs u) (one (eqb u t))
 other cs t u f = rw (ne-eqb u t f) (add-zero (held cs u))
 

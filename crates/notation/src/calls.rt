@@ -3,7 +3,7 @@ ghost use mathlib.Core.Path.{_≡_};
 ghost use Prim.Native.Nat.{_+_, min};
 ghost use lib.ListN.{set};
 ghost use Rattle.meld.specs.Meld.{isOpen};
-ghost use Rattle.notation.specs.Calls.{madeOf, isKind, isAsked, IsCallOf, IsCallIn, withCall};
+ghost use Rattle.notation.specs.Calls.{madeOf, isKind, isAsked, IsLowest, IsCallOf, IsCallIn, withCall};
 use crate::tiles;
 
 // A call that was looked for.
@@ -13,7 +13,9 @@ pub enum Found {
 }
 
 // The lowest tile that is there; 34 where there is none.
-fn lowest(counts: &[u8; 34]) -> u8 {
+fn lowest(counts: &[u8; 34]) -> u8
+    ensures { λ r. ⌜ IsLowest (now (counts .entry)) r ⌝ }
+{
     let mut t = 0;
     while t < 34 {
         if 0 < counts[t as usize] {
@@ -37,7 +39,7 @@ fn is_made_of(m: meld::Meld, counts: &[u8; 34]) -> bool
     good
 }
 
-// The call of a kind that has exactly these tiles.
+// The call of a kind that has exactly these tiles; nothing where there is none.
 fn call_of(counts: &[u8; 34], kind: u8) -> Found
     ensures { λ r. ⌜ IsCallOf (isKind kind) (now (counts .entry)) r ⌝ }
 {
@@ -54,7 +56,7 @@ fn call_of(counts: &[u8; 34], kind: u8) -> Found
     Found::Call(m)
 }
 
-// The open call that has exactly these tiles: a kan, a triplet or a sequence.
+// The open call that has exactly these tiles: a kan, a triplet or a sequence; nothing where there is none.
 fn open_call_of(counts: &[u8; 34]) -> Found
     ensures { λ r. ⌜ IsCallOf isOpen (now (counts .entry)) r ⌝ }
 {
@@ -69,7 +71,7 @@ fn open_call_of(counts: &[u8; 34]) -> Found
     call_of(counts, 1)
 }
 
-// The call that has exactly the tiles of a word: of a kind, or any open one where the kind is 0.
+// The call that has exactly the tiles of a word: of a kind, or any open one where the kind is 0. Nothing where there is none.
 pub fn call_in(word: &[u8], kind: u8) -> Found
     ensures { λ r. ⌜ IsCallIn (isAsked kind) (now (word .entry)) r ⌝ }
 {

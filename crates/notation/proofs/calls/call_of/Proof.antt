@@ -1,6 +1,7 @@
--- `call_of` meets its contract: what is found passed both tests. Assumes nothing.
+-- `call_of` meets its contract: the one call that there can be is tested. Assumes nothing.
 use mathlib.Core.Path.{refl, sym, _∙_}
-use borrow.Author.Tests.{eq-eqb, not-false}
+use borrow.Author.Tests.{eq-eqb, not-true, not-false}
+use Rattle.notation.proofs.Found.{no-call, not-made}
 use borrow.Author.Needs.{needs}
 use Rattle.notation.proofs.calls.call_of.Statement.{statement}
 use Rattle.notation.proofs.calls.call_of.Tie as tie
@@ -12,13 +13,17 @@ is-call-requires : tie.Need-is-call-requires
 is-call-requires c κs = search needs
 
 returns : tie.Need-returns
-returns c = tt
+returns c =
+    let s = c .before .before .before .args in
+    λ m x. no-call (s .counts .now) _ (s .kind) (c .before .before .lowest .ensures) m x (sym (c .before .is-call .ensures) ∙ not-true _ (c .if1 .taken))
 
 is-made-of-requires : tie.Need-is-made-of-requires
 is-made-of-requires c κs = search needs
 
 returns-2 : tie.Need-returns-2
-returns-2 c = tt
+returns-2 c =
+    let s = c .before .before .before .before .before .args in
+    λ m x. not-made (s .counts .now) _ (s .kind) (c .before .before .before .before .lowest .ensures) m x (sym (c .before .is-made-of .ensures) ∙ not-true _ (c .if2 .taken))
 
 returns-3 : tie.Need-returns-3
 returns-3 c =
