@@ -5,6 +5,7 @@ use mathlib.Core.Bool.{Bool, true, _&&_, _||_, cond}
 use mathlib.Core.List.{List, [], _∷_}
 use Prim.Native.Nat.{ℕ, _+_, _-_, _*_, _<_, min, max}
 use lib.Dec.{eqb, leb, ltb}
+use lib.ListN.{getD}
 use Rattle.lists.specs.Fold.{count}
 use Rattle.hand.specs.Counts.{held}
 
@@ -49,12 +50,24 @@ addTo held n = max held (min (held + n) 255)
 abbrev pub Counted : List ℕ → List ℕ → List ℕ → Type 0
 Counted before ts after = (u : ℕ) → u < 34 → held after u ≡ addTo (held before u) (count (eqb u) ts)
 
--- the first character of a text names a tile or is the letter of a suit
-abbrev pub isRead : List ℕ → Bool
-isRead [] = true
-isRead (c ∷ cs) = ltb (readAt (c ∷ cs)) 34 || ltb (suitOf c) 4
+-- c is the letter of a suit, and the character b before it is a number
+abbrev pub isLetter : ℕ → ℕ → Bool
+isLetter b c = isNumber b && ltb (suitOf c) 4
 
--- so does each character
-abbrev pub readAll : List ℕ → Bool
-readAll [] = true
-readAll (c ∷ cs) = isRead (c ∷ cs) && readAll cs
+-- the first character of a text names a tile, or is the letter of a suit right behind a number; b is the character before the text
+abbrev pub isGood : ℕ → List ℕ → Bool
+isGood b [] = true
+isGood b (c ∷ cs) = ltb (readAt (c ∷ cs)) 34 || isLetter b c
+
+-- so with each character
+abbrev pub goodFrom : ℕ → List ℕ → Bool
+goodFrom b [] = true
+goodFrom b (c ∷ cs) = isGood b (c ∷ cs) && goodFrom c cs
+
+-- the character before a place of a word; before the first, the character 0, which is no number
+abbrev pub charBefore : List ℕ → ℕ → ℕ
+charBefore w i = getD (0 ∷ w) i 0
+
+-- a good word of tiles: each character names a tile, or is the letter of a suit right behind a number
+abbrev pub isGoodWord : List ℕ → Bool
+isGoodWord w = goodFrom 0 w

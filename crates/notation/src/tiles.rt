@@ -1,12 +1,11 @@
 // Words of tiles, as 222333444m567p88s: numbers, and behind them the letter of their suit, in any case.
 ghost use mathlib.Core.Path.{_≡_};
-ghost use mathlib.Core.Bool.{true};
 ghost use Prim.Native.Nat.{ℕ, _<_};
 ghost use lib.ListN.{length, drop, getD};
 ghost use lib.Dec.{eqb};
 ghost use Rattle.lists.specs.Fold.{one};
 ghost use Rattle.hand.specs.Counts.{held};
-ghost use Rattle.notation.specs.Words.{isNumber, suitOf, suitAfter, tileOf, readAt, tilesIn, addTo, Counted, isRead, readAll};
+ghost use Rattle.notation.specs.Words.{isNumber, suitOf, suitAfter, tileOf, readAt, tilesIn, addTo, Counted, isLetter, isGood, charBefore, isGoodWord};
 use crate::faults;
 
 // Is the character one of 0 to 9?
@@ -120,6 +119,7 @@ fn fault_of_number(c: u8, suit: u8) -> u8
 // Is there a number before the place?
 fn is_after_number(word: &[u8], i: usize) -> bool
     requires { ⌜ i < length (now word) ⌝ }
+    ensures { λ r. ⌜ r ≡ isNumber (charBefore (now (word .entry)) i) ⌝ }
 {
     if i == 0 {
         return false;
@@ -127,10 +127,10 @@ fn is_after_number(word: &[u8], i: usize) -> bool
     is_number(word[i - 1])
 }
 
-// What is wrong with a character that is no number.
+// What is wrong with a character that is no number, or 0 for the letter of a suit right behind a number.
 fn fault_of_letter(word: &[u8], i: usize) -> u8
     requires { ⌜ i < length (now word) ⌝ }
-    ensures { λ r. ⌜ (r ≡ 0 → suitOf (getD (now (word .entry)) i 0) < 4) ⌝ }
+    ensures { λ r. ⌜ eqb r 0 ≡ isLetter (charBefore (now (word .entry)) i) (getD (now (word .entry)) i 0) ⌝ }
 {
     if 4 <= suit_of(word[i]) {
         return faults::NO_TILES;
@@ -144,7 +144,7 @@ fn fault_of_letter(word: &[u8], i: usize) -> u8
 // What is wrong with a word of tiles at a place, or 0.
 fn fault_at(word: &[u8], i: usize) -> u8
     requires { ⌜ i < length (now word) ⌝ }
-    ensures { λ r. ⌜ (r ≡ 0 → isRead (drop i (now (word .entry))) ≡ true) ⌝ }
+    ensures { λ r. ⌜ eqb r 0 ≡ isGood (charBefore (now (word .entry)) i) (drop i (now (word .entry))) ⌝ }
 {
     if tile_at(word, i) < 34 {
         return 0;
@@ -155,9 +155,9 @@ fn fault_at(word: &[u8], i: usize) -> u8
     fault_of_letter(word, i)
 }
 
-// The first fault of a word of tiles, or 0: then each of its numbers names a tile.
+// The first fault of a word of tiles; 0 exactly where each character names a tile or is the letter of a suit right behind a number.
 pub fn check_tiles(word: &[u8]) -> u8
-    ensures { λ r. ⌜ (r ≡ 0 → readAll (now (word .entry)) ≡ true) ⌝ }
+    ensures { λ r. ⌜ eqb r 0 ≡ isGoodWord (now (word .entry)) ⌝ }
 {
     for i in 0..word.len() {
         let fault = fault_at(word, i);

@@ -1,8 +1,9 @@
--- `fault_at` meets its contract: where nothing is wrong, a tile is named or a letter stands there. Assumes nothing.
-use mathlib.Core.Path.{subst}
-use Prim.Native.Nat.{ℕ, _<_}
+-- `fault_at` meets its contract: nothing is wrong where a tile is named, or a letter stands right behind a number. Assumes nothing.
+use mathlib.Core.Path.{sym, _∙_}
 use native.Mathlib.Omega.{arith}
-use Rattle.notation.proofs.Places.{read-tile, read-letter}
+use borrow.Author.Tests.{ne-eqb}
+use Rattle.notation.specs.Words.{charBefore}
+use Rattle.notation.proofs.Places.{good-tile, good-letter, bad-number}
 use borrow.Author.Needs.{needs}
 use Rattle.notation.proofs.tiles.fault_at.Statement.{statement}
 use Rattle.notation.proofs.tiles.fault_at.Tie as tie
@@ -13,8 +14,9 @@ tile-at-requires c κs = search needs
 returns : tie.Need-returns
 returns c =
     let s = c .before .before .before in
-    let low = subst (λ (n : ℕ). n < 34) (c .before .tile-at .ensures) (c .if1 .taken) in
-    λ e. read-tile (s .args .word .now) (s .args .i) (s .pre) low
+    let tile = c .before .tile-at .ensures in
+    let w = s .args .word .now in
+    good-tile w (s .args .i) (s .pre) (charBefore w (s .args .i)) (omega arith)
 
 shared-slice-read-is-number : tie.Need-shared-slice-read-is-number
 shared-slice-read-is-number c = search needs
@@ -32,7 +34,12 @@ fault-of-number-requires : tie.Need-fault-of-number-requires
 fault-of-number-requires c κs = search needs
 
 returns-2 : tie.Need-returns-2
-returns-2 c = λ e. let z = c .fault-of-number .ensures in absurd (omega arith)
+returns-2 c =
+    let s = c .before .before .before .before .before .before .before .before .before in
+    let tile = c .before .before .before .before .before .before .before .tile-at .ensures in
+    let w = s .args .word .now in
+    let number = sym (c .before .before .before .before .is-number .ensures) ∙ c .before .before .before .if2 .taken in
+    ne-eqb (c .fault-of-number .result) 0 (λ e. omega (arith, c .fault-of-number .ensures)) ∙ bad-number w (s .args .i) (s .pre) (charBefore w (s .args .i)) (omega arith) number
 
 fault-of-letter-requires : tie.Need-fault-of-letter-requires
 fault-of-letter-requires c κs = search needs
@@ -40,7 +47,9 @@ fault-of-letter-requires c κs = search needs
 returns-3 : tie.Need-returns-3
 returns-3 c =
     let s = c .before .before .before .before .before .before .before in
-    λ e. read-letter (s .args .word .now) (s .args .i) (s .pre) (c .fault-of-letter .ensures e)
+    let tile = c .before .before .before .before .before .tile-at .ensures in
+    let w = s .args .word .now in
+    c .fault-of-letter .ensures ∙ good-letter w (s .args .i) (s .pre) (charBefore w (s .args .i)) (omega arith)
 
 pub fault-at-spec : {M : Type 1} → statement M
 fault-at-spec =
