@@ -33,7 +33,7 @@ and-false : (b : Bool) → b && false ≡ false
 and-false true = refl
 and-false false = refl
 
--- ---- the letter c of a suit right behind the number b
+-- ---- the letter c of a suit right behind the number b: yes; no suit; no number before it
 pub letter : (b c : ℕ) → isNumber b ≡ true → suitOf c < 4 → true ≡ isLetter b c
 letter b c e h = sym (ap₂ _&&_ e (lt-ltb (suitOf c) 4 h))
 
@@ -86,6 +86,7 @@ module _ (w : List ℕ) (i : ℕ) (h : i < length w) where
   pub good-letter : (b : ℕ) → 34 ≤ readAt (drop i w) → isLetter b (getD w i 0) ≡ isGood b (drop i w)
   good-letter b k = sym (good-here b ∙ ap (λ (a : Bool). a || isLetter b (getD w i 0)) (le-ltb (readAt (drop i w)) 34 k))
 
+  -- a number that names no tile is not good
   pub bad-number : (b : ℕ) → 34 ≤ readAt (drop i w) → isNumber (getD w i 0) ≡ true → false ≡ isGood b (drop i w)
   bad-number b k e = let s = no-letter (getD w i 0) e in no-suit b (getD w i 0) (omega arith) ∙ good-letter b k
 
@@ -95,9 +96,11 @@ module _ (w : List ℕ) (i : ℕ) (h : i < length w) where
       subst (λ (l : List ℕ). goodFrom b l ≡ isGood b l && goodFrom (getD w i 0) (drop (i + 1) w)) (sym here) refl
       ∙ ap (λ (n : ℕ). isGood b (drop i w) && goodFrom (getD (0 ∷ w) n 0) (drop (i + 1) w)) (sym (add-one i))
 
+  -- behind a good character, the rest decides
   pub good-next : (b : ℕ) → isGood b (drop i w) ≡ true → goodFrom (charBefore w (i + 1)) (drop (i + 1) w) ≡ goodFrom b (drop i w)
   good-next b e = sym (from-here b ∙ ap (λ (a : Bool). a && goodFrom (charBefore w (i + 1)) (drop (i + 1) w)) e)
 
+  -- a character that is not good spoils it
   pub bad-from : (b : ℕ) → isGood b (drop i w) ≡ false → false ≡ goodFrom b (drop i w)
   bad-from b e = sym (from-here b ∙ ap (λ (a : Bool). a && goodFrom (charBefore w (i + 1)) (drop (i + 1) w)) e)
 

@@ -68,6 +68,6 @@ goodFrom b (c ∷ cs) = isGood b (c ∷ cs) && goodFrom c cs
 abbrev pub charBefore : List ℕ → ℕ → ℕ
 charBefore w i = getD (0 ∷ w) i 0
 
--- a good word of tiles: each character names a tile, or is the letter of a suit right behind a number
+-- a good word of tiles: each character names a tile, or is the letter of a suit right behind a number. An empty one is good too
 abbrev pub isGoodWord : List ℕ → Bool
 isGoodWord w = goodFrom 0 w
