@@ -2,14 +2,14 @@
 -- there are fewer than three triplets and kans, each yaku that needs them is not there. Assumes nothing.
 use mathlib.Core.Path.{_≡_, sym, subst, refl, ap, _∙_}
 use mathlib.Core.Bool.{Bool, true, false, _&&_, _||_, not}
-use mathlib.Core.List.{List, [], _∷_, map}
+use mathlib.Core.List.{List, [], _∷_}
 use Prim.Native.Nat.{ℕ, suc, _+_, _*_, _<_, _≤_}
 use native.Mathlib.Nat.{zero-mul}
 use native.Mathlib.Omega.{arith}
 use lib.Dec.{T, eqb, leb, ltb, eqb→eq, leb→le, le→leb, lit≤}
-use lib.ListN.{length, replicate}
+use lib.ListN.{length}
 use borrow.Author.Tests.{eqb-true, leb-false, ne-eqb}
-use Rattle.lists.specs.Fold.{all, any, count, one, upFrom}
+use Rattle.lists.specs.Fold.{all, any, count, one}
 use Rattle.lists.proofs.Finite.{and-left, and-right, and-both, or-elim, T→true, ¬T→false}
 use Rattle.tile.specs.Tile.{isDragon, isHonor, isWind}
 use Rattle.meld.specs.declared.Meld.{Meld}
@@ -23,6 +23,7 @@ use Rattle.structure.specs.Structure.{read, readingOf}
 use Rattle.wait.specs.Wait.{weight}
 use Rattle.wait.specs.Concealed.{concealed, spared}
 use Rattle.meld_yaku.specs.declared.SetYaku.{SetYaku}
+use Rattle.meld_yaku.specs.declared.Yakuhai.{Yakuhai}
 use Rattle.meld_yaku.specs.Melds.{setOf, yakuhai, toitoi, kans, dragons, winds, sanAnkou, threeSuits, sanshokuDoukou}
 use Rattle.meld_yaku.specs.Yakuman.{suuankou, daisangen, shousuushii, daisuushii}
 use Rattle.meld_yaku.specs.Standard.{ofStandard, yakuhaiOf}
@@ -67,7 +68,23 @@ module _ (w : GameContext) (ms : List Meld) (none : any (setOf isHonor) ms ≡ f
   no-tally ps Chiitoitsu t h = refl
   no-tally ps (Kokushi p) t h = refl
 
-pub no-tallies : (w : GameContext) (h : Hand) → any (setOf isHonor) (h .melds) ≡ false → replicate 7 0 ≡ map (yakuhaiOf w (readingOf h)) (upFrom 7 27)
+-- the tallies of the seven honors, for any reading
+abbrev yakuhaiAll : GameContext → Reading → Yakuhai
+yakuhaiAll w r =
+    record {
+      east = yakuhaiOf w r 27;
+      south = yakuhaiOf w r 28;
+      west = yakuhaiOf w r 29;
+      north = yakuhaiOf w r 30;
+      white = yakuhaiOf w r 31;
+      green = yakuhaiOf w r 32;
+      red = yakuhaiOf w r 33;
+    }
+
+abbrev noYakuhai : Yakuhai
+noYakuhai = record { east = 0; south = 0; west = 0; north = 0; white = 0; green = 0; red = 0 }
+
+pub no-tallies : (w : GameContext) (h : Hand) → any (setOf isHonor) (h .melds) ≡ false → noYakuhai ≡ yakuhaiAll w (readingOf h)
 no-tallies w h none =
     let tally = no-tally w (h .melds) none (h .pairs) (h .structure) in
     cc (tally 27 tt, tally 28 tt, tally 29 tt, tally 30 tt, tally 31 tt, tally 32 tt, tally 33 tt)

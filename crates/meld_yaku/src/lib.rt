@@ -3,10 +3,10 @@
 use wait::how_many;
 ghost use mathlib.Core.Path.{_≡_};
 ghost use mathlib.Core.Bool.{not, _&&_, _||_};
-ghost use mathlib.Core.List.{[], _∷_, map};
+ghost use mathlib.Core.List.{[], _∷_};
 ghost use Prim.Native.Nat.{_+_, _*_, _/_, _%_, _≤_};
 ghost use lib.Dec.{eqb, leb, ltb};
-ghost use Rattle.lists.specs.Fold.{all, any, count, one, upFrom};
+ghost use Rattle.lists.specs.Fold.{all, any, count, one};
 ghost use Rattle.tile.specs.Tile.{isDragon, isHonor, isStart, isTerminal, isTerminalOrHonor, isWind};
 ghost use Rattle.meld.specs.Meld.{isSequence, isTripletOrKan};
 ghost use Rattle.structure.specs.Structure.{readingOf};
@@ -209,23 +209,50 @@ fn has_honor_set(ms: [meld::Meld; 4]) -> bool
     is_honor_set(ms[0]) | (is_honor_set(ms[1]) | (is_honor_set(ms[2]) | is_honor_set(ms[3])))
 }
 
-// The tallies of the seven honors, East to Red. Most hands have no triplet or kan of an honor.
-pub fn check_all_yakuhai(h: structure::Hand, w: context::GameContext) -> [u8; 7]
-    ensures { λ r. ⌜ r ≡ map (yakuhaiOf w (readingOf h)) (upFrom 7 27) ⌝ }
+// The tallies of the seven honors.
+pub struct Yakuhai {
+    pub east: u8,
+    pub south: u8,
+    pub west: u8,
+    pub north: u8,
+    pub white: u8,
+    pub green: u8,
+    pub red: u8,
+}
+
+// The tallies of the seven honors: all 0 at once where no meld is a triplet or kan of an honor.
+pub fn check_all_yakuhai(h: structure::Hand, w: context::GameContext) -> Yakuhai
+    ensures { λ r. ⌜ r ≡ record {
+      east = yakuhaiOf w (readingOf h) 27;
+      south = yakuhaiOf w (readingOf h) 28;
+      west = yakuhaiOf w (readingOf h) 29;
+      north = yakuhaiOf w (readingOf h) 30;
+      white = yakuhaiOf w (readingOf h) 31;
+      green = yakuhaiOf w (readingOf h) 32;
+      red = yakuhaiOf w (readingOf h) 33;
+    } ⌝ }
 {
     let ms = h.melds;
     if !has_honor_set(ms) {
-        return [0; 7];
+        return Yakuhai {
+            east: 0,
+            south: 0,
+            west: 0,
+            north: 0,
+            white: 0,
+            green: 0,
+            red: 0,
+        };
     }
-    [
-        check_yakuhai(h, w, 27),
-        check_yakuhai(h, w, 28),
-        check_yakuhai(h, w, 29),
-        check_yakuhai(h, w, 30),
-        check_yakuhai(h, w, 31),
-        check_yakuhai(h, w, 32),
-        check_yakuhai(h, w, 33),
-    ]
+    Yakuhai {
+        east: check_yakuhai(h, w, 27),
+        south: check_yakuhai(h, w, 28),
+        west: check_yakuhai(h, w, 29),
+        north: check_yakuhai(h, w, 30),
+        white: check_yakuhai(h, w, 31),
+        green: check_yakuhai(h, w, 32),
+        red: check_yakuhai(h, w, 33),
+    }
 }
 
 // How many triplets and kans there are.
