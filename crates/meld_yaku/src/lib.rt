@@ -6,7 +6,7 @@ ghost use mathlib.Core.Bool.{not, _&&_, _||_};
 ghost use mathlib.Core.List.{[], _∷_};
 ghost use Prim.Native.Nat.{_+_, _*_, _/_, _%_, _≤_};
 ghost use lib.Dec.{eqb, leb, ltb};
-ghost use Rattle.lists.specs.Fold.{all, any, count, one};
+ghost use Rattle.lists.specs.Fold.{all, any, count};
 ghost use Rattle.tile.specs.Tile.{isDragon, isHonor, isStart, isTerminal, isTerminalOrHonor, isWind};
 ghost use Rattle.meld.specs.Meld.{isSequence, isTripletOrKan};
 ghost use Rattle.structure.specs.Structure.{readingOf};

@@ -280,7 +280,7 @@ impl Said {
     {
         let flags = self.flags;
         context::GameContext {
-            win_type: wait::one_if(self.tsumo),
+            win_type: lists::one_if(self.tsumo),
             winning_tile: self.winning_tile,
             round_wind: 27 + self.round % 4,
             seat_wind: 27 + self.seat % 4,

@@ -1,5 +1,5 @@
 // Waits (wait.rs of agari): what the winning tile completed, pinfu, and which triplets are concealed.
-pub use lists::one_if;
+use lists::one_if;
 ghost use mathlib.Core.Path.{_≡_};
 ghost use Prim.Native.Nat.{_+_, _*_, _≤_};
 ghost use lib.Dec.{eqb};

@@ -91,12 +91,12 @@ fn one_han(
     let rinshan = w.is_rinshan & tsumo;
     let honors = meld_yaku::check_all_yakuhai(h, w);
     [
-        wait::one_if(riichi & !w.is_double_riichi),
-        wait::one_if(riichi & (w.is_ippatsu & !rinshan)),
-        wait::one_if(tsumo & !opened),
-        wait::one_if(unless_orphans(s.tanyao, h)),
-        wait::one_if(wait::is_pinfu(h, w, opened)),
-        wait::one_if(meld_yaku::check_iipeikou(h, opened)),
+        lists::one_if(riichi & !w.is_double_riichi),
+        lists::one_if(riichi & (w.is_ippatsu & !rinshan)),
+        lists::one_if(tsumo & !opened),
+        lists::one_if(unless_orphans(s.tanyao, h)),
+        lists::one_if(wait::is_pinfu(h, w, opened)),
+        lists::one_if(meld_yaku::check_iipeikou(h, opened)),
         honors.east,
         honors.south,
         honors.west,
@@ -104,10 +104,10 @@ fn one_han(
         honors.white,
         honors.green,
         honors.red,
-        wait::one_if(rinshan),
-        wait::one_if(w.is_chankan & !tsumo),
-        wait::one_if(w.is_last_tile & (tsumo & !w.is_rinshan)),
-        wait::one_if(w.is_last_tile & !tsumo),
+        lists::one_if(rinshan),
+        lists::one_if(w.is_chankan & !tsumo),
+        lists::one_if(w.is_last_tile & (tsumo & !w.is_rinshan)),
+        lists::one_if(w.is_last_tile & !tsumo),
     ]
 }
 
@@ -122,21 +122,21 @@ fn more_han(
 {
     let sets = meld_yaku::check_sets(h, w);
     [
-        wait::one_if((w.is_riichi & !opened) & w.is_double_riichi),
-        wait::one_if(sets.toitoi),
-        wait::one_if(meld_yaku::check_sanshoku(h)),
-        wait::one_if(sets.sanshoku_doukou),
-        wait::one_if(meld_yaku::check_ittsu(h)),
-        wait::one_if(is_chiitoitsu(h)),
-        wait::one_if(meld_yaku::check_chanta(h)),
-        wait::one_if(sets.sanankou),
-        wait::one_if(sets.sankantsu),
-        wait::one_if(unless_orphans(s.honroutou, h)),
-        wait::one_if(meld_yaku::check_shousangen(h)),
-        wait::one_if(unless_orphans(s.honitsu, h)),
-        wait::one_if(meld_yaku::check_junchan(h)),
-        wait::one_if(meld_yaku::check_ryanpeikou(h, opened)),
-        wait::one_if(unless_orphans(s.chinitsu, h)),
+        lists::one_if((w.is_riichi & !opened) & w.is_double_riichi),
+        lists::one_if(sets.toitoi),
+        lists::one_if(meld_yaku::check_sanshoku(h)),
+        lists::one_if(sets.sanshoku_doukou),
+        lists::one_if(meld_yaku::check_ittsu(h)),
+        lists::one_if(is_chiitoitsu(h)),
+        lists::one_if(meld_yaku::check_chanta(h)),
+        lists::one_if(sets.sanankou),
+        lists::one_if(sets.sankantsu),
+        lists::one_if(unless_orphans(s.honroutou, h)),
+        lists::one_if(meld_yaku::check_shousangen(h)),
+        lists::one_if(unless_orphans(s.honitsu, h)),
+        lists::one_if(meld_yaku::check_junchan(h)),
+        lists::one_if(meld_yaku::check_ryanpeikou(h, opened)),
+        lists::one_if(unless_orphans(s.chinitsu, h)),
     ]
 }
 
@@ -169,21 +169,21 @@ fn yakuman_tallies(
     let tsumo = w.is_tsumo();
     let dealer = w.is_dealer();
     [
-        wait::one_if(w.is_tenhou & (tsumo & (!opened & dealer))),
-        wait::one_if(w.is_chiihou & (tsumo & (!opened & !dealer))),
-        wait::one_if(won_beside_pair(h, w)),
-        wait::one_if(meld_yaku::check_suuankou(h, w)),
-        wait::one_if(meld_yaku::check_daisangen(h)),
-        wait::one_if(meld_yaku::check_shousuushii(h)),
-        wait::one_if(meld_yaku::check_daisuushii(h)),
-        wait::one_if(unless_orphans(s.tsuuiisou, h)),
-        wait::one_if(unless_orphans(s.chinroutou, h)),
-        wait::one_if(if_standard(s.ryuuiisou, h)),
-        wait::one_if(if_standard(!opened & (s.nine_gates & !s.pure_wait), h)),
-        wait::one_if(meld_yaku::check_kantsu(h, 4)),
-        wait::one_if(won_on_pair(h, w)),
-        wait::one_if(meld_yaku::check_suuankou_tanki(h, w)),
-        wait::one_if(if_standard(!opened & (s.nine_gates & s.pure_wait), h)),
+        lists::one_if(w.is_tenhou & (tsumo & (!opened & dealer))),
+        lists::one_if(w.is_chiihou & (tsumo & (!opened & !dealer))),
+        lists::one_if(won_beside_pair(h, w)),
+        lists::one_if(meld_yaku::check_suuankou(h, w)),
+        lists::one_if(meld_yaku::check_daisangen(h)),
+        lists::one_if(meld_yaku::check_shousuushii(h)),
+        lists::one_if(meld_yaku::check_daisuushii(h)),
+        lists::one_if(unless_orphans(s.tsuuiisou, h)),
+        lists::one_if(unless_orphans(s.chinroutou, h)),
+        lists::one_if(if_standard(s.ryuuiisou, h)),
+        lists::one_if(if_standard(!opened & (s.nine_gates & !s.pure_wait), h)),
+        lists::one_if(meld_yaku::check_kantsu(h, 4)),
+        lists::one_if(won_on_pair(h, w)),
+        lists::one_if(meld_yaku::check_suuankou_tanki(h, w)),
+        lists::one_if(if_standard(!opened & (s.nine_gates & s.pure_wait), h)),
     ]
 }
 
