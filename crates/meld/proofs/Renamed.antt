@@ -2,12 +2,13 @@
 use mathlib.Core.Path.{_≡_, refl, sym, subst, ap, _∙_}
 use mathlib.Core.Bool.{Bool, true, false, _&&_, _||_, not, cond, Bool·beq}
 use mathlib.Core.List.{List, map, List·Permᴰ}
-use Prim.Native.Nat.{ℕ, _<_}
+use Prim.Native.Nat.{ℕ, _-_, _<_}
 use lib.Dec.{T, eqb, leb, ltb, eqb→eq, leb→le}
 use borrow.Author.Tests.{le-ltb}
 use Rattle.lists.specs.Fold.{allBelow, one, all, any, sum, count, every, some, total}
 use Rattle.lists.proofs.Finite.{at, beq→eq, and-left, and-right, or-skip}
 use Rattle.lists.proofs.Permuted.{every-perm, some-perm, total-perm, map-perm, map-moved}
+use Rattle.tile.specs.Tile.{valueOf}
 use Rattle.tile.specs.declared.Renaming.{Renaming}
 use Rattle.tile.specs.Renaming.{ren, back}
 use Rattle.tile.proofs.Renamings.{allRen, ren-at, ren-eqb}
@@ -78,6 +79,21 @@ ren-uses ρ m v t h = go (isSequence m) refl
     go : (b : Bool) → isSequence m ≡ b → uses (renMeld ρ m) (ren ρ t) ≡ uses m t
     go true e = ren-uses-seq ρ m v t h (subst T (sym e) tt)
     go false e = ren-uses-trip ρ m v t h e
+
+-- ---- a renamed sequence starts at the same number, or, mirrored, one that starts at s starts at 8 - s
+abbrev startsSo : Renaming → Meld → Bool
+startsSo ρ m = eqb (valueOf (renMeld ρ m .tile)) (cond (ρ .numbers .mirror) (8 - valueOf (m .tile)) (valueOf (m .tile)))
+
+start-test : T (allRen (λ ρ. allMelds (λ m. not (isSequence m) || startsSo ρ m)))
+start-test = tt
+
+pub sequence-start :
+    (ρ : Renaming) (m : Meld) → T (isMeld m) → T (isSequence m)
+    → valueOf (renMeld ρ m .tile) ≡ cond (ρ .numbers .mirror) (8 - valueOf (m .tile)) (valueOf (m .tile))
+sequence-start ρ m v i =
+    eqb→eq _ _
+    (or-skip (isSequence m) (startsSo ρ m) i
+    (melds-at (λ m. not (isSequence m) || startsSo ρ m) (ren-at (λ ρ. allMelds (λ m. not (isSequence m) || startsSo ρ m)) start-test ρ) m v))
 
 -- ---- the tile of a renamed triplet or kan
 pub not-sequence : (m : Meld) → T (isTripletOrKan m) → isSequence m ≡ false
