@@ -1,5 +1,5 @@
 -- A run of stores from a place on: one store, and the rest; and what it makes of a list. Assumes nothing.
-use mathlib.Core.Path.{_≡_, sym, ap, _∙_}
+use mathlib.Core.Path.{_≡_, sym, ap, ap₂, _∙_}
 use mathlib.Core.List.{List, _++_}
 use Prim.Native.Nat.{ℕ, suc, _+_, _<_, _≤_}
 use native.Mathlib.Numerals.{add-one}
@@ -14,6 +14,12 @@ module _ (d s : List ℕ) where
       ap (sets d p) (drop-cons s i 0 h)
       ∙ ap (λ (k : ℕ). sets (set d p (getD s i 0)) k (drop (suc i) s)) (sym (add-one p))
       ∙ ap (λ (k : ℕ). sets (set d p (getD s i 0)) (p + 1) (drop k s)) (sym (add-one i))
+
+  -- where nothing is stored yet, the whole of s is left
+  pub sets-start : (at i : ℕ) → i ≡ 0 → sets d (at + i) (drop i s) ≡ sets d at s
+  sets-start at i h =
+      let e : at + i ≡ at = omega (arith, h) in
+      ap₂ (λ (k j : ℕ). sets d k (drop j s)) e h
 
   -- the whole of s is stored from at on
   pub sets-turn : (at i : ℕ) → i < length s → sets d (at + i) (drop i s) ≡ sets (set d (at + i) (getD s i 0)) (at + (i + 1)) (drop (i + 1) s)

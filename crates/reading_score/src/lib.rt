@@ -1,8 +1,5 @@
 // The score of a reading (calculate_score of agari's scoring.rs, with the tallies of its yaku), and its rank in the choice.
 ghost use mathlib.Core.Path.{_≡_};
-ghost use mathlib.Core.Bool.{not};
-ghost use lib.Dec.{eqb};
-ghost use Rattle.lists.specs.Fold.{any};
 ghost use Rattle.structure.specs.Structure.{readingOf};
 ghost use Rattle.reading_score.specs.Score.{scoreOf, rank};
 
@@ -43,23 +40,12 @@ pub fn calculate_score(
     }
 }
 
-// Is one of the tallies above 0?
-fn has_yaku(tallies: [u8; 47]) -> bool
-    ensures { λ r. ⌜ r ≡ any (λ n. not (eqb n 0)) tallies ⌝ }
-{
-    let mut found = false;
-    for i in 0..47 {
-        found = found | !(tallies[i] == 0);
-    }
-    found
-}
-
 // The rank of a score in the choice: its total, then a yakuman before none, han, fu, as one number; 0 without a yaku.
 pub fn rank(x: ScoringResult) -> u64
     ensures { λ r. ⌜ r ≡ rank x ⌝ }
 {
     let tallies = x.tallies;
-    if !has_yaku(tallies) {
+    if !lists::any_above_zero(&tallies) {
         return 0;
     }
     let payment = x.payment;

@@ -173,18 +173,6 @@ fn kind_of(x: u16) -> u8
     (x % 7) as u8
 }
 
-// Copies bytes into the buffer.
-pub fn put_all(out: &mut [u8], at: usize, src: &[u8])
-    requires { ⌜ at + length (now src) ≤ length (now out) ⌝ }
-    ensures { λ _. ⌜ now (out .exit) ≡ sets (now (out .entry)) at (now (src .entry)) ⌝ }
-{
-    let mut i = 0;
-    while i < src.len() {
-        out[at + i] = src[i];
-        i += 1;
-    }
-}
-
 // Writes the record of a standard reading: the pair and the melds in the slots.
 pub fn write_standard(out: &mut [u8], at: usize, pair: u8, slots: [u16; 4])
     requires { ⌜ at + 13 ≤ length (now out) ⌝ }
@@ -194,7 +182,7 @@ pub fn write_standard(out: &mut [u8], at: usize, pair: u8, slots: [u16; 4])
     let b = slots[1];
     let c = slots[2];
     let d = slots[3];
-    put_all(
+    lists::put_all(
         out,
         at,
         &[

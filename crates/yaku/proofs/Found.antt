@@ -13,7 +13,7 @@ use Rattle.yaku.specs.Tally.{yakuman, isYakuman, ordinary, tallies}
 use Rattle.yaku.specs.Han.{hanOf, dot, han}
 
 -- a tally above 0
-abbrev pub there : ℕ → Bool
+abbrev there : ℕ → Bool
 there n = not (eqb n 0)
 
 any-ones : (bs : List Bool) → any there (map one bs) ≡ any (λ b. b) bs

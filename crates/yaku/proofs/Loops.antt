@@ -1,22 +1,12 @@
--- What a turn of each loop does, and what the stores of the three parts make. Assumes nothing.
+-- What a turn of the sum's loop does, and what the stores of the three parts make. Assumes nothing.
 use mathlib.Core.Path.{_≡_, refl, sym, ap, ap₂, _∙_}
-use mathlib.Core.Bool.{Bool, true, false, _||_, or-false}
 use mathlib.Core.List.{List, _++_}
 use Prim.Native.Nat.{ℕ, _+_, _*_, _<_, _≤_}
 use native.Mathlib.Numerals.{add-one}
 use lib.ListN.{length, getD, drop, replicate, drop-of-length-le}
 use lib.Seq.{drop-cons, sets}
-use Rattle.lists.specs.Fold.{any}
 use Rattle.lists.proofs.Elements.{elements}
 use Rattle.yaku.specs.Han.{dot}
-
--- ---- is there one that passes the question: b is the answer so far
-pub any-turn : (q : ℕ → Bool) (l : List ℕ) (i : ℕ) (b : Bool) → i < length l → ((b || q (getD l i 0)) || any q (drop (i + 1) l)) ≡ (b || any q (drop i l))
-any-turn q l i true h = refl
-any-turn q l i false h = rw (add-one, drop-cons l i 0)
-
-pub any-end : (q : ℕ → Bool) (l : List ℕ) (i : ℕ) (b : Bool) → length l ≤ i → (b || any q (drop i l)) ≡ b
-any-end q l i b h = ap (λ (m : List ℕ). b || any q m) (drop-of-length-le l {i = i} h) ∙ or-false b
 
 -- ---- the sum of values, each as often as its tally says, from place i on
 unfoldable pub dotFrom : List ℕ → List ℕ → ℕ → ℕ

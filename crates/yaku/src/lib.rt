@@ -1,12 +1,10 @@
 // The tallies of a reading and their han (yaku.rs of agari: detect_yaku_with_context).
 ghost use mathlib.Core.Path.{_≡_};
-ghost use mathlib.Core.Bool.{true, false, not, cond};
+ghost use mathlib.Core.Bool.{true, false, cond};
 ghost use mathlib.Core.List.{_++_, map};
-ghost use Prim.Native.Nat.{_+_, _≤_};
-ghost use lib.Dec.{eqb};
-ghost use lib.ListN.{length, replicate};
-ghost use lib.Seq.{sets};
-ghost use Rattle.lists.specs.Fold.{any, one};
+ghost use Prim.Native.Nat.{_≤_};
+ghost use lib.ListN.{replicate};
+ghost use Rattle.lists.specs.Fold.{one};
 ghost use Rattle.structure.specs.Structure.{readingOf};
 ghost use Rattle.meld_yaku.specs.Standard.{ofStandard};
 ghost use Rattle.yaku.specs.Tally.{isChiitoitsu, unlessOrphans, orphansWon, oneHan, moreHan, yakuman, isYakuman, ordinary, tallies};
@@ -187,27 +185,6 @@ fn yakuman_tallies(
     ]
 }
 
-// Is one of the tallies above 0?
-fn any_tally(tallies: [u8; 15]) -> bool
-    ensures { λ r. ⌜ r ≡ any (λ n. not (eqb n 0)) tallies ⌝ }
-{
-    let mut found = false;
-    for i in 0..15 {
-        found = found | !(tallies[i] == 0);
-    }
-    found
-}
-
-// Stores the part from `at` on.
-fn put(out: &mut [u8; 47], at: usize, part: &[u8])
-    requires { ⌜ at + length (now part) ≤ 47 ⌝ }
-    ensures { λ _. ⌜ now (out .exit) ≡ sets (now (out .entry)) at (now (part .entry)) ⌝ }
-{
-    for i in 0..part.len() {
-        out[at + i] = part[i];
-    }
-}
-
 // All tallies, from those of yakuman: a yakuman leaves every other yaku out.
 fn all_tallies(
     h: structure::Hand,
@@ -220,14 +197,14 @@ fn all_tallies(
     ensures { λ r. ⌜ r ≡ cond «is_yakuman» (replicate 32 0) (ordinary w opened s (readingOf h)) ++ yakuman ⌝ }
 {
     let mut all = [0u8; 47];
-    put(&mut all, 32, &yakuman);
+    lists::put_all(&mut all, 32, &yakuman);
     if is_yakuman {
         return all;
     }
     let one_han = one_han(h, s, w, opened);
     let more_han = more_han(h, s, w, opened);
-    put(&mut all, 0, &one_han);
-    put(&mut all, 17, &more_han);
+    lists::put_all(&mut all, 0, &one_han);
+    lists::put_all(&mut all, 17, &more_han);
     all
 }
 
@@ -371,7 +348,7 @@ pub fn detect_yaku_with_context(
     ensures { λ r. ⌜ (r .tallies ≡ tallies w opened s (readingOf h)) × ((r .han ≡ han w opened s (readingOf h)) × (r .«is_yakuman» ≡ isYakuman w opened s (readingOf h))) ⌝ }
 {
     let yakuman = yakuman_tallies(h, s, w, opened);
-    let is_yakuman = any_tally(yakuman);
+    let is_yakuman = lists::any_above_zero(&yakuman);
     let tallies = all_tallies(h, s, w, opened, yakuman, is_yakuman);
     let han = sum_of(han_table(opened), tallies);
     YakuResult {

@@ -13,8 +13,11 @@ use Rattle.yaku.proofs.detect_yaku_with_context.Tie as tie
 yakuman-tallies-requires : tie.Need-yakuman-tallies-requires
 yakuman-tallies-requires c κs = search needs
 
-any-tally-requires : tie.Need-any-tally-requires
-any-tally-requires c κs = search needs
+slice-aggregate-any-above-zero : tie.Need-slice-aggregate-any-above-zero
+slice-aggregate-any-above-zero c = search needs
+
+any-above-zero-requires : tie.Need-any-above-zero-requires
+any-above-zero-requires c κs = search needs
 
 all-tallies-requires : tie.Need-all-tallies-requires
 all-tallies-requires c κs = search needs
@@ -27,17 +30,17 @@ sum-of-requires c κs = search needs
 
 returns : tie.Need-returns
 returns c =
-    let a = c .before .before .before .before .before .args in
+    let a = c .before .before .before .before .before .before .args in
     all-found (a .w) (a .opened) (a .s) (readingOf (a .h))
-    (c .before .before .before .before .yakuman-tallies .ensures)
-    (c .before .before .before .any-tally .ensures)
+    (c .before .before .before .before .before .yakuman-tallies .ensures)
+    (c .before .before .before .any-above-zero .ensures)
     (c .before .before .all-tallies .ensures)
     (c .before .han-table .ensures)
     (c .sum-of .ensures)
 
-cast-t10 : tie.Need-cast-t10
-cast-t10 c =
-    let start = c .before .before .before .before .before in
+cast-t13 : tie.Need-cast-t13
+cast-t13 c =
+    let start = c .before .before .before .before .before .before in
     let a = start .args in
     let four = sym (length-map (a .h .melds) _) ∙ start .good .0 .1 .1 .1 .0 .1 .0 .1 in
     let small = han-small (a .w) (a .opened) (a .s) (readingOf (a .h)) (short-reading (a .h) four) in
@@ -49,9 +52,10 @@ detect-yaku-with-context-spec =
     tie.close
     (tie.spec
     yakuman-tallies-requires
-    any-tally-requires
+    slice-aggregate-any-above-zero
+    any-above-zero-requires
     all-tallies-requires
     han-table-requires
     sum-of-requires
-    cast-t10
+    cast-t13
     returns)

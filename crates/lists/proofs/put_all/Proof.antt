@@ -1,14 +1,13 @@
--- `search::put_all` meets its contract. The invariant: to store what is left of `src` finishes the work. Assumes nothing.
+-- `lists::put_all` meets its contract. The invariant: to store what is left of `src` finishes the work. Assumes nothing.
 use mathlib.Core.Path.{_≡_, refl, sym, ap, _∙_}
-use native.Mathlib.Omega.{arith}
 use Prim.Native.Nat.{ℕ, _+_, _-_, _≤_}
 use mathlib.Core.List.{List}
 use lib.ListN.{length, drop, length-set, drop-of-length-le}
 use lib.Seq.{sets}
-use Rattle.lists.proofs.Stores.{sets-turn}
+use Rattle.lists.proofs.Stores.{sets-start, sets-turn}
 use borrow.Author.Needs.{needs}
-use Rattle.search.proofs.put_all.Statement.{statement}
-use Rattle.search.proofs.put_all.Tie as tie
+use Rattle.lists.proofs.put_all.Statement.{statement}
+use Rattle.lists.proofs.put_all.Tie as tie
 
 abbrev Inv-loop : tie.InvT-loop
 Inv-loop out₀ at src i₀ out i = (i ≤ length src) × (sets out (at + i) (drop i src) ≡ sets out₀ at src) × (length out ≡ length out₀)
@@ -17,7 +16,7 @@ abbrev μ-loop : tie.MeasureT-loop
 μ-loop out₀ at src i₀ out i = length src - i
 
 loop-holds : tie.Need-loop-holds Inv-loop μ-loop
-loop-holds c = (search needs, ap (λ (k : ℕ). sets (c .args .out .now) k (c .args .src .now)) (omega arith), refl)
+loop-holds c = (search needs, search (sets-start, needs), refl)
 
 shared-slice-read-out : tie.Need-shared-slice-read-out Inv-loop μ-loop
 shared-slice-read-out c = search needs
