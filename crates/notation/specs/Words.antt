@@ -24,13 +24,13 @@ unfoldable pub suitAfter : List ℕ → ℕ
 suitAfter [] = 4
 suitAfter (c ∷ cs) = cond (isNumber c) (suitAfter cs) (suitOf c)
 
--- the tile of a number in a suit: 1 to 9 of a suit, 1 to 7 of the honors; 34 where there is none
+-- there is such a tile: 1 to 9 of man, pin and sou, 1 to 7 of the honors
+abbrev pub isNamed : ℕ → ℕ → Bool
+isNamed c s = leb 49 c && (leb c 57 && (ltb s 3 || eqb s 3 && leb c 55))
+
+-- the tile of a number in a suit; 34 where there is none
 unfoldable pub tileOf : ℕ → ℕ → ℕ
-tileOf c s =
-    cond (ltb c 49) 34
-    (cond (ltb 57 c) 34
-    (cond (ltb s 3) (s * 9 + (c - 49))
-    (cond (eqb s 3) (cond (leb 7 (c - 49)) 34 (27 + (c - 49))) 34)))
+tileOf c s = cond (isNamed c s) (s * 9 + (c - 49)) 34
 
 -- the tile that a text names with its first character; 34 where it names none
 abbrev pub readAt : List ℕ → ℕ
@@ -54,7 +54,7 @@ Counted before ts after = (u : ℕ) → u < 34 → held after u ≡ addTo (held 
 abbrev pub isLetter : ℕ → ℕ → Bool
 isLetter b c = isNumber b && ltb (suitOf c) 4
 
--- the first character of a text names a tile, or is the letter of a suit right behind a number; b is the character before the text
+-- the first character of a text names a tile, or is the letter of a suit right after a number; b is the character before the text
 abbrev pub isGood : ℕ → List ℕ → Bool
 isGood b [] = true
 isGood b (c ∷ cs) = ltb (readAt (c ∷ cs)) 34 || isLetter b c
@@ -68,6 +68,6 @@ goodFrom b (c ∷ cs) = isGood b (c ∷ cs) && goodFrom c cs
 abbrev pub charBefore : List ℕ → ℕ → ℕ
 charBefore w i = getD (0 ∷ w) i 0
 
--- a good word of tiles: each character names a tile, or is the letter of a suit right behind a number. An empty one is good too
+-- a good word of tiles: each character names a tile, or is the letter of a suit right after a number. An empty one is good too
 abbrev pub isGoodWord : List ℕ → Bool
 isGoodWord w = goodFrom 0 w

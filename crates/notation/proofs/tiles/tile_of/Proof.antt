@@ -1,4 +1,5 @@
--- `tile_of` meets its contract: the tests are made in the definition's order. Assumes nothing.
+-- `tile_of` meets its contract: each branch decides whether there is such a tile. Assumes nothing.
+use native.Mathlib.Omega.{arith}
 use borrow.Author.Tests.{lt-ltb, le-ltb, le-leb, lt-leb, eq-eqb, ne-eqb}
 use Rattle.notation.specs.Words.{tileOf}
 use borrow.Author.Needs.{needs}
@@ -7,11 +8,11 @@ use Rattle.notation.proofs.tiles.tile_of.Tie as tie
 
 returns : tie.Need-returns
 unfolding tileOf
-returns c = simp (lt-ltb _ _ (c .if1 .taken))
+returns c = simp (lt-leb _ _ (c .if1 .taken))
 
 returns-2 : tie.Need-returns-2
 unfolding tileOf
-returns-2 c = simp (le-ltb _ _ (c .before .if1 .left), lt-ltb _ _ (c .if2 .taken))
+returns-2 c = simp (le-leb _ _ (c .before .if1 .left), lt-leb _ _ (c .if2 .taken))
 
 mul-result : tie.Need-mul-result
 mul-result c = search needs
@@ -23,8 +24,8 @@ returns-3 : tie.Need-returns-3
 unfolding tileOf
 returns-3 c =
     simp (
-      le-ltb _ _ (c .before .before .if1 .left),
-      le-ltb _ _ (c .before .if2 .left),
+      le-leb _ _ (c .before .before .if1 .left),
+      le-leb _ _ (c .before .if2 .left),
       lt-ltb _ _ (c .if3 .taken),
     )
 
@@ -32,8 +33,8 @@ returns-4 : tie.Need-returns-4
 unfolding tileOf
 returns-4 c =
     simp (
-      le-ltb _ _ (c .before .before .before .if1 .left),
-      le-ltb _ _ (c .before .before .if2 .left),
+      le-leb _ _ (c .before .before .before .if1 .left),
+      le-leb _ _ (c .before .before .if2 .left),
       le-ltb _ _ (c .before .if3 .left),
       ne-eqb _ _ (c .if4 .taken),
     )
@@ -41,12 +42,13 @@ returns-4 c =
 returns-5 : tie.Need-returns-5
 unfolding tileOf
 returns-5 c =
+    let a = c .before .before .before .before .before .args in
     simp (
-      le-ltb _ _ (c .before .before .before .before .if1 .left),
-      le-ltb _ _ (c .before .before .before .if2 .left),
+      le-leb _ _ (c .before .before .before .before .if1 .left),
+      le-leb _ _ (c .before .before .before .if2 .left),
       le-ltb _ _ (c .before .before .if3 .left),
       eq-eqb _ _ (c .before .if4 .left),
-      le-leb _ _ (c .if5 .taken),
+      lt-leb (a .c) 55 (omega (arith, c .if5 .taken)),
     )
 
 add-result-2 : tie.Need-add-result-2
@@ -55,13 +57,14 @@ add-result-2 c = search needs
 returns-6 : tie.Need-returns-6
 unfolding tileOf
 returns-6 c =
+    let a = c .before .before .before .before .before .args in
     simp (
-      le-ltb _ _ (c .before .before .before .before .if1 .left),
-      le-ltb _ _ (c .before .before .before .if2 .left),
+      le-leb _ _ (c .before .before .before .before .if1 .left),
+      le-leb _ _ (c .before .before .before .if2 .left),
       le-ltb _ _ (c .before .before .if3 .left),
       eq-eqb _ _ (c .before .if4 .left),
-      lt-leb _ _ (c .if5 .left),
-    )
+      le-leb (a .c) 55 (omega (arith, c .if5 .left)),
+    ) (omega (arith, c .before .if4 .left))
 
 pub tile-of-spec : {M : Type 1} → statement M
 tile-of-spec =
