@@ -9,7 +9,8 @@ use Rattle.tile.specs.declared.Suits.the-variants.{SouPinMan}
 use Rattle.tile.specs.declared.Renaming.{Renaming}
 use Rattle.meld.specs.Meld.{meld}
 use Rattle.context.specs.declared.GameContext.{GameContext}
-use Rattle.context.specs.Context.{plain, renWin}
+use Rattle.context.specs.Context.{renWin}
+use Rattle.context.specs.Named.{plain}
 use Rattle.hand.specs.Readings.{meldLists, standardsAt, sevenPairs, thirteenOrphans, readings}
 use Rattle.wait.specs.Wait.{pinfu}
 use Rattle.tile_yaku.specs.Tiles.{tanyao, honroutou, tsuuiisou, chinroutou, ryuuiisou, honitsu, chinitsu, nineGates, pureWait, tileYaku}

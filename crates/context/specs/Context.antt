@@ -1,6 +1,6 @@
 -- A win (GameContext in agari): how it was won, the winning tile, both winds and eight flags. Questions about it, and the win renamed. These are
 -- definitions.
-use mathlib.Core.Bool.{Bool, false, _&&_}
+use mathlib.Core.Bool.{Bool, _&&_}
 use Prim.Native.Nat.{ℕ}
 use lib.Dec.{eqb, ltb}
 use Rattle.tile.specs.Tile.{isWind}
@@ -19,24 +19,6 @@ isDealer w = eqb (w .«seat_wind») 27
 -- the win type is 0, ron, or 1, tsumo, and the round wind and the seat wind are winds
 abbrev pub inRange : GameContext → Bool
 inRange w = ltb (w .«win_type») 2 && (isWind (w .«round_wind») && isWind (w .«seat_wind»))
-
--- a win of the seat South in the round East, without flags, of the given type and with the tile t
-abbrev pub plain : ℕ → ℕ → GameContext
-plain winType t =
-    record {
-      «win_type» = winType;
-      «winning_tile» = t;
-      «round_wind» = 27;
-      «seat_wind» = 28;
-      «is_riichi» = false;
-      «is_double_riichi» = false;
-      «is_ippatsu» = false;
-      «is_rinshan» = false;
-      «is_chankan» = false;
-      «is_last_tile» = false;
-      «is_tenhou» = false;
-      «is_chiihou» = false;
-    }
 
 -- type, winds and flags stay, the winning tile is renamed
 abbrev pub renWin : Renaming → GameContext → GameContext

@@ -1,4 +1,5 @@
 pub mod Counts
+pub mod Named
 pub mod Reading
 pub mod Records
 pub mod Readings

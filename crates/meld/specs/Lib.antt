@@ -1,2 +1,3 @@
 pub mod Meld
+pub mod Named
 pub mod Renamed

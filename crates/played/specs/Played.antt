@@ -4,8 +4,11 @@ use mathlib.Core.List.{List, [], _∷_, _++_}
 use Rattle.scoring.specs.declared.ScoreLevel.the-variants.{Normal, Mangan}
 use Rattle.scoring.specs.declared.Payment.the-variants.{Ron, DealerTsumo, Tsumo}
 use Rattle.scoring.specs.declared.PaymentAnswer.the-variants.{Refused, Paid}
-use Rattle.played.specs.Hand.{man, pin, sou, East, White, mans, pins, sous, orphanTiles, hand, chi, pon, closedKan, addedKan, byRon, byTsumo, dealer, nonDealer, ron, tsumo}
-use Rattle.played.specs.Row.{Row, won, listed, valued, paid, asked, worth, refuses, chooses}
+use Rattle.tile.specs.Named.{man, pin, sou, East, White, mans, pins, sous, orphanTiles}
+use Rattle.meld.specs.Named.{chi, pon, closedKan, addedKan}
+use Rattle.context.specs.Named.{byRon, byTsumo, ron, tsumo}
+use Rattle.hand.specs.Named.{hand}
+use Rattle.played.specs.Row.{dealer, nonDealer, Row, won, listed, valued, paid, asked, worth, refuses, chooses}
 
 -- man 123 55, pin 456, sou 234 678, tsumo sou 8: 2 han 20 fu, dealer 700, others 400, total 1,500
 abbrev pub pinfuByTsumo : Row

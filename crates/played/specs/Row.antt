@@ -20,6 +20,13 @@ use Rattle.win.specs.Win.{winCheck, scoreReading, scoreWin}
 use Rattle.lent.specs.Lent.{callsOf}
 
 -- ---- what a row says
+-- who won
+abbrev pub dealer : Bool
+dealer = true
+
+abbrev pub nonDealer : Bool
+nonDealer = false
+
 -- what one reading comes to: han, fu, and the total paid
 pub record Worth : Type 0 where
   pub han : ℕ

@@ -1,2 +1,3 @@
 pub mod Tile
+pub mod Named
 pub mod Renaming
