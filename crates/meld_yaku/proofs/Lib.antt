@@ -1,5 +1,4 @@
 pub mod Otherwise
 pub mod Lines
-pub mod Peikou
 pub mod Renamed
 pub mod Few

@@ -4,18 +4,17 @@ use mathlib.Core.Path.{_≡_, sym, ap, _∙_, subst}
 use mathlib.Core.Logic.{_⊎_, inl, inr, ⊎-elim}
 use mathlib.Core.Bool.{Bool, true, false, _&&_, _||_}
 use mathlib.Core.List.{List, [], _∷_}
-use Prim.Native.Nat.{ℕ, zero, suc, _+_, _*_, _/_, _%_, _<_, _≤_}
+use Prim.Native.Nat.{ℕ, zero, suc, _+_, _%_, _<_, _≤_}
 use native.Mathlib.Omega.{arith}
 use native.Mathlib.Decide.{ℕ-discrete}
 use lib.Dec.{T, eqb, ltb, eqb→eq, ltb→lt, lt→ltb}
 use lib.ListN.{length, getD}
-use borrow.Author.Tests.{lt-ltb}
 use Rattle.lists.specs.Fold.{all, any, upFrom}
 use Rattle.lists.proofs.Finite.{and-left, and-right, and-both, or-elim, or-left, or-right, T-eq}
 use Rattle.lists.proofs.Elements.{four}
 use Rattle.meld.specs.declared.Meld.{Meld}
 use Rattle.meld.specs.Meld.{isSequence, isTripletOrKan}
-use Rattle.meld_yaku.specs.Melds.{runFrom, setOf, threeSuits, ittsu, sanshokuDoujun, sanshokuDoukou}
+use Rattle.meld_yaku.specs.Melds.{runFrom, setOf}
 
 -- ---- a question of one of n numbers from a on
 module _ (p : ℕ → Bool) where
@@ -40,7 +39,7 @@ not-all-three x y z c d h k i j l =
     (λ e. ⊎-elim (λ f. ⊎-elim (λ g. omega arith) (λ g. omega arith) l) (λ f. omega arith) j) i
 
 -- x, y, z ascend, and `at` gives each the number k of their line
-abbrev Line : (ℕ → ℕ) → ℕ → ℕ → ℕ → ℕ → Type 0
+abbrev pub Line : (ℕ → ℕ) → ℕ → ℕ → ℕ → ℕ → Type 0
 Line at k x y z = (x < y) × (y < z) × (at x ≡ k) × (at y ≡ k) × (at z ≡ k)
 
 -- ---- q asks for a meld with the tile
@@ -124,51 +123,20 @@ module _ (q : ℕ → Meld → Bool) (own : (t : ℕ) (m : Meld) → T (q t m) �
     first-two l m e = of-four (getD l 0 m) (getD l 1 m) (getD l 2 m) (getD l 3 m) l (four l m e)
 
 -- ---- sequences and sets have the tile that is asked for
-run-own : (t : ℕ) (m : Meld) → T (runFrom t m) → t ≡ m .tile
+pub run-own : (t : ℕ) (m : Meld) → T (runFrom t m) → t ≡ m .tile
 run-own t m h = eqb→eq t (m .tile) (and-right (isSequence m) _ h)
 
-set-own : (t : ℕ) (m : Meld) → T (setOf (eqb t) m) → t ≡ m .tile
+pub set-own : (t : ℕ) (m : Meld) → T (setOf (eqb t) m) → t ≡ m .tile
 set-own t m h = eqb→eq t (m .tile) (and-right (isTripletOrKan m) _ h)
 
--- ---- the lines of each yaku
-of-number : (k : ℕ) → k < 9 → Line (λ t. t % 9) k k (k + 9) (k + 18)
+-- ---- the line of a number in the three suits
+pub of-number : (k : ℕ) → k < 9 → Line (λ t. t % 9) k k (k + 9) (k + 18)
 of-number k h = (omega arith, omega arith, omega arith, omega arith, omega arith)
 
--- 123, 456 and 789 of a suit
-abbrev pub straight : ℕ → List ℕ
-straight s = (s * 9) ∷ (s * 9 + 3) ∷ (s * 9 + 6) ∷ []
-
-of-suit : (k : ℕ) → k < 3 → Line (λ t. t / 9) k (k * 9) (k * 9 + 3) (k * 9 + 6)
-of-suit k h = (omega arith, omega arith, omega arith, omega arith, omega arith)
-
-module _ (ms : List Meld) (m : Meld) (size : length ms ≡ 4) where
-  -- the tiles of the first two melds
+-- ---- the tiles of the first two melds
+module _ (ms : List Meld) (m : Meld) where
   abbrev pub first : ℕ
   first = getD ms 0 m .tile
 
   abbrev pub second : ℕ
   second = getD ms 1 m .tile
-
-  -- there is a sequence from each tile of the line; there is a triplet or kan of each
-  abbrev pub runs : List ℕ → Bool
-  runs line = all (λ t. any (runFrom t) ms) line
-
-  abbrev pub sets : List ℕ → Bool
-  sets line = all (λ t. any (setOf (eqb t)) ms) line
-
-  pub doujun-lines :
-      (ltb (first % 9) 7 && runs (threeSuits (first % 9)) || ltb (second % 9) 7 && runs (threeSuits (second % 9))) ≡ sanshokuDoujun ms
-  unfolding sanshokuDoujun
-  doujun-lines =
-      first-two runFrom run-own (λ t. t % 9) (λ k. k) (λ k. k + 9) (λ k. k + 18) 7 (λ k h. of-number k (omega arith)) ms m size
-
-  pub doukou-lines : (sets (threeSuits (first % 9)) || sets (threeSuits (second % 9))) ≡ sanshokuDoukou ms
-  unfolding sanshokuDoukou
-  doukou-lines =
-      rw (lt-ltb (first % 9) 9 (omega arith), lt-ltb (second % 9) 9 (omega arith)) at
-      (first-two (λ t. setOf (eqb t)) set-own (λ t. t % 9) (λ k. k) (λ k. k + 9) (λ k. k + 18) 9 of-number ms m size)
-
-  pub ittsu-lines :
-      (ltb (first / 9) 3 && runs (straight (first / 9)) || ltb (second / 9) 3 && runs (straight (second / 9))) ≡ ittsu ms
-  unfolding ittsu
-  ittsu-lines = first-two runFrom run-own (λ t. t / 9) (λ k. k * 9) (λ k. k * 9 + 3) (λ k. k * 9 + 6) 3 of-suit ms m size

@@ -1,20 +1,15 @@
--- A question of the pair and the melds is answered no, and an honor tallied 0, where the reading is not a standard one.
--- Assumes nothing.
+-- A question of the pair and the melds is answered no where the reading is not a standard one. Assumes nothing.
 use mathlib.Core.Path.{_≡_, refl}
 use mathlib.Core.Logic.{_⊎_}
 use mathlib.Core.Bool.{Bool, false}
 use mathlib.Core.List.{List}
 use Prim.Native.Nat.{ℕ}
 use Rattle.meld.specs.declared.Meld.{Meld}
-use Rattle.context.specs.declared.GameContext.{GameContext}
 use Rattle.structure.specs.declared.Hand.{Hand}
 use Rattle.structure.specs.Structure.{readingOf}
 use Rattle.structure.proofs.Cases.{kindOf, otherwise}
-use Rattle.meld_yaku.specs.Standard.{ofStandard, yakuhaiOf}
+use Rattle.meld_yaku.specs.Standard.{ofStandard}
 
 module _ (h : Hand) (other : (kindOf (h .structure) ≡ 1) ⊎ (kindOf (h .structure) ≡ 2)) where
   pub answer-no : (q : ℕ → List Meld → Bool) → false ≡ ofStandard q (readingOf h)
   answer-no q = otherwise (λ r. false ≡ ofStandard q r) h refl (λ p. refl) other
-
-  pub tally-none : (w : GameContext) (t : ℕ) → 0 ≡ yakuhaiOf w (readingOf h) t
-  tally-none w t = otherwise (λ r. 0 ≡ yakuhaiOf w r t) h refl (λ p. refl) other

@@ -1,3 +1,2 @@
 pub mod Melds
-pub mod Yakuman
 pub mod Standard

@@ -17,9 +17,11 @@ use Rattle.hand.specs.Reading.{Reading}
 use Rattle.renamed.specs.Renamed.{renReading}
 use Rattle.renamed.proofs.Records.{isReading}
 use Rattle.tile_yaku.specs.declared.TileYaku.{TileYaku}
-use Rattle.meld_yaku.specs.Melds.{toitoi, kans, sanAnkou, ittsu, sanshokuDoujun, sanshokuDoukou, peikou, chanta, junchan, shousangen}
-use Rattle.meld_yaku.specs.Standard.{ofStandard, yakuhaiOf}
-use Rattle.meld_yaku.specs.Yakuman.{suuankou, daisangen, shousuushii, daisuushii, suuKantsu}
+use Rattle.meld_yaku.specs.Standard.{ofStandard}
+use Rattle.set_yaku.specs.Sets.{toitoi, kans, sanAnkou, sanshokuDoukou, suuankou, suuKantsu}
+use Rattle.honor_yaku.specs.Honors.{shousangen, yakuhaiOf, daisangen, shousuushii, daisuushii}
+use Rattle.sequence_yaku.specs.Sequences.{ittsu, sanshokuDoujun, peikou}
+use Rattle.end_yaku.specs.Ends.{chanta, junchan}
 use Rattle.yaku.specs.Tally.{unlessOrphans, riichi, rinshan, oneHan, moreHan, yakuman, isYakuman, ordinary, tallies}
 use Rattle.yaku.specs.Names.{names}
 use Rattle.yaku.specs.Han.{hanOf, dot, han}

@@ -16,9 +16,16 @@ use Rattle.meld.proofs.Renamed.{Moved, all-moved, any-moved, count-moved}
 use Rattle.context.specs.declared.GameContext.{GameContext}
 use Rattle.context.specs.Context.{renWin}
 use Rattle.wait.specs.Concealed.{concealed, spared}
-use Rattle.meld_yaku.specs.Melds.{runFrom, setOf, toitoi, kans, dragons, winds, sanAnkou, straights, ittsu, sanshokuDoujun, sanshokuDoukou, peikou, chanta, junchan, shousangen}
-use Rattle.meld_yaku.proofs.Renamed.{dragon-set, wind-set, outer-meld, terminal-meld, ren-setOf, renStart, ren-runFrom, starts-over, runLines, setLines, straights-same, runLines-same, setLines-same}
-use Rattle.meld_yaku.specs.Yakuman.{suuankou, daisangen, shousuushii, daisuushii, suuKantsu}
+use Rattle.meld_yaku.specs.Melds.{runFrom, setOf}
+use Rattle.meld_yaku.proofs.Renamed.{ren-setOf}
+use Rattle.set_yaku.specs.Sets.{toitoi, kans, sanAnkou, sanshokuDoukou, suuankou, suuKantsu}
+use Rattle.set_yaku.proofs.Renamed.{setLines, setLines-same}
+use Rattle.honor_yaku.specs.Honors.{dragons, winds, shousangen, daisangen, shousuushii, daisuushii}
+use Rattle.honor_yaku.proofs.Renamed.{dragon-set, wind-set}
+use Rattle.sequence_yaku.specs.Sequences.{straights, ittsu, sanshokuDoujun, peikou}
+use Rattle.sequence_yaku.proofs.Renamed.{renStart, ren-runFrom, starts-over, runLines, straights-same, runLines-same}
+use Rattle.end_yaku.specs.Ends.{chanta, junchan}
+use Rattle.end_yaku.proofs.Renamed.{outer-meld, terminal-meld}
 use Rattle.renamed_scores.proofs.Waits.{ren-spared, ren-concealed}
 
 -- ---- the melds ns are the melds ms, renamed, in any order

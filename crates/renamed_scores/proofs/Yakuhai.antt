@@ -18,8 +18,8 @@ use Rattle.context.specs.Context.{inRange, renWin}
 use Rattle.hand.specs.Reading.{Reading, pairs, orphans, standard}
 use Rattle.renamed.specs.Renamed.{renReading}
 use Rattle.renamed.proofs.Records.{isReading}
-use Rattle.meld_yaku.specs.Melds.{setOf, yakuhai}
-use Rattle.meld_yaku.specs.Standard.{yakuhaiOf}
+use Rattle.meld_yaku.specs.Melds.{setOf}
+use Rattle.honor_yaku.specs.Honors.{yakuhai, yakuhaiOf}
 use Rattle.renamed_scores.proofs.Moved.{sorted-moved}
 use Rattle.renamed_scores.proofs.Waits.{ren-weight}
 use Rattle.meld_yaku.proofs.Renamed.{ren-setOf}

@@ -18,8 +18,8 @@ use Rattle.hand.specs.Reading.{Reading, pairs, orphans, standard}
 use Rattle.structure.proofs.Short.{Short}
 use Rattle.wait.proofs.Waits.{weight-le}
 use Rattle.tile_yaku.specs.declared.TileYaku.{TileYaku}
-use Rattle.meld_yaku.specs.Melds.{setOf, yakuhai}
-use Rattle.meld_yaku.specs.Standard.{yakuhaiOf}
+use Rattle.meld_yaku.specs.Melds.{setOf}
+use Rattle.honor_yaku.specs.Honors.{yakuhai, yakuhaiOf}
 use Rattle.yaku.specs.Tally.{oneHan, moreHan, yakuman, isYakuman, ordinary, tallies}
 use Rattle.yaku.specs.Names.{names}
 use Rattle.yaku.specs.Han.{hanOf, dot, han}

@@ -12,8 +12,9 @@ use Rattle.context.specs.declared.GameContext.{GameContext}
 use Rattle.hand.specs.Reading.{Reading, pairs, orphans, standard}
 use Rattle.tile_yaku.specs.declared.TileYaku.{TileYaku}
 use Rattle.meld_yaku.specs.Standard.{ofStandard}
-use Rattle.meld_yaku.specs.Yakuman.{suuKantsu}
-use Rattle.meld_yaku.proofs.Few.{no-kans, no-suuankou, no-daisangen, no-shousuushii, no-daisuushii}
+use Rattle.set_yaku.specs.Sets.{suuKantsu}
+use Rattle.set_yaku.proofs.Few.{no-kans, no-suuankou}
+use Rattle.honor_yaku.proofs.Few.{no-daisangen, no-shousuushii, no-daisuushii}
 use Rattle.yaku.specs.Tally.{orphansWon, yakuman, isYakuman}
 
 pub neither : (a b : Bool) → (a || b) ≡ false → (a ≡ false) × (b ≡ false)

@@ -14,9 +14,11 @@ use Rattle.context.specs.Context.{isDealer, isTsumo}
 use Rattle.hand.specs.Reading.{Reading, pairs, orphans, standard}
 use Rattle.wait.specs.Wait.{pinfu}
 use Rattle.tile_yaku.specs.declared.TileYaku.{TileYaku}
-use Rattle.meld_yaku.specs.Melds.{toitoi, kans, yakuhai, sanAnkou, ittsu, sanshokuDoujun, sanshokuDoukou, peikou, chanta, junchan, shousangen}
-use Rattle.meld_yaku.specs.Standard.{ofStandard, yakuhaiOf}
-use Rattle.meld_yaku.specs.Yakuman.{suuankou, daisangen, shousuushii, daisuushii, suuKantsu}
+use Rattle.meld_yaku.specs.Standard.{ofStandard}
+use Rattle.set_yaku.specs.Sets.{toitoi, kans, sanAnkou, sanshokuDoukou, suuankou, suuKantsu}
+use Rattle.honor_yaku.specs.Honors.{yakuhai, shousangen, yakuhaiOf, daisangen, shousuushii, daisuushii}
+use Rattle.sequence_yaku.specs.Sequences.{ittsu, sanshokuDoujun, peikou}
+use Rattle.end_yaku.specs.Ends.{chanta, junchan}
 
 abbrev pub isChiitoitsu : Reading → Bool
 isChiitoitsu (pairs ps) = true

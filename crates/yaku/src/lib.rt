@@ -87,14 +87,14 @@ fn one_han(
     let tsumo = w.is_tsumo();
     let riichi = w.is_riichi & !opened;
     let rinshan = w.is_rinshan & tsumo;
-    let honors = meld_yaku::check_all_yakuhai(h, w);
+    let honors = honor_yaku::check_all_yakuhai(h, w);
     [
         lists::one_if(riichi & !w.is_double_riichi),
         lists::one_if(riichi & (w.is_ippatsu & !rinshan)),
         lists::one_if(tsumo & !opened),
         lists::one_if(unless_orphans(s.tanyao, h)),
         lists::one_if(wait::is_pinfu(h, w, opened)),
-        lists::one_if(meld_yaku::check_iipeikou(h, opened)),
+        lists::one_if(sequence_yaku::check_iipeikou(h, opened)),
         honors.east,
         honors.south,
         honors.west,
@@ -118,22 +118,22 @@ fn more_han(
 ) -> [u8; 15]
     ensures { λ r. ⌜ r ≡ moreHan w opened s (readingOf h) ⌝ }
 {
-    let sets = meld_yaku::check_sets(h, w);
+    let sets = set_yaku::check_sets(h, w);
     [
         lists::one_if((w.is_riichi & !opened) & w.is_double_riichi),
         lists::one_if(sets.toitoi),
-        lists::one_if(meld_yaku::check_sanshoku(h)),
+        lists::one_if(sequence_yaku::check_sanshoku(h)),
         lists::one_if(sets.sanshoku_doukou),
-        lists::one_if(meld_yaku::check_ittsu(h)),
+        lists::one_if(sequence_yaku::check_ittsu(h)),
         lists::one_if(is_chiitoitsu(h)),
-        lists::one_if(meld_yaku::check_chanta(h)),
+        lists::one_if(end_yaku::check_chanta(h)),
         lists::one_if(sets.sanankou),
         lists::one_if(sets.sankantsu),
         lists::one_if(unless_orphans(s.honroutou, h)),
-        lists::one_if(meld_yaku::check_shousangen(h)),
+        lists::one_if(honor_yaku::check_shousangen(h)),
         lists::one_if(unless_orphans(s.honitsu, h)),
-        lists::one_if(meld_yaku::check_junchan(h)),
-        lists::one_if(meld_yaku::check_ryanpeikou(h, opened)),
+        lists::one_if(end_yaku::check_junchan(h)),
+        lists::one_if(sequence_yaku::check_ryanpeikou(h, opened)),
         lists::one_if(unless_orphans(s.chinitsu, h)),
     ]
 }
@@ -149,7 +149,7 @@ fn may_be_yakuman(
 {
     let tiles = (s.tsuuiisou | s.chinroutou) | (s.ryuuiisou | (!opened & s.nine_gates));
     let orphans = won_on_pair(h, w) | won_beside_pair(h, w);
-    (w.is_tenhou | w.is_chiihou) | (tiles | (orphans | meld_yaku::has_three_sets(h)))
+    (w.is_tenhou | w.is_chiihou) | (tiles | (orphans | set_yaku::has_three_sets(h)))
 }
 
 // The tallies of yakuman, Tenhou to JunseiChuurenPoutou.
@@ -170,17 +170,17 @@ fn yakuman_tallies(
         lists::one_if(w.is_tenhou & (tsumo & (!opened & dealer))),
         lists::one_if(w.is_chiihou & (tsumo & (!opened & !dealer))),
         lists::one_if(won_beside_pair(h, w)),
-        lists::one_if(meld_yaku::check_suuankou(h, w)),
-        lists::one_if(meld_yaku::check_daisangen(h)),
-        lists::one_if(meld_yaku::check_shousuushii(h)),
-        lists::one_if(meld_yaku::check_daisuushii(h)),
+        lists::one_if(set_yaku::check_suuankou(h, w)),
+        lists::one_if(honor_yaku::check_daisangen(h)),
+        lists::one_if(honor_yaku::check_shousuushii(h)),
+        lists::one_if(honor_yaku::check_daisuushii(h)),
         lists::one_if(unless_orphans(s.tsuuiisou, h)),
         lists::one_if(unless_orphans(s.chinroutou, h)),
         lists::one_if(if_standard(s.ryuuiisou, h)),
         lists::one_if(if_standard(!opened & (s.nine_gates & !s.pure_wait), h)),
-        lists::one_if(meld_yaku::check_kantsu(h, 4)),
+        lists::one_if(set_yaku::check_kantsu(h, 4)),
         lists::one_if(won_on_pair(h, w)),
-        lists::one_if(meld_yaku::check_suuankou_tanki(h, w)),
+        lists::one_if(set_yaku::check_suuankou_tanki(h, w)),
         lists::one_if(if_standard(!opened & (s.nine_gates & s.pure_wait), h)),
     ]
 }

@@ -1,7 +1,6 @@
 -- `yakuman_tallies` meets its contract: the fifteen tallies of yakuman, 0 where none may be, else each by what its check ensures.
 -- Assumes nothing.
-use Rattle.meld_yaku.specs.Melds.{kans}
-use Rattle.meld_yaku.specs.Yakuman.{suuKantsu}
+use Rattle.set_yaku.specs.Sets.{kans, suuKantsu}
 use Rattle.structure.specs.Structure.{readingOf}
 use Rattle.yaku.proofs.NoYakuman.{all-zero}
 use borrow.Author.Needs.{needs}

@@ -1,0 +1,3 @@
+pub mod Lines
+pub mod Renamed
+pub mod Few
