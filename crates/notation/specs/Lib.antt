@@ -1,4 +1,2 @@
 -- The definitions that the contracts cite.
-pub mod Words
-pub mod Calls
 pub mod Said

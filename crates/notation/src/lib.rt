@@ -1,6 +1,4 @@
-// Finished hands in the usual notation, word by word: tiles, calls, the win, and what is wrong with a word. Nothing is read from outside or written here.
-pub mod calls;
-pub mod faults;
+// Finished hands in the usual notation, word by word: the words that are known, and what they say, over the words of tiles and calls.
+// Nothing is read from outside or written here.
 pub mod said;
-pub mod tiles;
 pub mod words;

@@ -3,13 +3,11 @@ ghost use mathlib.Core.Path.{_≡_};
 ghost use mathlib.Core.Bool.{true};
 ghost use Prim.Native.Nat.{_<_};
 ghost use Rattle.context.specs.Context.{inRange};
-ghost use Rattle.notation.specs.Words.{readAt, tilesIn, Counted};
-ghost use Rattle.notation.specs.Calls.{withCall};
+ghost use Rattle.tile_words.specs.Words.{readAt, tilesIn, Counted};
+ghost use Rattle.call_words.specs.Calls.{withCall};
 ghost use Rattle.notation.specs.Said.{winOf};
-use crate::calls;
-use crate::faults;
-use crate::tiles;
 use crate::words;
+use tile_words::faults;
 
 // What has been said so far.
 pub struct Said {
@@ -95,12 +93,12 @@ impl Said {
     fn with_tiles(self, word: &[u8]) -> Said
         ensures { λ r. ⌜ (r .fault ≡ 0 → Counted (self .counts) (tilesIn (now (word .entry))) (r .counts)) ⌝ }
     {
-        let fault = tiles::check_tiles(word);
+        let fault = tile_words::check_tiles(word);
         if fault != 0 {
             return self.faulty(fault);
         }
         let mut counts = self.counts;
-        tiles::add_tiles(&mut counts, word);
+        tile_words::add_tiles(&mut counts, word);
         let mut said = self;
         said.counts = counts;
         said
@@ -111,7 +109,7 @@ impl Said {
         ensures { λ r. ⌜ r .calls ≡ withCall (self .calls) m ⌝ }
     {
         let calls = self.calls;
-        let more = calls::with_call(calls, m);
+        let more = call_words::with_call(calls, m);
         let mut said = self;
         said.calls = more;
         said
@@ -119,14 +117,14 @@ impl Said {
 
     // The tiles of a call of a kind, 0 for any open one.
     fn called(self, word: &[u8], kind: u8) -> Said {
-        let fault = tiles::check_tiles(word);
+        let fault = tile_words::check_tiles(word);
         if fault != 0 {
             return self.faulty(fault);
         }
-        let found = calls::call_in(word, kind);
+        let found = call_words::call_in(word, kind);
         match found {
-            calls::Found::Nothing => self.faulty(faults::NO_CALL),
-            calls::Found::Call(m) => self.with_call(m),
+            call_words::Found::Nothing => self.faulty(faults::NO_CALL),
+            call_words::Found::Call(m) => self.with_call(m),
         }
     }
 
@@ -151,7 +149,7 @@ impl Said {
     fn won_on(self, word: &[u8], tsumo: bool) -> Said
         ensures { λ r. ⌜ (r .fault ≡ 0 → (r .won ≡ true) × ((r .tsumo ≡ tsumo) × (r .«winning_tile» ≡ readAt (now (word .entry))))) ⌝ }
     {
-        let fault = tiles::check_tiles(word);
+        let fault = tile_words::check_tiles(word);
         if fault != 0 {
             return self.faulty(fault);
         }
@@ -161,7 +159,7 @@ impl Said {
         let mut said = self;
         said.won = true;
         said.tsumo = tsumo;
-        said.winning_tile = tiles::tile_at(word, 0);
+        said.winning_tile = tile_words::tile_at(word, 0);
         said
     }
 
@@ -231,7 +229,7 @@ impl Said {
     // A word that may be anything.
     fn with_any(self, word: &[u8]) -> Said {
         let first = first_of(word);
-        if tiles::is_number(first) {
+        if tile_words::is_number(first) {
             return self.with_tiles(word);
         }
         if (first == b'(') | (first == b'[') {

@@ -2,7 +2,7 @@
 ghost use Prim.Native.Nat.{_<_};
 use printed::text;
 
-// What each fault means, after the word at fault, in the order of the numbers in `notation::faults`.
+// What each fault means, after the word at fault, in the order of the numbers in `tile_words::faults`.
 const FAULTS: [[u8; 72]; 15] = [
     *b"has no fault                                                            ",
     *b"is not a known word; without any word, score says how it is used        ",

@@ -39,7 +39,7 @@ fn take_argument(s: said::Said, i: usize) -> said::Said {
     let mut next = s;
     next.word = i;
     if n == 0 {
-        return next.faulty(notation::faults::SIZE);
+        return next.faulty(tile_words::faults::SIZE);
     }
     next.take(&word[..n])
 }
@@ -56,7 +56,7 @@ fn take_arguments(count: usize) -> said::Said {
 // Writes what is wrong with the words.
 fn say_bad_input(s: said::Said) {
     text::say(b"bad input: ");
-    if s.fault != notation::faults::NO_WIN {
+    if s.fault != tile_words::faults::NO_WIN {
         let mut word = [0u8; 64];
         let n = os::arg(s.word, &mut word);
         text::say(b"word ");
