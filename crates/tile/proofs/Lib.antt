@@ -1,2 +1,4 @@
 pub mod Renamings
+pub mod Described
 pub mod Tiles
+pub mod Examples

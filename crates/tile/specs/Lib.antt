@@ -1,3 +1,4 @@
 pub mod Tile
 pub mod Named
 pub mod Renaming
+pub mod Described
