@@ -2,21 +2,21 @@
 -- Assumes nothing.
 use mathlib.Core.Path.{_≡_, refl, sym, ap, _∙_}
 use mathlib.Core.Bool.{Bool, true, false, _&&_, _||_, not, cond}
-use Prim.Native.Nat.{ℕ, zero, suc, _+_, _-_, _/_, _%_, _<_}
+use Prim.Native.Nat.{ℕ, zero, suc, _+_, _-_, _/_, _%_, _≤_, _<_}
 use native.Mathlib.Omega.{arith}
 use native.Mathlib.Decide.{ℕ-discrete}
-use lib.Dec.{T, eqb, ltb, leb, eqb→eq, ltb→lt, le→leb}
+use lib.Dec.{T, eqb, ltb, eqb→eq, ltb→lt}
 use borrow.Author.Tests.{ltb-false, le-ltb, ne-eqb}
 use Rattle.lists.specs.Fold.{allBelow}
-use Rattle.lists.proofs.Finite.{at, or-skip, and-left, and-right, and-both, T→true, true→T}
+use Rattle.lists.proofs.Finite.{at, or-skip, and-left, and-right, T→true, true→T}
 use Rattle.tile.specs.declared.Suits.{Suits}
 use Rattle.tile.specs.declared.Suits.the-variants.{ManPinSou, ManSouPin, PinManSou, PinSouMan, SouManPin, SouPinMan}
 use Rattle.tile.specs.declared.Renaming.{Renaming}
 use Rattle.tile.specs.Renaming.{suitTo, suitsBack, ren}
-use Rattle.tile.specs.Tile.{isSuited, isWind, suitOf, valueOf}
-use Rattle.tile.specs.Named.{man, pin, White, Green, Red}
+use Rattle.tile.specs.Tile.{isSuited, suitOf, valueOf}
+use Rattle.tile.specs.Named.{man, pin, East, South, West, North, White, Green, Red}
 use Rattle.tile.specs.Described.{OneToOne, Does}
-use Rattle.tile.proofs.Renamings.{allSuits, suits-at, tiles-at, renaming, allRen, ren-at, wind-stays}
+use Rattle.tile.proofs.Renamings.{allSuits, suits-at, tiles-at, renaming, allRen, ren-at}
 
 -- ---- every renaming is one of these
 
@@ -27,6 +27,7 @@ suit-at p ok o = at 3 (p o) (suits-at (λ o. allBelow 3 (p o)) ok o)
 suits-undone : (o : Suits) (s : ℕ) → s < 3 → suitTo (suitsBack o) (suitTo o s) ≡ s
 suits-undone o s h = eqb→eq _ _ (suit-at (λ o s. eqb (suitTo (suitsBack o) (suitTo o s)) s) tt o s h)
 
+-- they are sent to suits, no two to the same
 pub suits-one-to-one : (o : Suits) → OneToOne (suitTo o)
 suits-one-to-one o =
     record {
@@ -55,9 +56,11 @@ asked g p ok ρ t h i = or-skip (g t) (p ρ t) i (tiles-at (λ ρ t. not (g t) |
 suited-lt : (t : ℕ) → T (isSuited t) → t < 34
 suited-lt t i = let h : t < 27 = ltb→lt t 27 i in omega arith
 
-wind-lt : (t : ℕ) → T (isWind t) → t < 34
-wind-lt t i = let h : t < 31 = ltb→lt t 31 (and-right (leb 27 t) _ i) in omega arith
+-- a test of one tile
+becomes : (t : ℕ) (to : Bool → ℕ) → T (allRen (λ ρ. eqb (ren ρ t) (to (ρ .honors .dragons)))) → (ρ : Renaming) → ren ρ t ≡ to (ρ .honors .dragons)
+becomes t to ok ρ = eqb→eq _ _ (ren-at (λ ρ. eqb (ren ρ t) (to (ρ .honors .dragons))) ok ρ)
 
+-- what a renaming does, by its parts
 pub ren-does : (ρ : Renaming) → Does (ren ρ) (suitTo (ρ .numbers .suits)) (ρ .numbers .mirror) (ρ .honors .dragons)
 ren-does ρ =
     record {
@@ -65,13 +68,17 @@ ren-does ρ =
       number =
           λ t i. eqb→eq _ _
           (asked isSuited (λ ρ t. eqb (valueOf (ren ρ t)) (cond (ρ .numbers .mirror) (10 - valueOf t) (valueOf t))) tt ρ t (suited-lt t i) i);
-      winds = λ t i. wind-stays ρ t (wind-lt t i) i;
-      white = eqb→eq _ _ (ren-at (λ ρ. eqb (ren ρ White) (cond (ρ .honors .dragons) Red White)) tt ρ);
-      green = eqb→eq _ _ (ren-at (λ ρ. eqb (ren ρ Green) Green) tt ρ);
-      red = eqb→eq _ _ (ren-at (λ ρ. eqb (ren ρ Red) (cond (ρ .honors .dragons) White Red)) tt ρ);
+      east = becomes East (λ d. East) tt ρ;
+      south = becomes South (λ d. South) tt ρ;
+      west = becomes West (λ d. West) tt ρ;
+      north = becomes North (λ d. North) tt ρ;
+      white = becomes White (λ d. cond d Red White) tt ρ;
+      green = becomes Green (λ d. Green) tt ρ;
+      red = becomes Red (λ d. cond d White Red) tt ρ;
       above = ren-above ρ;
     }
 
+-- each renaming does this, for a one-to-one choice of suits
 pub renaming-is : (ρ : Renaming) → (σ : ℕ → ℕ) × OneToOne σ × Does (ren ρ) σ (ρ .numbers .mirror) (ρ .honors .dragons)
 renaming-is ρ = (suitTo (ρ .numbers .suits), suits-one-to-one (ρ .numbers .suits), ren-does ρ)
 
@@ -83,14 +90,15 @@ order a b =
     cond (eqb a 0) (cond (eqb b 1) ManPinSou ManSouPin)
     (cond (eqb a 1) (cond (eqb b 0) PinManSou PinSouMan) (cond (eqb b 0) SouManPin SouPinMan))
 
--- in it sou goes to the suit that is left
+-- it sends man to a, pin to b and sou to c
 abbrev sends : ℕ → ℕ → ℕ → Bool
 sends a b c = eqb (suitTo (order a b) 0) a && (eqb (suitTo (order a b) 1) b && eqb (suitTo (order a b) 2) c)
 
-abbrev apartOrSends : ℕ → ℕ → ℕ → Bool
-apartOrSends a b c = eqb a b || (eqb a c || (eqb b c || sends a b c))
+-- two of the suits are the same, or the order sends man, pin and sou there
+abbrev sameOrSends : ℕ → ℕ → ℕ → Bool
+sameOrSends a b c = eqb a b || (eqb a c || (eqb b c || sends a b c))
 
-orders-test : T (allBelow 3 (λ a. allBelow 3 (λ b. allBelow 3 (apartOrSends a b))))
+orders-test : T (allBelow 3 (λ a. allBelow 3 (λ b. allBelow 3 (sameOrSends a b))))
 orders-test = tt
 
 or-not : (a b : Bool) → (T a → ⊥) → T (a || b) → T b
@@ -109,9 +117,9 @@ module _ (σ : ℕ → ℕ) (one : OneToOne σ) where
       or-not (eqb (σ 1) (σ 2)) _ (differ 1 2 (omega arith) (omega arith) (λ e. omega arith))
       (or-not (eqb (σ 0) (σ 2)) _ (differ 0 2 (omega arith) (omega arith) (λ e. omega arith))
       (or-not (eqb (σ 0) (σ 1)) _ (differ 0 1 (omega arith) (omega arith) (λ e. omega arith))
-      (at 3 (apartOrSends (σ 0) (σ 1))
-      (at 3 (λ b. allBelow 3 (apartOrSends (σ 0) b))
-      (at 3 (λ a. allBelow 3 (λ b. allBelow 3 (apartOrSends a b))) orders-test (σ 0) (one .suit 0 (omega arith)))
+      (at 3 (sameOrSends (σ 0) (σ 1))
+      (at 3 (λ b. allBelow 3 (sameOrSends (σ 0) b))
+      (at 3 (λ a. allBelow 3 (λ b. allBelow 3 (sameOrSends a b))) orders-test (σ 0) (one .suit 0 (omega arith)))
       (σ 1) (one .suit 1 (omega arith)))
       (σ 2) (one .suit 2 (omega arith)))))
 
@@ -131,7 +139,10 @@ does-suits same w =
     record {
       suit = λ t i. w .suit t i ∙ same (suitOf t) (suit-lt t i);
       number = w .number;
-      winds = w .winds;
+      east = w .east;
+      south = w .south;
+      west = w .west;
+      north = w .north;
       white = w .white;
       green = w .green;
       red = w .red;
@@ -198,28 +209,33 @@ suited t h = go (isSuited t) h
     go true h = tt
     go false h = absurd (omega arith)
 
+-- what does this is determined at each number
 pub does-one : {f g σ : ℕ → ℕ} {m d : Bool} → OneToOne σ → Does f σ m d → Does g σ m d → (t : ℕ) → f t ≡ g t
-does-one {f} {g} {σ} one v w t = number (ltb t 27) refl
+does-one {f} {g} {σ} one v w t = suit (ltb t 27) refl
   where
-    honor : (n : ℕ) → t ≡ n → f n ≡ g n → f t ≡ g t
-    honor n e h = rw e h
+    from : (n : ℕ) → f n ≡ g n → (n < t → f t ≡ g t) → Dec (t ≡ n) → n ≤ t → f t ≡ g t
+    from n same more (yes e) h = rw e same
+    from n same more (no e) h = more (omega arith)
 
-    dragon : 30 < t → Dec (t ≡ White) → Dec (t ≡ Green) → Dec (t ≡ Red) → f t ≡ g t
-    dragon h (yes e) _ _ = honor White e (v .white ∙ sym (w .white))
-    dragon h (no a) (yes e) _ = honor Green e (v .green ∙ sym (w .green))
-    dragon h (no a) (no b) (yes e) = honor Red e (v .red ∙ sym (w .red))
-    dragon h (no a) (no b) (no c) = let k : 33 < t = omega arith in v .above t k ∙ sym (w .above t k)
+    honor : (n : ℕ) → f n ≡ g n → (n < t → f t ≡ g t) → n ≤ t → f t ≡ g t
+    honor n same more = from n same more (ℕ-discrete t n)
 
-    wind : (b : Bool) → 26 < t → ltb t 31 ≡ b → f t ≡ g t
-    wind true h e = let i = and-both (leb 27 t) _ (le→leb 27 t h) (true→T _ e) in v .winds t i ∙ sym (w .winds t i)
-    wind false h e = dragon (ltb-false t 31 e) (ℕ-discrete t White) (ℕ-discrete t Green) (ℕ-discrete t Red)
+    honors : 26 < t → f t ≡ g t
+    honors =
+        honor East (v .east ∙ sym (w .east))
+        (honor South (v .south ∙ sym (w .south))
+        (honor West (v .west ∙ sym (w .west))
+        (honor North (v .north ∙ sym (w .north))
+        (honor White (v .white ∙ sym (w .white))
+        (honor Green (v .green ∙ sym (w .green))
+        (honor Red (v .red ∙ sym (w .red)) (λ h. v .above t h ∙ sym (w .above t h))))))))
 
-    number : (b : Bool) → isSuited t ≡ b → f t ≡ g t
-    number true e =
+    suit : (b : Bool) → isSuited t ≡ b → f t ≡ g t
+    suit true e =
         let i = true→T _ e in
         same-tile (f t) (g t)
         (suited (f t) (rw (v .suit t i) (one .suit (suitOf t) (suit-lt t i))))
         (suited (g t) (rw (w .suit t i) (one .suit (suitOf t) (suit-lt t i))))
         (v .suit t i ∙ sym (w .suit t i))
         (v .number t i ∙ sym (w .number t i))
-    number false e = wind (ltb t 31) (ltb-false t 27 e) refl
+    suit false e = honors (ltb-false t 27 e)

@@ -3,8 +3,8 @@ use mathlib.Core.Path.{_≡_}
 use mathlib.Core.Bool.{Bool, cond}
 use Prim.Native.Nat.{ℕ, _-_, _<_}
 use lib.Dec.{T}
-use Rattle.tile.specs.Tile.{isSuited, isWind, suitOf, valueOf}
-use Rattle.tile.specs.Named.{White, Green, Red}
+use Rattle.tile.specs.Tile.{isSuited, suitOf, valueOf}
+use Rattle.tile.specs.Named.{East, South, West, North, White, Green, Red}
 
 -- each suit goes to a suit, no two to the same
 pub record OneToOne (σ : ℕ → ℕ) : Type 0 where
@@ -16,7 +16,10 @@ pub record OneToOne (σ : ℕ → ℕ) : Type 0 where
 pub record Does (f σ : ℕ → ℕ) (mirror dragons : Bool) : Type 0 where
   pub suit : (t : ℕ) → T (isSuited t) → suitOf (f t) ≡ σ (suitOf t)
   pub number : (t : ℕ) → T (isSuited t) → valueOf (f t) ≡ cond mirror (10 - valueOf t) (valueOf t)
-  pub winds : (t : ℕ) → T (isWind t) → f t ≡ t
+  pub east : f East ≡ East
+  pub south : f South ≡ South
+  pub west : f West ≡ West
+  pub north : f North ≡ North
   pub white : f White ≡ cond dragons Red White
   pub green : f Green ≡ Green
   pub red : f Red ≡ cond dragons White Red
