@@ -1,2 +1,4 @@
 pub mod Melds
+pub mod Sorts
 pub mod Renamed
+pub mod Examples
