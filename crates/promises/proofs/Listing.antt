@@ -1,9 +1,13 @@
 -- Listing readings: what a hand that passes the checks 1 to 6 gets. Assumes nothing.
-use mathlib.Core.Path.{_≡_, refl, sym}
+use mathlib.Core.Path.{_≡_, refl, sym, ap}
+use mathlib.Core.Logic.{_↔_}
+use mathlib.Core.Bool.{Bool, true, false}
 use mathlib.Core.List.{List, List·Memᴰ}
 use Prim.Native.Nat.{ℕ, _-_, _≤_, _<_}
 use native.Mathlib.Omega.{arith}
+use lib.Dec.{leb}
 use lib.ListN.{length}
+use borrow.Author.Tests.{leb-true, leb-false}
 use Rattle.lists.specs.Order.{Nodup, Pairwise}
 use Rattle.tile.specs.Tile.{tiles}
 use Rattle.hand.specs.Counts.{held}
@@ -18,7 +22,7 @@ use Rattle.checks.specs.declared.Calls.{Calls}
 use Rattle.checks.specs.Checks.{called, handCheck}
 use Rattle.checks.proofs.Passed.{passed, few-called}
 use Rattle.unit.specs.declared.Listing.the-variants.{Listed, Refused}
-use Rattle.unit.specs.Listing.{handReadings, handRecords, listing}
+use Rattle.unit.specs.Listing.{numberOf, readingsOf, bytesOf, handReadings, handRecords, listing}
 use Rattle.unit.proofs.Answers.{listed-answer, short-answer}
 use Rattle.unit.proofs.Listed.{melds-called}
 
@@ -65,3 +69,18 @@ module _ (cs : List ℕ) (k : Calls) (four : length (k .melds) ≡ 4) (passes : 
   -- refused with 7 where they do not
   pub refused-short : (lent : ℕ) → lent < length (handRecords cs k) → listing cs k lent ≡ Refused 7
   refused-short lent h = sym (short-answer cs k passes lent h)
+
+  -- by the numbers of the answer: 0 with both counts wherever the records fit
+  pub fits-numbers :
+      (lent : ℕ) → length (handRecords cs k) ≤ lent
+      → (numberOf (listing cs k lent) ≡ 0)
+      × ((readingsOf (listing cs k lent) ≡ length (handReadings cs k)) × (bytesOf (listing cs k lent) ≡ length (handRecords cs k)))
+  fits-numbers lent h = let e = fits lent h in (ap numberOf e, (ap readingsOf e, ap bytesOf e))
+
+  -- 7 exactly where they do not fit
+  pub seven-short : (lent : ℕ) → (numberOf (listing cs k lent) ≡ 7) ↔ (lent < length (handRecords cs k))
+  seven-short lent = (λ e. go e (leb (length (handRecords cs k)) lent) refl, λ h. ap numberOf (refused-short lent h))
+    where
+      go : numberOf (listing cs k lent) ≡ 7 → (b : Bool) → leb (length (handRecords cs k)) lent ≡ b → lent < length (handRecords cs k)
+      go e true t = absurd (let z = fits-numbers lent (leb-true (length (handRecords cs k)) lent t) .0 in omega arith)
+      go e false t = leb-false (length (handRecords cs k)) lent t

@@ -2,3 +2,4 @@ pub mod Standards
 pub mod Listed
 pub mod Answers
 pub mod Special
+pub mod Refusals

@@ -9,26 +9,26 @@ use Rattle.tile.specs.Tile.{tiles}
 use Rattle.hand.specs.Counts.{held}
 use Rattle.checks.specs.Checks.{handCheck}
 use Rattle.checks.proofs.Checked.{pass, refuse}
-use Rattle.checks.proofs.Passed.{four-below, four-each}
+use Rattle.checks.proofs.Four.{four-below, four-each}
 use borrow.Author.Tests.{eq-eqb, ne-eqb, le-leb, lt-leb, not-true, not-false}
 use borrow.Author.Needs.{needs}
 use Rattle.checks.proofs.check_hand.Statement.{statement}
 use Rattle.checks.proofs.check_hand.Tie as tie
 
 -- the test of a number is that of an equal one
-total : (n s k : ℕ) (b : Bool) → n ≡ s → eqb (n + 3 * k) 14 ≡ b → eqb (s + 3 * k) 14 ≡ b
-total n s k b e t = ap (λ (x : ℕ). eqb (x + 3 * k) 14) (sym e) ∙ t
+total : (n s k whole : ℕ) (b : Bool) → n ≡ s → eqb (n + 3 * k) whole ≡ b → eqb (s + 3 * k) whole ≡ b
+total n s k whole b e t = ap (λ (x : ℕ). eqb (x + 3 * k) whole) (sym e) ∙ t
 
 returns : tie.Need-returns
 unfolding handCheck
-returns c = sym (refuse _ 1 _ (ne-eqb _ _ (c .if1 .taken)))
+returns c = sym (refuse _ _ _ (ne-eqb _ _ (c .if1 .taken)))
 
 returns-2 : tie.Need-returns-2
 unfolding handCheck
 returns-2 c =
     sym
-    (pass _ 1 _ (eq-eqb _ _ (c .before .if1 .left))
-    ∙ refuse _ 2 _ (lt-leb _ _ (c .if2 .taken)))
+    (pass _ _ _ (eq-eqb _ _ (c .before .if1 .left))
+    ∙ refuse _ _ _ (lt-leb _ _ (c .if2 .taken)))
 
 are-calls-requires : tie.Need-are-calls-requires
 are-calls-requires c κs = search needs
@@ -37,9 +37,9 @@ returns-3 : tie.Need-returns-3
 unfolding handCheck
 returns-3 c =
     sym
-    (pass _ 1 _ (eq-eqb _ _ (c .before .before .before .if1 .left))
-    ∙ pass _ 2 _ (le-leb _ _ (c .before .before .if2 .left))
-    ∙ refuse _ 3 _ (sym (c .before .are-calls .ensures) ∙ not-true _ (c .if3 .taken)))
+    (pass _ _ _ (eq-eqb _ _ (c .before .before .before .if1 .left))
+    ∙ pass _ _ _ (le-leb _ _ (c .before .before .if2 .left))
+    ∙ refuse _ _ _ (sym (c .before .are-calls .ensures) ∙ not-true _ (c .if3 .taken)))
 
 at-most-four-requires : tie.Need-at-most-four-requires
 at-most-four-requires c κs = search needs
@@ -48,10 +48,10 @@ returns-4 : tie.Need-returns-4
 unfolding handCheck
 returns-4 c =
     sym
-    (pass _ 1 _ (eq-eqb _ _ (c .before .before .before .before .before .if1 .left))
-    ∙ pass _ 2 _ (le-leb _ _ (c .before .before .before .before .if2 .left))
-    ∙ pass _ 3 _ (sym (c .before .before .before .are-calls .ensures) ∙ not-false _ (c .before .before .if3 .left))
-    ∙ refuse _ 4 _ (sym (c .before .at-most-four .ensures) ∙ not-true _ (c .if4 .taken)))
+    (pass _ _ _ (eq-eqb _ _ (c .before .before .before .before .before .if1 .left))
+    ∙ pass _ _ _ (le-leb _ _ (c .before .before .before .before .if2 .left))
+    ∙ pass _ _ _ (sym (c .before .before .before .are-calls .ensures) ∙ not-false _ (c .before .before .if3 .left))
+    ∙ refuse _ _ _ (sym (c .before .at-most-four .ensures) ∙ not-true _ (c .if4 .taken)))
 
 together-at-most-four-requires : tie.Need-together-at-most-four-requires
 together-at-most-four-requires c κs =
@@ -69,11 +69,11 @@ returns-5 : tie.Need-returns-5
 unfolding handCheck
 returns-5 c =
     sym
-    (pass _ 1 _ (eq-eqb _ _ (c .before .before .before .before .before .before .before .if1 .left))
-    ∙ pass _ 2 _ (le-leb _ _ (c .before .before .before .before .before .before .if2 .left))
-    ∙ pass _ 3 _ (sym (c .before .before .before .before .before .are-calls .ensures) ∙ not-false _ (c .before .before .before .before .if3 .left))
-    ∙ pass _ 4 _ (sym (c .before .before .before .at-most-four .ensures) ∙ not-false _ (c .before .before .if4 .left))
-    ∙ refuse _ 5 _ (sym (c .before .together-at-most-four .ensures) ∙ not-true _ (c .if5 .taken)))
+    (pass _ _ _ (eq-eqb _ _ (c .before .before .before .before .before .before .before .if1 .left))
+    ∙ pass _ _ _ (le-leb _ _ (c .before .before .before .before .before .before .if2 .left))
+    ∙ pass _ _ _ (sym (c .before .before .before .before .before .are-calls .ensures) ∙ not-false _ (c .before .before .before .before .if3 .left))
+    ∙ pass _ _ _ (sym (c .before .before .before .at-most-four .ensures) ∙ not-false _ (c .before .before .if4 .left))
+    ∙ refuse _ _ _ (sym (c .before .together-at-most-four .ensures) ∙ not-true _ (c .if5 .taken)))
 
 sum-range-requires : tie.Need-sum-range-requires
 sum-range-requires c κs = search needs
@@ -89,24 +89,24 @@ unfolding handCheck
 returns-6 c =
     let a = c .before .before .before .before .before .before .before .before .before .before .before .args in
     sym
-    (pass _ 1 _ (eq-eqb _ _ (c .before .before .before .before .before .before .before .before .before .if1 .left))
-    ∙ pass _ 2 _ (le-leb _ _ (c .before .before .before .before .before .before .before .before .if2 .left))
-    ∙ pass _ 3 _ (sym (c .before .before .before .before .before .before .before .are-calls .ensures) ∙ not-false _ (c .before .before .before .before .before .before .if3 .left))
-    ∙ pass _ 4 _ (sym (c .before .before .before .before .before .at-most-four .ensures) ∙ not-false _ (c .before .before .before .before .if4 .left))
-    ∙ pass _ 5 _ (sym (c .before .before .before .together-at-most-four .ensures) ∙ not-false _ (c .before .before .if5 .left))
-    ∙ refuse _ 6 _ (total (c .before .sum-range .result) (sum (held (a .counts .now)) tiles) (a .k .count) false (c .before .sum-range .ensures .0) (ne-eqb _ _ (c .if6 .taken))))
+    (pass _ _ _ (eq-eqb _ _ (c .before .before .before .before .before .before .before .before .before .if1 .left))
+    ∙ pass _ _ _ (le-leb _ _ (c .before .before .before .before .before .before .before .before .if2 .left))
+    ∙ pass _ _ _ (sym (c .before .before .before .before .before .before .before .are-calls .ensures) ∙ not-false _ (c .before .before .before .before .before .before .if3 .left))
+    ∙ pass _ _ _ (sym (c .before .before .before .before .before .at-most-four .ensures) ∙ not-false _ (c .before .before .before .before .if4 .left))
+    ∙ pass _ _ _ (sym (c .before .before .before .together-at-most-four .ensures) ∙ not-false _ (c .before .before .if5 .left))
+    ∙ refuse _ _ _ (total (c .before .sum-range .result) (sum (held (a .counts .now)) tiles) (a .k .count) _ false (c .before .sum-range .ensures .0) (ne-eqb _ _ (c .if6 .taken))))
 
 returns-7 : tie.Need-returns-7
 unfolding handCheck
 returns-7 c =
     let a = c .before .before .before .before .before .before .before .before .before .before .before .args in
     sym
-    (pass _ 1 _ (eq-eqb _ _ (c .before .before .before .before .before .before .before .before .before .if1 .left))
-    ∙ pass _ 2 _ (le-leb _ _ (c .before .before .before .before .before .before .before .before .if2 .left))
-    ∙ pass _ 3 _ (sym (c .before .before .before .before .before .before .before .are-calls .ensures) ∙ not-false _ (c .before .before .before .before .before .before .if3 .left))
-    ∙ pass _ 4 _ (sym (c .before .before .before .before .before .at-most-four .ensures) ∙ not-false _ (c .before .before .before .before .if4 .left))
-    ∙ pass _ 5 _ (sym (c .before .before .before .together-at-most-four .ensures) ∙ not-false _ (c .before .before .if5 .left))
-    ∙ pass _ 6 _ (total (c .before .sum-range .result) (sum (held (a .counts .now)) tiles) (a .k .count) true (c .before .sum-range .ensures .0) (eq-eqb _ _ (c .if6 .left))))
+    (pass _ _ _ (eq-eqb _ _ (c .before .before .before .before .before .before .before .before .before .if1 .left))
+    ∙ pass _ _ _ (le-leb _ _ (c .before .before .before .before .before .before .before .before .if2 .left))
+    ∙ pass _ _ _ (sym (c .before .before .before .before .before .before .before .are-calls .ensures) ∙ not-false _ (c .before .before .before .before .before .before .if3 .left))
+    ∙ pass _ _ _ (sym (c .before .before .before .before .before .at-most-four .ensures) ∙ not-false _ (c .before .before .before .before .if4 .left))
+    ∙ pass _ _ _ (sym (c .before .before .before .together-at-most-four .ensures) ∙ not-false _ (c .before .before .if5 .left))
+    ∙ pass _ _ _ (total (c .before .sum-range .result) (sum (held (a .counts .now)) tiles) (a .k .count) _ true (c .before .sum-range .ensures .0) (eq-eqb _ _ (c .if6 .left))))
 
 pub check-hand-spec : {M : Type 1} → statement M
 check-hand-spec =

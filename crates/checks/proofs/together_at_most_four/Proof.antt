@@ -12,7 +12,7 @@ use Rattle.tile.specs.Tile.{tiles}
 use Rattle.hand.specs.Counts.{held}
 use Rattle.checks.specs.Checks.{called, together}
 use Rattle.checks.proofs.Added.{usesOf}
-use Rattle.checks.proofs.Passed.{four-test}
+use Rattle.checks.proofs.Four.{four-test}
 use borrow.Author.Needs.{needs}
 use Rattle.checks.proofs.together_at_most_four.Statement.{statement}
 use Rattle.checks.proofs.together_at_most_four.Tie as tie

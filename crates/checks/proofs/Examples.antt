@@ -1,0 +1,149 @@
+-- What refuses a hand, by examples: for each number an input with this fault and near misses, and two faults at once. Assumes nothing.
+use mathlib.Core.Path.{_≡_, refl}
+use mathlib.Core.List.{List, [], _∷_, _++_}
+use Prim.Native.Nat.{ℕ}
+use lib.ListN.{length, take}
+use Rattle.tile.specs.Named.{man, mans, pins, sous, East, Red}
+use Rattle.meld.specs.declared.Meld.{Meld}
+use Rattle.meld.specs.Named.{run, triplet, chi, pon, closedKan, openKan, addedKan}
+use Rattle.hand.specs.Named.{hand}
+use Rattle.checks.specs.declared.Calls.{Calls}
+use Rattle.checks.specs.Checks.{check, handCheck}
+
+abbrev calling : List Meld → Calls
+calling ms = record { count = length ms; melds = ms }
+
+abbrev refuses : List ℕ → List Meld → ℕ
+refuses ts ms = handCheck (hand ts) (calling ms)
+
+-- 14 tiles, 11 of them, and the pair
+abbrev eleven : List ℕ
+eleven = mans 55 ++ (pins 456 ++ sous 234678)
+
+abbrev fourteen : List ℕ
+fourteen = mans 123 ++ eleven
+
+-- ---- 0: nothing is wrong
+pub uncalled-passes : refuses fourteen [] ≡ 0
+unfolding handCheck check
+uncalled-passes = refl
+
+-- beside a called meld of three, or of four, the hand has 11
+pub chi-passes : refuses eleven (chi (man 1) ∷ []) ≡ 0
+unfolding handCheck check
+chi-passes = refl
+
+pub kan-passes : refuses eleven (closedKan Red ∷ []) ≡ 0
+unfolding handCheck check
+kan-passes = refl
+
+-- four calls, and the pair
+pub four-calls-pass : refuses (mans 55) (chi (man 7) ∷ pon East ∷ openKan Red ∷ addedKan (man 1) ∷ []) ≡ 0
+unfolding handCheck check
+four-calls-pass = refl
+
+-- ---- 1: the counts are not 34 long
+pub one-count-short : handCheck (take 33 (hand fourteen)) (calling []) ≡ 1
+unfolding handCheck check
+one-count-short = refl
+
+pub one-count-long : handCheck (hand fourteen ++ (0 ∷ [])) (calling []) ≡ 1
+unfolding handCheck check
+one-count-long = refl
+
+-- ---- 2: more than four calls
+pub five-calls : refuses [] (pon (man 1) ∷ pon (man 2) ∷ pon (man 3) ∷ pon (man 4) ∷ pon (man 5) ∷ []) ≡ 2
+unfolding handCheck check
+five-calls = refl
+
+-- ---- 3: a call's kind or tile is not one that can be called
+pub closed-run-called : refuses eleven (run (man 1) ∷ []) ≡ 3
+unfolding handCheck check
+closed-run-called = refl
+
+pub closed-triplet-called : refuses eleven (triplet Red ∷ []) ≡ 3
+unfolding handCheck check
+closed-triplet-called = refl
+
+-- 789 is a sequence, 8 9 1 of the next suit is none
+pub chi-from-seven : refuses eleven (chi (man 7) ∷ []) ≡ 0
+unfolding handCheck check
+chi-from-seven = refl
+
+pub chi-from-eight : refuses eleven (chi (man 8) ∷ []) ≡ 3
+unfolding handCheck check
+chi-from-eight = refl
+
+pub chi-of-winds : refuses eleven (chi East ∷ []) ≡ 3
+unfolding handCheck check
+chi-of-winds = refl
+
+-- Red is the last tile
+pub pon-past-red : refuses eleven (pon 34 ∷ []) ≡ 3
+unfolding handCheck check
+pon-past-red = refl
+
+-- ---- 4: a count above 4
+pub four-of-a-tile : refuses (mans 11112355 ++ sous 234678) [] ≡ 0
+unfolding handCheck check
+four-of-a-tile = refl
+
+pub five-of-a-tile : refuses (mans 11111355 ++ sous 234678) [] ≡ 4
+unfolding handCheck check
+five-of-a-tile = refl
+
+-- ---- 5: hand and calls together hold more than four of one tile
+pub fourth-beside-pon : refuses (mans 12355 ++ sous 234678) (pon (man 1) ∷ []) ≡ 0
+unfolding handCheck check
+fourth-beside-pon = refl
+
+pub fifth-beside-pon : refuses (mans 11355 ++ sous 234678) (pon (man 1) ∷ []) ≡ 5
+unfolding handCheck check
+fifth-beside-pon = refl
+
+pub fifth-beside-kan : refuses (mans 12355 ++ sous 234678) (closedKan (man 1) ∷ []) ≡ 5
+unfolding handCheck check
+fifth-beside-kan = refl
+
+-- ---- 6: the hand's tiles are not 14 - 3 × calls
+pub thirteen-tiles : refuses (mans 23 ++ eleven) [] ≡ 6
+unfolding handCheck check
+thirteen-tiles = refl
+
+pub fifteen-tiles : refuses (mans 1233 ++ eleven) [] ≡ 6
+unfolding handCheck check
+fifteen-tiles = refl
+
+-- a kan takes three of the fourteen, as any meld
+pub ten-beside-kan : refuses (mans 5 ++ (pins 456 ++ sous 234678)) (closedKan Red ∷ []) ≡ 6
+unfolding handCheck check
+ten-beside-kan = refl
+
+pub fourteen-beside-call : refuses fourteen (pon Red ∷ []) ≡ 6
+unfolding handCheck check
+fourteen-beside-call = refl
+
+-- ---- two faults: the lower number
+pub one-before-two : handCheck [] (calling (pon (man 1) ∷ pon (man 2) ∷ pon (man 3) ∷ pon (man 4) ∷ pon (man 5) ∷ [])) ≡ 1
+unfolding handCheck check
+one-before-two = refl
+
+pub two-before-three : refuses [] (run (man 1) ∷ pon (man 2) ∷ pon (man 3) ∷ pon (man 4) ∷ pon (man 5) ∷ []) ≡ 2
+unfolding handCheck check
+two-before-three = refl
+
+pub three-before-four : refuses (mans 11111 ++ sous 234678) (triplet Red ∷ []) ≡ 3
+unfolding handCheck check
+three-before-four = refl
+
+pub four-before-five : refuses (mans 11111 ++ sous 234678) (pon (man 1) ∷ []) ≡ 4
+unfolding handCheck check
+four-before-five = refl
+
+pub four-before-six : refuses (mans 11111) [] ≡ 4
+unfolding handCheck check
+four-before-six = refl
+
+pub five-before-six : refuses (mans 11) (pon (man 1) ∷ []) ≡ 5
+unfolding handCheck check
+five-before-six = refl

@@ -1,0 +1,102 @@
+-- The number that refuses a hand: that of the first check that fails, in the words of the scope paper. Assumes nothing.
+use mathlib.Core.Path.{_≡_, refl, subst}
+use mathlib.Core.Logic.{_↔_}
+use mathlib.Core.Bool.{Bool, true, false, _&&_, _||_, not, Bool·beq}
+use mathlib.Core.List.{List, [], _∷_, List·Memᴰ}
+use Prim.Native.Nat.{ℕ, _+_, _*_, _<_, _≤_}
+use native.Mathlib.Omega.{arith}
+use lib.Dec.{T, eqb, leb, ltb, eqb→eq, leb→le, le→leb, ltb→lt, eqb-refl}
+use lib.ListN.{length}
+use borrow.Author.Tests.{eq-eqb, eqb-true, eqb-false, leb-true, leb-false}
+use Rattle.lists.specs.Fold.{all, allBelow, any, sum}
+use Rattle.lists.specs.Refusals.{Answers}
+use Rattle.lists.proofs.Arranged.{any-mem, any-in}
+use Rattle.lists.proofs.Finite.{and-left, and-right, and-both, or-skip, or-elim, at, beq→eq, true→T}
+use Rattle.lists.proofs.Members.{all-mem, all-intro}
+use Rattle.tile.specs.Tile.{tiles, valueOf}
+use Rattle.meld.specs.declared.Meld.{Meld}
+use Rattle.meld.specs.Meld.{isCall, isMeld, meld}
+use Rattle.meld.proofs.Melds.{meld-kind, meld-tile}
+use Rattle.hand.specs.Counts.{held}
+use Rattle.checks.specs.declared.Calls.{Calls}
+use Rattle.checks.specs.Checks.{called, handCheck, together}
+use Rattle.checks.specs.Refusals.{Callable, handChecks}
+use Rattle.checks.proofs.InOrder.{next-check, exactly}
+use Rattle.checks.proofs.Four.{four-below, four-test}
+
+-- ---- the calls: the test of a meld, for each kind and each tile
+abbrev kinds : List ℕ
+kinds = 1 ∷ 3 ∷ 4 ∷ 5 ∷ 6 ∷ []
+
+abbrev fromOneToSeven : ℕ → Bool
+fromOneToSeven t = leb 1 (valueOf t) && leb (valueOf t) 7
+
+abbrev callTest : ℕ → ℕ → Bool
+callTest kind t = any (eqb kind) kinds && (not (eqb kind 1) || fromOneToSeven t)
+
+call-test : T (allBelow 7 (λ kind. allBelow 34 (λ t. Bool·beq (isCall (meld t kind)) (callTest kind t))))
+call-test = tt
+
+call-same : (m : Meld) → m .kind < 7 → m .tile < 34 → isCall m ≡ callTest (m .kind) (m .tile)
+call-same m h l =
+    beq→eq _ _
+    (at 34 (λ t. Bool·beq (isCall (meld t (m .kind))) (callTest (m .kind) t))
+    (at 7 (λ kind. allBelow 34 (λ t. Bool·beq (isCall (meld t kind)) (callTest kind t))) call-test (m .kind) h) (m .tile) l)
+
+pub callable : (m : Meld) → T (isCall m) → Callable m
+callable m v =
+    let is = and-left (isMeld m) _ v in
+    let t = rw (call-same m (meld-kind m is) (meld-tile m is)) at v in
+    record {
+      kind = any-mem eqb eqb→eq eqb-refl (m .kind) kinds (and-left (any (eqb (m .kind)) kinds) _ t);
+      tile = meld-tile m is;
+      start = λ e.
+          let s =
+          or-skip (eqb (m .kind) 1) (fromOneToSeven (m .tile)) (true→T (eqb (m .kind) 1) (eq-eqb (m .kind) 1 e)) (and-right (any (eqb (m .kind)) kinds) _ t) in (
+            leb→le _ _ (and-left (leb 1 (valueOf (m .tile))) _ s),
+            leb→le _ _ (and-right (leb 1 (valueOf (m .tile))) _ s),
+          );
+    }
+
+-- a test under a condition
+where-so : (a b : Bool) → (T a → T b) → T (not a || b)
+where-so true b f = f tt
+where-so false b f = tt
+
+pub is-call : (m : Meld) → Callable m → T (isCall m)
+is-call m c =
+    rw (call-same m (ltb→lt (m .kind) 7 (all-mem (λ n. ltb n 7) {l = kinds} tt (c .kind))) (c .tile))
+    (and-both (any (eqb (m .kind)) kinds) _ (any-in eqb eqb→eq eqb-refl (c .kind))
+    (where-so (eqb (m .kind) 1) (fromOneToSeven (m .tile))
+    (λ t.
+    let s = c .start (eqb→eq (m .kind) 1 t) in
+    and-both (leb 1 (valueOf (m .tile))) _ (le→leb _ _ (s .0)) (le→leb _ _ (s .1)))))
+
+-- ---- a test of each call, and of each tile
+each-true : (k : Calls) → all isCall (called k) ≡ true → (m : Meld) → List·Memᴰ m (called k) → Callable m
+each-true k e m i = callable m (all-mem isCall (true→T (all isCall (called k)) e) i)
+
+each-false : (k : Calls) → all isCall (called k) ≡ false → ((m : Meld) → List·Memᴰ m (called k) → Callable m) → ⊥
+each-false k e f = subst T e (all-intro isCall (called k) (λ m i. is-call m (f m i)))
+
+four-true : (f : ℕ → ℕ) → all (λ t. leb (f t) 4) tiles ≡ true → (t : ℕ) → t < 34 → f t ≤ 4
+four-true f e = four-below f (true→T (all (λ t. leb (f t) 4) tiles) e)
+
+four-false : (f : ℕ → ℕ) → all (λ t. leb (f t) 4) tiles ≡ false → ((t : ℕ) → t < 34 → f t ≤ 4) → ⊥
+four-false f e g = subst T e (four-test f g)
+
+-- ---- the six checks
+module _ (cs : List ℕ) (k : Calls) where
+  answers : (n : ℕ) → n ≡ handCheck cs k → Answers (handChecks cs k) n
+  unfolding handCheck
+  answers n e =
+      next-check _ _ _ e (λ h. omega (arith, eqb-true)) (λ h a. omega (arith, eqb-false))
+      (λ long e. next-check _ _ _ e (λ h. omega (arith, leb-true)) (λ h a. omega (arith, leb-false))
+      (λ few e. next-check _ _ _ e (each-true k) (each-false k)
+      (λ calls e. next-check _ _ _ e (four-true (held cs)) (four-false (held cs))
+      (λ four e. next-check _ _ _ e (four-true (together cs (called k))) (four-false (together cs (called k)))
+      (λ whole e. next-check _ _ _ e (λ h. omega (arith, eqb-true)) (λ h a. omega (arith, eqb-false)) (λ tiles e. e))))))
+
+  -- n is answered exactly where the checks before it pass and this one fails; 0 where all pass
+  pub hand-refusals : (n : ℕ) → (handCheck cs k ≡ n) ↔ Answers (handChecks cs k) n
+  hand-refusals n = exactly (handChecks cs k) (handCheck cs k) (answers (handCheck cs k) refl) n

@@ -1,0 +1,30 @@
+-- The checks 1 to 6 in the words of the scope paper, each a fact about the counts and the calls, in their order. These are definitions.
+use mathlib.Core.Path.{_≡_}
+use mathlib.Core.List.{List, [], _∷_, List·Memᴰ}
+use Prim.Native.Nat.{ℕ, _-_, _*_, _≤_, _<_}
+use lib.ListN.{length}
+use Rattle.lists.specs.Fold.{sum}
+use Rattle.lists.specs.Refusals.{Check, unless}
+use Rattle.tile.specs.Tile.{tiles, valueOf}
+use Rattle.meld.specs.declared.Meld.{Meld}
+use Rattle.hand.specs.Counts.{held}
+use Rattle.checks.specs.declared.Calls.{Calls}
+use Rattle.checks.specs.Checks.{called, together}
+
+-- a meld that can be called: an open sequence (kind 1), which starts at 1 to 7 of a suit, an open triplet (3), or a closed, open or added kan (4, 5, 6)
+pub record Callable (m : Meld) : Type 0 where
+  pub kind : List·Memᴰ (m .kind) (1 ∷ 3 ∷ 4 ∷ 5 ∷ 6 ∷ [])
+  pub tile : m .tile < 34
+  pub start : m .kind ≡ 1 → (1 ≤ valueOf (m .tile)) × (valueOf (m .tile) ≤ 7)
+
+-- 34 counts; at most four calls; each can be called; at most four of each tile in the hand; at most four in hand and calls together; the hand's tiles
+-- are 14, three fewer for each call
+abbrev pub handChecks : List ℕ → Calls → List Check
+handChecks cs k =
+    unless 1 (length cs ≡ 34)
+    ∷ unless 2 (k .count ≤ 4)
+    ∷ unless 3 ((m : Meld) → List·Memᴰ m (called k) → Callable m)
+    ∷ unless 4 ((t : ℕ) → t < 34 → held cs t ≤ 4)
+    ∷ unless 5 ((t : ℕ) → t < 34 → together cs (called k) t ≤ 4)
+    ∷ unless 6 (sum (held cs) tiles ≡ 14 - 3 * k .count)
+    ∷ []

@@ -1,0 +1,60 @@
+-- The number that refuses a listing: that of the first check that fails, in the words of the scope paper; and what stands beside it.
+-- Assumes nothing.
+use mathlib.Core.Path.{_≡_, refl, sym, ap}
+use mathlib.Core.Logic.{_↔_, inl, inr}
+use mathlib.Core.Bool.{Bool, true, false}
+use mathlib.Core.List.{List, [], _∷_}
+use Prim.Native.Nat.{ℕ, _≤_}
+use native.Mathlib.Decide.{ℕ-discrete}
+use native.Mathlib.Omega.{arith}
+use lib.Dec.{leb}
+use lib.ListN.{length}
+use borrow.Author.Tests.{leb-true, leb-false}
+use Rattle.lists.specs.Refusals.{Answers}
+use Rattle.checks.specs.declared.Calls.{Calls}
+use Rattle.checks.specs.Checks.{handCheck}
+use Rattle.checks.specs.Refusals.{handChecks}
+use Rattle.checks.proofs.InOrder.{then-checks, exactly}
+use Rattle.checks.proofs.Refusals.{hand-refusals}
+use Rattle.unit.specs.declared.Listing.{Listing}
+use Rattle.unit.specs.declared.Listing.the-variants.{Refused, Listed}
+use Rattle.unit.specs.Listing.{numberOf, readingsOf, bytesOf, handReadings, handRecords, listing, written}
+use Rattle.unit.specs.Refusals.{roomCheck, listChecks, RefusedAlone}
+use Rattle.unit.proofs.Answers.{refused-answer, refused-buffer, short-answer, short-buffer, listed-answer}
+
+module _ (cs : List ℕ) (k : Calls) where
+  answers : (lent : ℕ) → Answers (listChecks cs k lent) (numberOf (listing cs k lent))
+  answers lent =
+      then-checks (handChecks cs k) (roomCheck cs k lent ∷ []) tt (handCheck cs k) (numberOf (listing cs k lent)) (hand-refusals cs k (handCheck cs k) .0 refl)
+      (λ z. ap numberOf (sym (refused-answer cs k (handCheck cs k) lent refl z))) (λ z. room z (leb (length (handRecords cs k)) lent) refl)
+    where
+      room : handCheck cs k ≡ 0 → (b : Bool) → leb (length (handRecords cs k)) lent ≡ b → Answers (roomCheck cs k lent ∷ []) (numberOf (listing cs k lent))
+      room z true e =
+          let h = leb-true (length (handRecords cs k)) lent e in
+          inl (h, ap numberOf (sym (listed-answer cs k z lent (length (handReadings cs k)) (length (handRecords cs k)) h refl refl)))
+      room z false e =
+          let h = leb-false (length (handRecords cs k)) lent e in
+          inr (λ l. omega arith, ap numberOf (sym (short-answer cs k z lent h)))
+
+  -- n is answered exactly where the checks before it pass and this one fails; 0 where all pass
+  pub listing-refusals : (lent n : ℕ) → (numberOf (listing cs k lent) ≡ n) ↔ Answers (listChecks cs k lent) n
+  listing-refusals lent n = exactly (listChecks cs k lent) (numberOf (listing cs k lent)) (answers lent) n
+
+  -- beside a refusal: no count, and the buffer as it was
+  pub refused-alone : (lent : List ℕ) → (numberOf (listing cs k (length lent)) ≡ 0 → ⊥) → RefusedAlone cs k lent
+  refused-alone lent z =
+      record { readings = none (listing cs k (length lent)) z .0; bytes = none (listing cs k (length lent)) z .1; buffer = go (ℕ-discrete (handCheck cs k) 0) }
+    where
+      none : (l : Listing) → (numberOf l ≡ 0 → ⊥) → (readingsOf l ≡ 0) × (bytesOf l ≡ 0)
+      none (Refused n) h = (refl, refl)
+      none (Listed readings bytes) h = absurd (h refl)
+
+      room : handCheck cs k ≡ 0 → (b : Bool) → leb (length (handRecords cs k)) (length lent) ≡ b → written cs k lent ≡ lent
+      room c true e =
+          let h = leb-true (length (handRecords cs k)) (length lent) e in
+          absurd (z (ap numberOf (sym (listed-answer cs k c (length lent) (length (handReadings cs k)) (length (handRecords cs k)) h refl refl))))
+      room c false e = sym (short-buffer cs k c lent (leb-false (length (handRecords cs k)) (length lent) e))
+
+      go : Dec (handCheck cs k ≡ 0) → written cs k lent ≡ lent
+      go (no c) = sym (refused-buffer cs k (handCheck cs k) lent refl c)
+      go (yes c) = room c (leb (length (handRecords cs k)) (length lent)) refl
