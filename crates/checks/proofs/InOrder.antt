@@ -43,7 +43,7 @@ pass-all [] a = refl
 pass-all (c ∷ xs) a = inl (a .0, pass-all xs (a .1))
 
 -- ---- more follow
-passed-on : (xs ys : List Check) (n : ℕ) → Asked xs → Answers ys n → Answers (xs ++ ys) n
+pub passed-on : (xs ys : List Check) (n : ℕ) → Asked xs → Answers ys n → Answers (xs ++ ys) n
 passed-on [] ys n a b = b
 passed-on (c ∷ xs) ys n a b = inl (a .0, passed-on xs ys n (a .1) b)
 

@@ -1,4 +1,6 @@
 pub mod Checked
+pub mod Refusals
+pub mod Passed
 pub mod Opened
 pub mod Readings
 pub mod Answers

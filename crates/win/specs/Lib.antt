@@ -1,1 +1,2 @@
 pub mod Win
+pub mod Refusals

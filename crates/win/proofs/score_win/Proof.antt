@@ -2,7 +2,7 @@
 use mathlib.Core.Path.{sym, _∙_}
 use lib.ListN.{length-map}
 use Rattle.promises.proofs.Listing.{room}
-use Rattle.win.proofs.Checked.{win-passes}
+use Rattle.win.proofs.Checked.{hand-passes}
 use Rattle.win.proofs.Readings.{held-readings}
 use Rattle.win.proofs.Answers.{win-refused, win-chosen}
 use borrow.Author.Needs.{needs}
@@ -30,7 +30,7 @@ write-all-requires c κs =
     let cs = s .args .counts .now in
     let k = s .args .k in
     let passes = sym (c .before .before .check-win .ensures) ∙ c .before .if1 .left in
-    let ok = win-passes cs k (s .args .w) passes .hand in
+    let ok = hand-passes cs k (s .args .w) passes in
     let four = sym (length-map (k .melds) _) ∙ s .good .1 .0 .1 .1 .1 .0 .1 .0 .1 in
     (ok, room cs k four ok)
 
@@ -43,7 +43,7 @@ tiles-together-requires c κs =
     let cs = s .args .counts .now in
     let k = s .args .k in
     let passes = sym (c .before .before .before .before .before .check-win .ensures) ∙ c .before .before .before .before .if1 .left in
-    let ok = win-passes cs k (s .args .w) passes .hand in
+    let ok = hand-passes cs k (s .args .w) passes in
     ok
 
 is-opened-requires : tie.Need-is-opened-requires
@@ -58,7 +58,7 @@ returns-2 c =
     let cs = s .args .counts .now in
     let k = s .args .k in
     let passes = sym (c .before .before .before .before .before .before .before .before .check-win .ensures) ∙ c .before .before .before .before .before .before .before .if1 .left in
-    let ok = win-passes cs k (s .args .w) passes .hand in
+    let ok = hand-passes cs k (s .args .w) passes in
     let four = sym (length-map (k .melds) _) ∙ s .good .1 .0 .1 .1 .1 .0 .1 .0 .1 in
     let b = c .before .before .before .before .before .write-all in
     let holds = held-readings cs k four ok _ _ (b .result) (b .ensures .1 .1) (room cs k four ok) (b .ensures .0) in

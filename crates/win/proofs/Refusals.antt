@@ -1,0 +1,81 @@
+-- The number that refuses a win: that of the first check that fails, in the words of the scope paper. Assumes nothing.
+use mathlib.Core.Path.{_≡_, refl, sym, subst, _∙_}
+use mathlib.Core.Logic.{_↔_}
+use mathlib.Core.Bool.{Bool, true, false, _&&_, _||_, not}
+use mathlib.Core.List.{List, List·Memᴰ}
+use Prim.Native.Nat.{ℕ, _<_}
+use native.Mathlib.Omega.{arith}
+use lib.Dec.{T, eqb, ltb, leb, eqb→eq, ltb→lt, eqb-refl}
+use borrow.Author.Tests.{lt-ltb, ltb-true}
+use Rattle.lists.specs.Fold.{allBelow, any}
+use Rattle.lists.specs.Refusals.{Answers}
+use Rattle.lists.proofs.Arranged.{any-mem}
+use Rattle.lists.proofs.Finite.{T→true, true→T, and-left, and-right, and-both, or-skip, at}
+use Rattle.lists.proofs.Members.{all-mem}
+use Rattle.tile.specs.Tile.{isWind}
+use Rattle.context.specs.declared.GameContext.{GameContext}
+use Rattle.context.specs.Context.{inRange}
+use Rattle.hand.specs.Counts.{held}
+use Rattle.checks.specs.declared.Calls.{Calls}
+use Rattle.checks.specs.Checks.{handCheck}
+use Rattle.checks.specs.Refusals.{handChecks}
+use Rattle.checks.proofs.InOrder.{next-check, then-checks, exactly}
+use Rattle.checks.proofs.Refusals.{hand-refusals}
+use Rattle.win.specs.Win.{inHand, winCheck}
+use Rattle.win.specs.Refusals.{winTypes, winds, InRange, InHand, contextChecks, winChecks}
+use Rattle.win.proofs.Checked.{or-second, refused-hand}
+
+-- ---- the win type and the winds, as a test and as a fact
+type-test : T (allBelow 2 (λ t. any (eqb t) winTypes))
+type-test = tt
+
+wind-test : T (allBelow 31 (λ t. not (isWind t) || any (eqb t) winds))
+wind-test = tt
+
+is-type : (t : ℕ) → T (ltb t 2) → List·Memᴰ t winTypes
+is-type t h = any-mem eqb eqb→eq eqb-refl t winTypes (at 2 (λ t. any (eqb t) winTypes) type-test t (ltb→lt t 2 h))
+
+is-wind : (t : ℕ) → T (isWind t) → List·Memᴰ t winds
+is-wind t h =
+    any-mem eqb eqb→eq eqb-refl t winds
+    (or-skip (isWind t) (any (eqb t) winds) h
+    (at 31 (λ t. not (isWind t) || any (eqb t) winds) wind-test t (ltb→lt t 31 (and-right (leb 27 t) _ h))))
+
+module _ (w : GameContext) where
+  pub in-range : T (inRange w) → InRange w
+  in-range h =
+      let v = and-right (ltb (w .«win_type») 2) _ h in
+      record {
+        type = is-type (w .«win_type») (and-left (ltb (w .«win_type») 2) _ h);
+        round = is-wind (w .«round_wind») (and-left (isWind (w .«round_wind»)) _ v);
+        seat = is-wind (w .«seat_wind») (and-right (isWind (w .«round_wind»)) _ v);
+      }
+
+  pub range-test : InRange w → T (inRange w)
+  range-test r =
+      and-both (ltb (w .«win_type») 2) _ (all-mem (λ t. ltb t 2) {l = winTypes} tt (r .type))
+      (and-both (isWind (w .«round_wind»)) _ (all-mem isWind {l = winds} tt (r .round)) (all-mem isWind {l = winds} tt (r .seat)))
+
+-- ---- two tests together
+both-true : (a b : Bool) → (a && b) ≡ true → (a ≡ true) × (b ≡ true)
+both-true true b e = (refl, e)
+both-true false b e = absurd (subst T (sym e) tt)
+
+both-false : (a b : Bool) → (a && b) ≡ false → a ≡ true → b ≡ true → ⊥
+both-false a b e f g = subst T e (and-both a b (true→T a f) (true→T b g))
+
+-- ---- the checks of a win
+module _ (cs : List ℕ) (k : Calls) (w : GameContext) where
+  context-answers : handCheck cs k ≡ 0 → (n : ℕ) → n ≡ winCheck cs k w → Answers (contextChecks cs w) n
+  unfolding winCheck
+  context-answers z n e =
+      next-check _ _ _ (e ∙ or-second (handCheck cs k) _ z) (λ h. in-range w (true→T (inRange w) h)) (λ h r. subst T h (range-test w r))
+      (λ range e. next-check _ _ _ e (λ h. let p = both-true (ltb (w .«winning_tile») 34) _ h in record { tile = omega (arith, ltb-true); there = omega (arith, ltb-true) })
+      (λ h i. both-false (ltb (w .«winning_tile») 34) _ h (lt-ltb _ _ (i .tile)) (lt-ltb _ _ (i .there))) (λ tile e. e))
+
+  -- n is answered exactly where the checks before it pass and this one fails; 0 where all pass
+  pub win-refusals : (n : ℕ) → (winCheck cs k w ≡ n) ↔ Answers (winChecks cs k w) n
+  win-refusals =
+      exactly (winChecks cs k w) (winCheck cs k w)
+      (then-checks (handChecks cs k) (contextChecks cs w) tt (handCheck cs k) (winCheck cs k w) (hand-refusals cs k (handCheck cs k) .0 refl)
+      (λ z. sym (refused-hand cs k w (handCheck cs k) refl z)) (λ z. context-answers z (winCheck cs k w) refl))
