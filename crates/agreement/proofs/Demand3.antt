@@ -23,7 +23,7 @@ use Rattle.promises.proofs.Listing.{once}
 use Rattle.win.specs.Win.{winCheck, scores, scoreWin}
 use Rattle.win.proofs.Answers.{win-choice}
 use Rattle.agreement.specs.Agreement.{SameAnswer, NotGreen, Alike, RenamedCalls}
-use Rattle.agreement.proofs.Checked.{Checked, checked, checks}
+use Rattle.win.proofs.Passed.{Checked, checked, checks}
 use Rattle.agreement.proofs.Twin.{checked-renamed}
 use Rattle.agreement.proofs.Listed.{same-listing, listing-writes}
 use Rattle.agreement.proofs.Scored.{readings-renamed, ranks-renamed}

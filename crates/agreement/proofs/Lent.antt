@@ -14,7 +14,7 @@ use Rattle.lent.specs.Lent.{callsOf}
 use Rattle.lent.proofs.Laws.{called-lent}
 use Rattle.win.specs.Win.{winCheck}
 use Rattle.agreement.specs.Agreement.{NotGreen, Alike, RenamedCalls}
-use Rattle.agreement.proofs.Checked.{checked}
+use Rattle.win.proofs.Passed.{checked}
 use Rattle.agreement.proofs.Demand3.{demand3}
 
 -- of up to four lent melds: the calls of the melds renamed are the calls renamed

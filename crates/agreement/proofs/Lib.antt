@@ -1,4 +1,3 @@
-pub mod Checked
 pub mod Twin
 pub mod Listed
 pub mod Scored

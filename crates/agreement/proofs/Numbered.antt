@@ -1,4 +1,4 @@
--- A reading by its number, and its renamed one at the number where that stands: the same score and the same waits. Assumes nothing.
+-- A reading by its number, and its renamed one at whatever number that stands: the same score and the same waits. Assumes nothing.
 use mathlib.Core.Path.{sym, ap, subst₂, _∙_}
 use mathlib.Core.List.{List, Memᴰ·map, Permᴰ·symm}
 use Prim.Native.Nat.{ℕ}
@@ -16,7 +16,7 @@ use Rattle.choice.proofs.Standing.{stands-mem, mem-stands}
 use Rattle.win.specs.Win.{namedWaits}
 use Rattle.win.proofs.Answers.{scored-at, named-at}
 use Rattle.agreement.specs.Agreement.{SameAnswer, NotGreen, SameReading, RenamedCalls}
-use Rattle.agreement.proofs.Checked.{Checked, checks}
+use Rattle.win.proofs.Passed.{Checked, checks}
 use Rattle.agreement.proofs.Twin.{checked-renamed}
 use Rattle.agreement.proofs.Scored.{answers-alike, is-reading, readings-renamed, score-renamed}
 
@@ -34,10 +34,10 @@ module _
         record {
           number = q .0;
           stands = q .1;
-          score =
-              subst₂ SameAnswer (sym (scored-at (renCounts ρ cs) j (renWin ρ w) two (q .0) (renReading ρ r) (q .1)))
-              (sym (scored-at cs k w one n r i)) (answers-alike (score-renamed c p plain plain′ r m) (q .0) n);
-          waits =
-              named-at (renCounts ρ cs) j (renWin ρ w) two (q .0) (renReading ρ r) (q .1)
+          score = λ o s.
+              subst₂ SameAnswer (sym (scored-at (renCounts ρ cs) j (renWin ρ w) two o (renReading ρ r) s)) (sym (scored-at cs k w one n r i))
+              (answers-alike (score-renamed c p plain plain′ r m) o n);
+          waits = λ o s.
+              named-at (renCounts ρ cs) j (renWin ρ w) two o (renReading ρ r) s
               ∙ ap namedWaits (waits-renamed ρ (w .«winning_tile») (p .tile) r (is-reading cs k r m)) ∙ sym (named-at cs k w one n r i);
         }

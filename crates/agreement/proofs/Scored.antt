@@ -32,7 +32,7 @@ use Rattle.reading_score.specs.Score.{result, scoreOf, hasYaku, rank, yakumanFi
 use Rattle.choice.specs.Choice.{scored}
 use Rattle.win.specs.Win.{isOpened, tilesTogether, scoreIn, scores}
 use Rattle.agreement.specs.Agreement.{NotGreen, SameAnswer, RenamedCalls}
-use Rattle.agreement.proofs.Checked.{Checked}
+use Rattle.win.proofs.Passed.{Checked}
 use Rattle.agreement.proofs.Twin.{renamed-twin, together-twin, readings-twin}
 
 -- two scores are alike

@@ -25,11 +25,12 @@ use Rattle.renamed.proofs.Readings.{readings-moved}
 use Rattle.renamed.proofs.Counts.{held-renamed, counts-length}
 use Rattle.checks.specs.declared.Calls.{Calls}
 use Rattle.checks.specs.Checks.{called, together, handCheck}
-use Rattle.checks.proofs.Passed.{Passed, passed, passes, four-each}
+use Rattle.checks.proofs.Four.{four-each}
+use Rattle.checks.proofs.Passed.{Passed, passed, passes}
 use Rattle.unit.specs.Listing.{handReadings}
 use Rattle.unit.proofs.Listed.{melds-called}
 use Rattle.agreement.specs.Agreement.{RenamedCalls}
-use Rattle.agreement.proofs.Checked.{Checked}
+use Rattle.win.proofs.Passed.{Checked}
 
 -- the hand ds with the calls j is the hand cs with the calls k, with f at each tile and g at each call
 pub record Twin (f : ℕ → ℕ) (g : Meld → Meld) (cs : List ℕ) (k : Calls) (ds : List ℕ) (j : Calls) : Type 0 where

@@ -47,12 +47,17 @@ pub record Writes (rs : List Reading) (buffer left : List ℕ) : Type 0 where
   pub ascending : Pairwise Before listed
   pub bytes : left ≡ records listed ++ drop (length (records listed)) buffer
 
--- the reading r, number n of the first hand, and its renamed one, at the number where that stands, score alike and have the same waits
+-- the reading r, number n of the first hand: its renamed one stands in the second, and at whatever number it stands there it scores alike and has the
+-- same waits
 pub record SameReading (ρ : Renaming) (cs : List ℕ) (k j : Calls) (w : GameContext) (n : ℕ) (r : Reading) : Type 0 where
   pub number : ℕ
   pub stands : StandsAt (renReading ρ r) number (handReadings (renCounts ρ cs) j)
-  pub score : SameAnswer (scoreReading (renCounts ρ cs) j (renWin ρ w) number) (scoreReading cs k w n)
-  pub waits : nameWaits (renCounts ρ cs) j (renWin ρ w) number ≡ nameWaits cs k w n
+  pub score :
+      (m : ℕ) → StandsAt (renReading ρ r) m (handReadings (renCounts ρ cs) j)
+      → SameAnswer (scoreReading (renCounts ρ cs) j (renWin ρ w) m) (scoreReading cs k w n)
+  pub waits :
+      (m : ℕ) → StandsAt (renReading ρ r) m (handReadings (renCounts ρ cs) j)
+      → nameWaits (renCounts ρ cs) j (renWin ρ w) m ≡ nameWaits cs k w n
 
 -- the win of the hand cs with the calls k, and the same win renamed by ρ, with the calls j
 pub record Alike (ρ : Renaming) (cs : List ℕ) (k j : Calls) (w : GameContext) : Type 0 where
@@ -66,7 +71,7 @@ pub record Alike (ρ : Renaming) (cs : List ℕ) (k j : Calls) (w : GameContext)
   pub writes :
       (buffer : List ℕ) → length (handRecords cs k) ≤ length buffer
       → Writes (map (renReading ρ) (handReadings cs k)) buffer (written (renCounts ρ cs) j buffer)
-  -- reading n and its renamed one, scored by number
+  -- reading n and its renamed one, by their numbers
   pub numbered : (n : ℕ) (r : Reading) → StandsAt r n (handReadings cs k) → SameReading ρ cs k j w n r
   -- the two scored wins
   pub won : SameAnswer (scoreWin (renCounts ρ cs) j (renWin ρ w)) (scoreWin cs k w)
