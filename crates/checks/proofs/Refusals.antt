@@ -2,16 +2,15 @@
 use mathlib.Core.Path.{_≡_, refl, subst}
 use mathlib.Core.Logic.{_↔_}
 use mathlib.Core.Bool.{Bool, true, false, _&&_, _||_, not, Bool·beq}
-use mathlib.Core.List.{List, [], _∷_, List·Memᴰ}
-use Prim.Native.Nat.{ℕ, _+_, _*_, _<_, _≤_}
+use mathlib.Core.List.{List, List·Memᴰ}
+use Prim.Native.Nat.{ℕ, _<_, _≤_}
 use native.Mathlib.Omega.{arith}
 use lib.Dec.{T, eqb, leb, ltb, eqb→eq, leb→le, le→leb, ltb→lt, eqb-refl}
-use lib.ListN.{length}
 use borrow.Author.Tests.{eq-eqb, eqb-true, eqb-false, leb-true, leb-false}
-use Rattle.lists.specs.Fold.{all, allBelow, any, sum}
+use Rattle.lists.specs.Fold.{all, allBelow, any}
 use Rattle.lists.specs.Refusals.{Answers}
 use Rattle.lists.proofs.Arranged.{any-mem, any-in}
-use Rattle.lists.proofs.Finite.{and-left, and-right, and-both, or-skip, or-elim, at, beq→eq, true→T}
+use Rattle.lists.proofs.Finite.{and-left, and-right, and-both, or-skip, at, beq→eq, true→T}
 use Rattle.lists.proofs.Members.{all-mem, all-intro}
 use Rattle.tile.specs.Tile.{tiles, valueOf}
 use Rattle.meld.specs.declared.Meld.{Meld}
@@ -20,19 +19,16 @@ use Rattle.meld.proofs.Melds.{meld-kind, meld-tile}
 use Rattle.hand.specs.Counts.{held}
 use Rattle.checks.specs.declared.Calls.{Calls}
 use Rattle.checks.specs.Checks.{called, handCheck, together}
-use Rattle.checks.specs.Refusals.{Callable, handChecks}
+use Rattle.checks.specs.Refusals.{callKinds, Callable, handChecks}
 use Rattle.checks.proofs.InOrder.{next-check, exactly}
 use Rattle.checks.proofs.Four.{four-below, four-test}
 
 -- ---- the calls: the test of a meld, for each kind and each tile
-abbrev kinds : List ℕ
-kinds = 1 ∷ 3 ∷ 4 ∷ 5 ∷ 6 ∷ []
-
 abbrev fromOneToSeven : ℕ → Bool
 fromOneToSeven t = leb 1 (valueOf t) && leb (valueOf t) 7
 
 abbrev callTest : ℕ → ℕ → Bool
-callTest kind t = any (eqb kind) kinds && (not (eqb kind 1) || fromOneToSeven t)
+callTest kind t = any (eqb kind) callKinds && (not (eqb kind 1) || fromOneToSeven t)
 
 call-test : T (allBelow 7 (λ kind. allBelow 34 (λ t. Bool·beq (isCall (meld t kind)) (callTest kind t))))
 call-test = tt
@@ -48,11 +44,11 @@ callable m v =
     let is = and-left (isMeld m) _ v in
     let t = rw (call-same m (meld-kind m is) (meld-tile m is)) at v in
     record {
-      kind = any-mem eqb eqb→eq eqb-refl (m .kind) kinds (and-left (any (eqb (m .kind)) kinds) _ t);
+      kind = any-mem eqb eqb→eq eqb-refl (m .kind) callKinds (and-left (any (eqb (m .kind)) callKinds) _ t);
       tile = meld-tile m is;
       start = λ e.
           let s =
-          or-skip (eqb (m .kind) 1) (fromOneToSeven (m .tile)) (true→T (eqb (m .kind) 1) (eq-eqb (m .kind) 1 e)) (and-right (any (eqb (m .kind)) kinds) _ t) in (
+          or-skip (eqb (m .kind) 1) (fromOneToSeven (m .tile)) (true→T (eqb (m .kind) 1) (eq-eqb (m .kind) 1 e)) (and-right (any (eqb (m .kind)) callKinds) _ t) in (
             leb→le _ _ (and-left (leb 1 (valueOf (m .tile))) _ s),
             leb→le _ _ (and-right (leb 1 (valueOf (m .tile))) _ s),
           );
@@ -65,8 +61,8 @@ where-so false b f = tt
 
 pub is-call : (m : Meld) → Callable m → T (isCall m)
 is-call m c =
-    rw (call-same m (ltb→lt (m .kind) 7 (all-mem (λ n. ltb n 7) {l = kinds} tt (c .kind))) (c .tile))
-    (and-both (any (eqb (m .kind)) kinds) _ (any-in eqb eqb→eq eqb-refl (c .kind))
+    rw (call-same m (ltb→lt (m .kind) 7 (all-mem (λ n. ltb n 7) {l = callKinds} tt (c .kind))) (c .tile))
+    (and-both (any (eqb (m .kind)) callKinds) _ (any-in eqb eqb→eq eqb-refl (c .kind))
     (where-so (eqb (m .kind) 1) (fromOneToSeven (m .tile))
     (λ t.
     let s = c .start (eqb→eq (m .kind) 1 t) in
@@ -87,9 +83,9 @@ four-false f e g = subst T e (four-test f g)
 
 -- ---- the six checks
 module _ (cs : List ℕ) (k : Calls) where
-  answers : (n : ℕ) → n ≡ handCheck cs k → Answers (handChecks cs k) n
+  hand-answers : (n : ℕ) → n ≡ handCheck cs k → Answers (handChecks cs k) n
   unfolding handCheck
-  answers n e =
+  hand-answers n e =
       next-check _ _ _ e (λ h. omega (arith, eqb-true)) (λ h a. omega (arith, eqb-false))
       (λ long e. next-check _ _ _ e (λ h. omega (arith, leb-true)) (λ h a. omega (arith, leb-false))
       (λ few e. next-check _ _ _ e (each-true k) (each-false k)
@@ -99,4 +95,4 @@ module _ (cs : List ℕ) (k : Calls) where
 
   -- n is answered exactly where the checks before it pass and this one fails; 0 where all pass
   pub hand-refusals : (n : ℕ) → (handCheck cs k ≡ n) ↔ Answers (handChecks cs k) n
-  hand-refusals n = exactly (handChecks cs k) (handCheck cs k) (answers (handCheck cs k) refl) n
+  hand-refusals n = exactly (handChecks cs k) (handCheck cs k) (hand-answers (handCheck cs k) refl) n

@@ -11,9 +11,13 @@ use Rattle.hand.specs.Counts.{held}
 use Rattle.checks.specs.declared.Calls.{Calls}
 use Rattle.checks.specs.Checks.{called, together}
 
--- a meld that can be called: an open sequence (kind 1), which starts at 1 to 7 of a suit, an open triplet (3), or a closed, open or added kan (4, 5, 6)
+-- the kinds that are called: an open sequence, an open triplet, a closed, an open and an added kan
+abbrev pub callKinds : List ℕ
+callKinds = 1 ∷ 3 ∷ 4 ∷ 5 ∷ 6 ∷ []
+
+-- a meld that can be called: its kind is one of these and its tile a tile; a sequence starts at 1 to 7 of a suit
 pub record Callable (m : Meld) : Type 0 where
-  pub kind : List·Memᴰ (m .kind) (1 ∷ 3 ∷ 4 ∷ 5 ∷ 6 ∷ [])
+  pub kind : List·Memᴰ (m .kind) callKinds
   pub tile : m .tile < 34
   pub start : m .kind ≡ 1 → (1 ≤ valueOf (m .tile)) × (valueOf (m .tile) ≤ 7)
 

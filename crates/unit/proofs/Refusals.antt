@@ -4,7 +4,7 @@ use mathlib.Core.Path.{_≡_, refl, sym, ap}
 use mathlib.Core.Logic.{_↔_, inl, inr}
 use mathlib.Core.Bool.{Bool, true, false}
 use mathlib.Core.List.{List, [], _∷_}
-use Prim.Native.Nat.{ℕ, _≤_}
+use Prim.Native.Nat.{ℕ}
 use native.Mathlib.Decide.{ℕ-discrete}
 use native.Mathlib.Omega.{arith}
 use lib.Dec.{leb}
@@ -23,8 +23,8 @@ use Rattle.unit.specs.Refusals.{roomCheck, listChecks, RefusedAlone}
 use Rattle.unit.proofs.Answers.{refused-answer, refused-buffer, short-answer, short-buffer, listed-answer}
 
 module _ (cs : List ℕ) (k : Calls) where
-  answers : (lent : ℕ) → Answers (listChecks cs k lent) (numberOf (listing cs k lent))
-  answers lent =
+  listing-answers : (lent : ℕ) → Answers (listChecks cs k lent) (numberOf (listing cs k lent))
+  listing-answers lent =
       then-checks (handChecks cs k) (roomCheck cs k lent ∷ []) tt (handCheck cs k) (numberOf (listing cs k lent)) (hand-refusals cs k (handCheck cs k) .0 refl)
       (λ z. ap numberOf (sym (refused-answer cs k (handCheck cs k) lent refl z))) (λ z. room z (leb (length (handRecords cs k)) lent) refl)
     where
@@ -38,7 +38,7 @@ module _ (cs : List ℕ) (k : Calls) where
 
   -- n is answered exactly where the checks before it pass and this one fails; 0 where all pass
   pub listing-refusals : (lent n : ℕ) → (numberOf (listing cs k lent) ≡ n) ↔ Answers (listChecks cs k lent) n
-  listing-refusals lent n = exactly (listChecks cs k lent) (numberOf (listing cs k lent)) (answers lent) n
+  listing-refusals lent n = exactly (listChecks cs k lent) (numberOf (listing cs k lent)) (listing-answers lent) n
 
   -- beside a refusal: no count, and the buffer as it was
   pub refused-alone : (lent : List ℕ) → (numberOf (listing cs k (length lent)) ≡ 0 → ⊥) → RefusedAlone cs k lent

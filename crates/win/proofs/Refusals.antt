@@ -3,26 +3,25 @@ use mathlib.Core.Path.{_≡_, refl, sym, subst, _∙_}
 use mathlib.Core.Logic.{_↔_}
 use mathlib.Core.Bool.{Bool, true, false, _&&_, _||_, not}
 use mathlib.Core.List.{List, List·Memᴰ}
-use Prim.Native.Nat.{ℕ, _<_}
+use Prim.Native.Nat.{ℕ}
 use native.Mathlib.Omega.{arith}
 use lib.Dec.{T, eqb, ltb, leb, eqb→eq, ltb→lt, eqb-refl}
 use borrow.Author.Tests.{lt-ltb, ltb-true}
 use Rattle.lists.specs.Fold.{allBelow, any}
 use Rattle.lists.specs.Refusals.{Answers}
 use Rattle.lists.proofs.Arranged.{any-mem}
-use Rattle.lists.proofs.Finite.{T→true, true→T, and-left, and-right, and-both, or-skip, at}
+use Rattle.lists.proofs.Finite.{true→T, and-left, and-right, and-both, or-skip, at}
 use Rattle.lists.proofs.Members.{all-mem}
 use Rattle.tile.specs.Tile.{isWind}
 use Rattle.context.specs.declared.GameContext.{GameContext}
 use Rattle.context.specs.Context.{inRange}
-use Rattle.hand.specs.Counts.{held}
 use Rattle.checks.specs.declared.Calls.{Calls}
 use Rattle.checks.specs.Checks.{handCheck}
 use Rattle.checks.specs.Refusals.{handChecks}
 use Rattle.checks.proofs.InOrder.{next-check, then-checks, exactly}
 use Rattle.checks.proofs.Refusals.{hand-refusals}
-use Rattle.win.specs.Win.{inHand, winCheck}
-use Rattle.win.specs.Refusals.{winTypes, winds, InRange, InHand, contextChecks, winChecks}
+use Rattle.win.specs.Win.{winCheck}
+use Rattle.win.specs.Refusals.{winTypes, winds, InRange, contextChecks, winChecks}
 use Rattle.win.proofs.Checked.{or-second, refused-hand}
 
 -- ---- the win type and the winds, as a test and as a fact
