@@ -4,3 +4,4 @@ pub mod Passed
 pub mod Opened
 pub mod Readings
 pub mod Answers
+pub mod RefusalExamples

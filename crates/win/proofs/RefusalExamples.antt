@@ -1,0 +1,76 @@
+-- What refuses a win, by examples: for 8 and 9 an input with this fault and near misses, and two faults at once. Assumes nothing.
+use mathlib.Core.Path.{_≡_, refl}
+use mathlib.Core.List.{List, [], _∷_, _++_}
+use Prim.Native.Nat.{ℕ}
+use lib.ListN.{length}
+use Rattle.tile.specs.Named.{man, sou, mans, pins, sous, East, South, North, White, Red}
+use Rattle.meld.specs.declared.Meld.{Meld}
+use Rattle.meld.specs.Named.{pon}
+use Rattle.context.specs.declared.GameContext.{GameContext}
+use Rattle.context.specs.Named.{win, ron, tsumo, byRon}
+use Rattle.hand.specs.Named.{hand}
+use Rattle.checks.specs.Checks.{check, handCheck}
+use Rattle.win.specs.Win.{orThen, winCheck}
+
+abbrev refuses : List ℕ → List Meld → GameContext → ℕ
+refuses ts ms w = winCheck (hand ts) (record { count = length ms; melds = ms }) w
+
+abbrev eleven : List ℕ
+eleven = mans 55 ++ (pins 456 ++ sous 234678)
+
+abbrev fourteen : List ℕ
+fourteen = mans 123 ++ eleven
+
+-- ---- 0: nothing is wrong
+pub ron-passes : refuses fourteen [] (ron (sou 8)) ≡ 0
+unfolding winCheck orThen handCheck check
+ron-passes = refl
+
+pub tsumo-passes : refuses fourteen [] (tsumo (man 5)) ≡ 0
+unfolding winCheck orThen handCheck check
+tsumo-passes = refl
+
+-- North is the last of the winds
+pub north-passes : refuses fourteen [] (win byRon (sou 8) North North []) ≡ 0
+unfolding winCheck orThen handCheck check
+north-passes = refl
+
+-- ---- 8: the win type or a wind is out of range
+pub third-type : refuses fourteen [] (win 2 (sou 8) East South []) ≡ 8
+unfolding winCheck orThen handCheck check
+third-type = refl
+
+pub round-white : refuses fourteen [] (win byRon (sou 8) White South []) ≡ 8
+unfolding winCheck orThen handCheck check
+round-white = refl
+
+pub seat-of-a-suit : refuses fourteen [] (win byRon (sou 8) East (sou 9) []) ≡ 8
+unfolding winCheck orThen handCheck check
+seat-of-a-suit = refl
+
+-- ---- 9: the winning tile is above 33 or not in the hand
+pub no-tile : refuses fourteen [] (ron 34) ≡ 9
+unfolding winCheck orThen handCheck check
+no-tile = refl
+
+pub tile-elsewhere : refuses fourteen [] (ron (sou 9)) ≡ 9
+unfolding winCheck orThen handCheck check
+tile-elsewhere = refl
+
+-- the tiles of a call are not in the hand
+pub tile-called : refuses eleven (pon Red ∷ []) (ron Red) ≡ 9
+unfolding winCheck orThen handCheck check
+tile-called = refl
+
+pub tile-called-and-held : refuses (mans 123 ++ (pins 456 ++ sous 23488)) (pon (man 3) ∷ []) (ron (man 3)) ≡ 0
+unfolding winCheck orThen handCheck check
+tile-called-and-held = refl
+
+-- ---- two faults: the lower number
+pub six-before-eight : refuses eleven [] (win 2 (sou 8) East South []) ≡ 6
+unfolding winCheck orThen handCheck check
+six-before-eight = refl
+
+pub eight-before-nine : refuses fourteen [] (win 2 (sou 9) East South []) ≡ 8
+unfolding winCheck orThen handCheck check
+eight-before-nine = refl
