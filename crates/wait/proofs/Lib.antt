@@ -1,3 +1,7 @@
 pub mod Waits
 pub mod Renamed
 pub mod Starts
+pub mod Examples
+pub mod Places
+pub mod Pinfu
+pub mod Concealed

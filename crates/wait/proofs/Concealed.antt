@@ -1,0 +1,40 @@
+-- Which triplets and kans are concealed, in a player's words: the closed ones, but for a closed triplet that the ron tile completed.
+-- Assumes nothing.
+use mathlib.Core.Path.{_≡_, refl, sym, ap, _∙_}
+use mathlib.Core.Bool.{Bool, true, false, _&&_, _||_, not, or-true, Bool·beq}
+use lib.Dec.{T, eqb}
+use Rattle.lists.proofs.Finite.{and-left, and-right, beq→eq}
+use Rattle.meld.specs.declared.Meld.{Meld}
+use Rattle.meld.specs.Meld.{isMeld, isConcealed, isTripletOrKan}
+use Rattle.meld.proofs.Melds.{melds-at}
+use Rattle.context.specs.declared.GameContext.{GameContext}
+use Rattle.context.specs.Context.{isTsumo}
+use Rattle.wait.specs.Wait.{closedTriplet}
+use Rattle.wait.specs.Concealed.{concealed}
+
+-- a triplet or kan of which no tile was called
+abbrev pub closedSet : Meld → Bool
+closedSet m = isConcealed m && isTripletOrKan m
+
+-- a closed kan or a closed triplet, and not both
+by-kind : (m : Meld) → T (isMeld m) → T (Bool·beq (closedSet m) (eqb (m .kind) 4 || eqb (m .kind) 2) && not (eqb (m .kind) 4 && eqb (m .kind) 2))
+by-kind = melds-at (λ m. Bool·beq (closedSet m) (eqb (m .kind) 4 || eqb (m .kind) 2) && not (eqb (m .kind) 4 && eqb (m .kind) 2)) tt
+
+-- kan, triplet: what it is; same: its tile is the winning tile
+kan-or-triplet :
+    (kan trip tsumo same kept : Bool) → T (not (kan && trip))
+    → (kan || trip && (tsumo || (not same || kept))) ≡ ((kan || trip) && (tsumo || (not (trip && same) || kept)))
+kan-or-triplet true true tsumo same kept t = absurd t
+kan-or-triplet true false tsumo same kept t = sym (or-true tsumo)
+kan-or-triplet false true tsumo same kept t = refl
+kan-or-triplet false false tsumo same kept t = refl
+
+pub concealed-means :
+    (w : GameContext) (kept : Bool) (m : Meld) → T (isMeld m)
+    → concealed w kept m ≡ (closedSet m && (isTsumo w || (not (closedTriplet (w .«winning_tile») m) || kept)))
+concealed-means w kept m v =
+    let k = by-kind m v in
+    kan-or-triplet (eqb (m .kind) 4) (eqb (m .kind) 2) (isTsumo w) (eqb (w .«winning_tile») (m .tile)) kept
+    (and-right (Bool·beq (closedSet m) (eqb (m .kind) 4 || eqb (m .kind) 2)) _ k)
+    ∙ ap (λ (b : Bool). b && (isTsumo w || (not (closedTriplet (w .«winning_tile») m) || kept)))
+    (sym (beq→eq (closedSet m) (eqb (m .kind) 4 || eqb (m .kind) 2) (and-left (Bool·beq (closedSet m) (eqb (m .kind) 4 || eqb (m .kind) 2)) _ k)))
