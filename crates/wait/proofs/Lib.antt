@@ -4,4 +4,4 @@ pub mod Starts
 pub mod Examples
 pub mod Places
 pub mod Pinfu
-pub mod Concealed
+pub mod Triplets

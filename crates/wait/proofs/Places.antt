@@ -1,18 +1,23 @@
--- What the waits within a sequence mean: which tiles would have served besides, and that each place of the winning tile is one wait and no other.
--- Assumes nothing.
-use mathlib.Core.Path.{_≡_, refl}
-use mathlib.Core.Bool.{Bool, _&&_, _||_, not, Bool·beq}
-use mathlib.Core.List.{List, [], _∷_}
-use Prim.Native.Nat.{ℕ, _+_, _<_}
+-- What the waits within a sequence mean: which tiles would have served besides; that each meld that the tile can have completed is tallied once;
+-- and that a tile of the hand is a wait of every reading. Assumes nothing.
+use mathlib.Core.Path.{_≡_, ap}
+use mathlib.Core.Bool.{Bool, true, false, _&&_, _||_, not, cond, Bool·beq}
+use mathlib.Core.List.{List, [], _∷_, _++_, List·Permᴰ, List·Permᴰ·trans}
+use Prim.Native.Nat.{ℕ, zero, suc, _+_, _<_, _≤_}
 use native.Mathlib.Omega.{arith}
-use lib.Dec.{T, eqb, eqb→eq}
-use Rattle.lists.specs.Fold.{all, allBelow, any, count, one}
+use borrow.Author.Tests.{le-leb}
+use lib.Dec.{T, eqb, leb, eqb→eq}
+use Rattle.lists.specs.Fold.{all, allBelow, any, count, one, sum, total}
 use Rattle.lists.proofs.Finite.{and-left, and-right, at, beq→eq, or-skip}
+use Rattle.lists.proofs.Members.{all-mem, all-intro, all-append, perm-mem, perm-eq}
+use Rattle.lists.proofs.Permuted.{total-perm, map-perm}
+use Rattle.lists.proofs.Sums.{sum-append}
 use Rattle.tile.specs.Tile.{isStart, tiles}
 use Rattle.meld.specs.declared.Meld.{Meld}
-use Rattle.meld.specs.Meld.{isMeld}
-use Rattle.meld.proofs.Melds.{allMelds, melds-at}
-use Rattle.wait.specs.Wait.{within, twoSided, edge, middle, closedRun}
+use Rattle.meld.specs.Meld.{isMeld, isHandMeld, uses}
+use Rattle.meld.proofs.Melds.{allMelds, melds-at, closed-melds, sorted-perm}
+use Rattle.hand.specs.Reading.{AdmitsStandard, standard}
+use Rattle.wait.specs.Wait.{within, twoSided, edge, middle, closedRun, closedTriplet, waits}
 
 -- the two tiles of the sequence from s besides t stand in the sequence from r too
 abbrev pub servesToo : ℕ → ℕ → ℕ → Bool
@@ -55,23 +60,60 @@ kanchan-means = by-place middle (λ t s. not (neighbours t s)) tt
 pub penchan-means : Place edge (λ t s. neighbours t s && not (otherServes t s))
 penchan-means = by-place edge (λ t s. neighbours t s && not (otherServes t s)) tt
 
--- ---- a tile of a closed sequence is there by exactly one of the three waits, any other tile by none
-abbrev pub places : ℕ → Meld → ℕ
-places t m = one (closedRun twoSided t m) + (one (closedRun middle t m) + one (closedRun edge t m))
+-- ---- a closed sequence or triplet that has the tile is completed by exactly one of four waits, any other meld by none
+abbrev pub waitsIn : ℕ → Meld → ℕ
+waitsIn t m = one (closedRun twoSided t m) + (one (closedRun middle t m) + (one (closedRun edge t m) + one (closedTriplet t m)))
 
-one-place-test : T (allMelds (λ m. allBelow 34 (λ t. eqb (places t m) (one (closedRun within t m)))))
-one-place-test = tt
+abbrev pub completed : ℕ → Meld → Bool
+completed t m = isHandMeld m && leb 1 (uses m t)
 
-pub one-place : (t : ℕ) (m : Meld) → t < 34 → T (isMeld m) → places t m ≡ one (closedRun within t m)
-one-place t m h v =
-    eqb→eq (places t m) _
-    (at 34 (λ t. eqb (places t m) (one (closedRun within t m)))
-    (melds-at (λ m. allBelow 34 (λ t. eqb (places t m) (one (closedRun within t m)))) one-place-test m v) t h)
+one-wait-test : T (allMelds (λ m. allBelow 34 (λ t. eqb (waitsIn t m) (one (completed t m)))))
+one-wait-test = tt
 
--- so the three tallies together count the closed sequences that have the tile
-pub places-tallied :
-    (t : ℕ) (ms : List Meld) → t < 34 → T (all isMeld ms)
-    → count (closedRun twoSided t) ms + (count (closedRun middle t) ms + count (closedRun edge t) ms) ≡ count (closedRun within t) ms
-places-tallied t [] h v = refl
-places-tallied t (m ∷ ms) h v =
-    omega (arith, one-place t m h (and-left (isMeld m) _ v), places-tallied t ms h (and-right (isMeld m) _ v))
+pub one-wait : (t : ℕ) (m : Meld) → t < 34 → T (isMeld m) → waitsIn t m ≡ one (completed t m)
+one-wait t m h v =
+    eqb→eq (waitsIn t m) _
+    (at 34 (λ t. eqb (waitsIn t m) (one (completed t m)))
+    (melds-at (λ m. allBelow 34 (λ t. eqb (waitsIn t m) (one (completed t m)))) one-wait-test m v) t h)
+
+-- so the tallies together count the melds that the tile can have completed, and the pair
+pub waits-total :
+    (t p : ℕ) (ms : List Meld) → t < 34 → T (all isMeld ms)
+    → total (waits t (standard p ms)) ≡ count (completed t) ms + one (eqb t p)
+unfolding waits
+waits-total t p [] h v = omega arith
+waits-total t p (m ∷ ms) h v =
+    omega (arith, one-wait t m h (and-left (isMeld m) _ v), waits-total t p ms h (and-right (isMeld m) _ v))
+
+-- ---- a tile of the hand has completed something: each reading that the tiles admit has a wait on it
+used-completed : (t : ℕ) (l : List Meld) → T (all isHandMeld l) → 1 ≤ sum (λ m. uses m t) l → 1 ≤ count (completed t) l
+used-completed t [] v h = absurd (omega arith)
+used-completed t (m ∷ l) v h = go (uses m t) (isHandMeld m) (and-left (isHandMeld m) _ v) (used-completed t l (and-right (isHandMeld m) _ v)) h
+  where
+    go :
+        (n : ℕ) (b : Bool) → T b → (1 ≤ sum (λ m. uses m t) l → 1 ≤ count (completed t) l) → 1 ≤ n + sum (λ m. uses m t) l
+        → 1 ≤ one (b && leb 1 n) + count (completed t) l
+    go zero b i r h = let k = r (omega arith) in omega arith
+    go (suc n) true i r h = let e = ap one (le-leb 1 (suc n) (omega arith)) in omega arith
+    go (suc n) false i r h = absurd i
+
+pub some-wait :
+    {c : ℕ → ℕ} {k : List Meld} {p : ℕ} {ms : List Meld} → T (all isMeld k) → AdmitsStandard c k p ms
+    → (t : ℕ) → t < 34 → 1 ≤ c t → 1 ≤ total (waits t (standard p ms))
+some-wait {c} {k} {p} {ms} v a t h held =
+    finish (eqb t p) (c t) (sum (λ m. uses m t) (a .hand)) (count (completed t) (a .hand)) (count (completed t) ms) (total (waits t (standard p ms)))
+    (a .exact t h) held (used-completed t (a .hand) (a .closed))
+    (omega (arith, total-perm (map-perm (λ m. one (completed t m)) melded), sum-append (λ m. one (completed t m)) k (a .hand)))
+    (waits-total t p ms h (all-intro isMeld ms (λ m i. all-mem isMeld valid (perm-mem melded i))))
+  where
+    valid : T (all isMeld (k ++ a .hand))
+    valid = all-append isMeld k (a .hand) v (closed-melds (a .hand) (a .closed))
+
+    melded : List·Permᴰ ms (k ++ a .hand)
+    melded = List·Permᴰ·trans (perm-eq (a .whole)) (sorted-perm (k ++ a .hand) valid)
+
+    finish :
+        (pair : Bool) (ct used some all tallied : ℕ) → ct ≡ cond pair 2 0 + used → 1 ≤ ct → (1 ≤ used → 1 ≤ some) → some ≤ all
+        → tallied ≡ all + one pair → 1 ≤ tallied
+    finish true ct used some all tallied e g f l q = omega arith
+    finish false ct used some all tallied e g f l q = let k = f (omega arith) in omega arith

@@ -1,16 +1,20 @@
--- Which triplets and kans are concealed, in a player's words: the closed ones, but for a closed triplet that the ron tile completed.
--- Assumes nothing.
-use mathlib.Core.Path.{_≡_, refl, sym, ap, _∙_}
+-- Which triplets and kans are concealed, in a player's words: the closed ones, but for a closed triplet that the ron tile completed; and that the
+-- triplet is spared where a closed sequence of the reading can have been completed instead. Assumes nothing.
+use mathlib.Core.Path.{_≡_, refl, sym, ap, ap₂, _∙_}
 use mathlib.Core.Bool.{Bool, true, false, _&&_, _||_, not, or-true, Bool·beq}
+use mathlib.Core.List.{List, [], _∷_}
+use Prim.Native.Nat.{_<_}
 use lib.Dec.{T, eqb}
-use Rattle.lists.proofs.Finite.{and-left, and-right, beq→eq}
+use Rattle.lists.specs.Fold.{all, allBelow, any}
+use Rattle.lists.proofs.Finite.{and-left, and-right, at, beq→eq}
 use Rattle.meld.specs.declared.Meld.{Meld}
-use Rattle.meld.specs.Meld.{isMeld, isConcealed, isTripletOrKan}
-use Rattle.meld.proofs.Melds.{melds-at}
+use Rattle.meld.specs.Meld.{isMeld, isConcealed, isSequence, isTripletOrKan}
+use Rattle.meld.proofs.Melds.{allMelds, melds-at}
 use Rattle.context.specs.declared.GameContext.{GameContext}
 use Rattle.context.specs.Context.{isTsumo}
-use Rattle.wait.specs.Wait.{closedTriplet}
-use Rattle.wait.specs.Concealed.{concealed}
+use Rattle.wait.specs.Wait.{within, closedRun, closedTriplet}
+use Rattle.wait.specs.Concealed.{spared, concealed}
+use Rattle.wait.proofs.Places.{completed}
 
 -- a triplet or kan of which no tile was called
 abbrev pub closedSet : Meld → Bool
@@ -38,3 +42,19 @@ concealed-means w kept m v =
     (and-right (Bool·beq (closedSet m) (eqb (m .kind) 4 || eqb (m .kind) 2)) _ k)
     ∙ ap (λ (b : Bool). b && (isTsumo w || (not (closedTriplet (w .«winning_tile») m) || kept)))
     (sym (beq→eq (closedSet m) (eqb (m .kind) 4 || eqb (m .kind) 2) (and-left (Bool·beq (closedSet m) (eqb (m .kind) 4 || eqb (m .kind) 2)) _ k)))
+
+-- ---- spared: a closed sequence has the winning tile
+has-tile-test : T (allMelds (λ m. allBelow 34 (λ t. Bool·beq (closedRun within t m) (isSequence m && completed t m))))
+has-tile-test = tt
+
+pub spared-means :
+    (w : GameContext) (ms : List Meld) → w .«winning_tile» < 34 → T (all isMeld ms)
+    → spared w ms ≡ any (λ m. isSequence m && completed (w .«winning_tile») m) ms
+spared-means w [] h v = refl
+spared-means w (m ∷ ms) h v =
+    ap₂ _||_
+    (beq→eq (closedRun within (w .«winning_tile») m) _
+    (at 34 (λ t. Bool·beq (closedRun within t m) (isSequence m && completed t m))
+    (melds-at (λ m. allBelow 34 (λ t. Bool·beq (closedRun within t m) (isSequence m && completed t m))) has-tile-test m (and-left (isMeld m) _ v))
+    (w .«winning_tile») h))
+    (spared-means w ms h (and-right (isMeld m) _ v))
