@@ -4,7 +4,7 @@ use mathlib.Core.Bool.{not}
 use mathlib.Core.List.{List, [], _∷_, _++_}
 use lib.Dec.{T}
 use Prim.Native.Nat.{ℕ}
-use Rattle.lists.specs.Fold.{keep}
+use Rattle.lists.specs.Fold.{keep, upFrom}
 use Rattle.tile.specs.Tile.{tiles}
 use Rattle.tile.specs.Named.{man, pin, sou, East, South, West, North, White, Green, Red, mans, pins, sous, orphanTiles}
 use Rattle.hand.specs.Named.{ofTiles}
@@ -215,16 +215,17 @@ pub pure-not-on-9 : T (not (pureWait (ofTiles (mans 11123456789995)) (man 9)))
 unfolding pureWait
 pure-not-on-9 = tt
 
--- ---- the tiles that each of the five admits, asked one at a time
-pub tanyao-tiles : keep (λ t. tanyao (ofTiles (t ∷ []))) tiles ≡ man 2 ∷ man 3 ∷ man 4 ∷ man 5 ∷ man 6 ∷ man 7 ∷ man 8 ∷ pin 2 ∷ pin 3 ∷ pin 4 ∷ pin 5 ∷ pin 6 ∷ pin 7 ∷ pin 8 ∷ sou 2 ∷ sou 3 ∷ sou 4 ∷ sou 5 ∷ sou 6 ∷ sou 7 ∷ sou 8 ∷ []
+-- ---- the tiles that each of the five admits, asked one at a time: 2 to 8 of each suit; 1 and 9 of each suit and the seven honors; these honors;
+-- these terminals; and the six green tiles
+pub tanyao-tiles : keep (λ t. tanyao (ofTiles (t ∷ []))) tiles ≡ upFrom 7 (man 2) ++ (upFrom 7 (pin 2) ++ upFrom 7 (sou 2))
 unfolding tanyao
 tanyao-tiles = refl
 
-pub honroutou-tiles : keep (λ t. honroutou (ofTiles (t ∷ []))) tiles ≡ man 1 ∷ man 9 ∷ pin 1 ∷ pin 9 ∷ sou 1 ∷ sou 9 ∷ East ∷ South ∷ West ∷ North ∷ White ∷ Green ∷ Red ∷ []
+pub honroutou-tiles : keep (λ t. honroutou (ofTiles (t ∷ []))) tiles ≡ man 1 ∷ man 9 ∷ pin 1 ∷ pin 9 ∷ sou 1 ∷ sou 9 ∷ upFrom 7 East
 unfolding honroutou
 honroutou-tiles = refl
 
-pub tsuuiisou-tiles : keep (λ t. tsuuiisou (ofTiles (t ∷ []))) tiles ≡ East ∷ South ∷ West ∷ North ∷ White ∷ Green ∷ Red ∷ []
+pub tsuuiisou-tiles : keep (λ t. tsuuiisou (ofTiles (t ∷ []))) tiles ≡ upFrom 7 East
 unfolding tsuuiisou
 tsuuiisou-tiles = refl
 
