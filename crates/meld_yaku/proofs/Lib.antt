@@ -2,3 +2,4 @@ pub mod Otherwise
 pub mod Lines
 pub mod Renamed
 pub mod Few
+pub mod Examples

@@ -18,12 +18,12 @@ use Rattle.context.specs.Context.{renWin}
 use Rattle.wait.specs.Concealed.{concealed, spared}
 use Rattle.meld_yaku.specs.Melds.{runFrom, setOf}
 use Rattle.meld_yaku.proofs.Renamed.{ren-setOf}
-use Rattle.set_yaku.specs.Sets.{toitoi, kans, sanAnkou, sanshokuDoukou, suuankou, suuKantsu}
-use Rattle.set_yaku.proofs.Renamed.{setLines, setLines-same}
+use Rattle.set_yaku.specs.Sets.{toitoi, kans, sanAnkou, setLines, sanshokuDoukou, suuankou, suuKantsu}
+use Rattle.set_yaku.proofs.Renamed.{setLines-same}
 use Rattle.honor_yaku.specs.Honors.{dragons, winds, shousangen, daisangen, shousuushii, daisuushii}
 use Rattle.honor_yaku.proofs.Renamed.{dragon-set, wind-set}
-use Rattle.sequence_yaku.specs.Sequences.{straights, ittsu, sanshokuDoujun, peikou}
-use Rattle.sequence_yaku.proofs.Renamed.{renStart, ren-runFrom, starts-over, runLines, straights-same, runLines-same}
+use Rattle.sequence_yaku.specs.Sequences.{straights, ittsu, runLines, sanshokuDoujun, peikou}
+use Rattle.sequence_yaku.proofs.Renamed.{renStart, ren-runFrom, starts-over, straights-same, runLines-same}
 use Rattle.end_yaku.specs.Ends.{chanta, junchan}
 use Rattle.end_yaku.proofs.Renamed.{outer-meld, terminal-meld}
 use Rattle.renamed_scores.proofs.Waits.{ren-spared, ren-concealed}

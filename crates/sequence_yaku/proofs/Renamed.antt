@@ -2,7 +2,7 @@
 -- each suit. Assumes nothing.
 use mathlib.Core.Path.{_≡_}
 use mathlib.Core.Bool.{_||_, not, Bool·beq}
-use mathlib.Core.List.{List, [], _∷_, map}
+use mathlib.Core.List.{map}
 use Prim.Native.Nat.{ℕ, _<_}
 use native.Mathlib.Omega.{arith}
 use lib.Dec.{T, eqb, ltb→lt}
@@ -15,8 +15,8 @@ use Rattle.meld.specs.declared.Meld.{Meld}
 use Rattle.meld.specs.Meld.{isMeld, isSequence, meld}
 use Rattle.meld.specs.Renamed.{renMeld}
 use Rattle.meld.proofs.Renamed.{meld-tile-at, onMelds}
-use Rattle.meld_yaku.specs.Melds.{runFrom, threeSuits}
-use Rattle.sequence_yaku.specs.Sequences.{straights, starts}
+use Rattle.meld_yaku.specs.Melds.{runFrom}
+use Rattle.sequence_yaku.specs.Sequences.{straights, runLines, starts}
 
 -- ---- where a renamed sequence starts
 abbrev pub renStart : Renaming → ℕ → ℕ
@@ -39,9 +39,6 @@ ren-runFrom ρ t s m v =
 -- ---- starts and lines, in another order
 pub starts-over : (ρ : Renaming) → Shuffled (renStart ρ) isStart starts
 starts-over ρ = record { each = tt; same = isPerm-perm _ _ (ren-at (λ ρ. isPerm (map (renStart ρ) starts) starts) tt ρ) }
-
-abbrev pub runLines : List (List ℕ)
-runLines = map threeSuits (0 ∷ 1 ∷ 2 ∷ 3 ∷ 4 ∷ 5 ∷ 6 ∷ [])
 
 pub straights-same : (ρ : Renaming) → T (sameLines (renStart ρ) straights)
 straights-same = ren-at (λ ρ. sameLines (renStart ρ) straights) tt

@@ -14,9 +14,13 @@ straights = (0 ∷ 3 ∷ 6 ∷ []) ∷ (9 ∷ 12 ∷ 15 ∷ []) ∷ (18 ∷ 21 �
 unfoldable pub ittsu : List Meld → Bool
 ittsu ms = anyLine runFrom ms straights
 
+-- 123, 234 and so on to 789 of man, pin and sou
+abbrev pub runLines : List (List ℕ)
+runLines = map threeSuits (0 ∷ 1 ∷ 2 ∷ 3 ∷ 4 ∷ 5 ∷ 6 ∷ [])
+
 -- SanshokuDoujun: the same sequence in all three suits
 unfoldable pub sanshokuDoujun : List Meld → Bool
-sanshokuDoujun ms = anyLine runFrom ms (map threeSuits (0 ∷ 1 ∷ 2 ∷ 3 ∷ 4 ∷ 5 ∷ 6 ∷ []))
+sanshokuDoujun ms = anyLine runFrom ms runLines
 
 -- the tiles at which a sequence can start
 abbrev pub starts : List ℕ

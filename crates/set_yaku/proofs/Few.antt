@@ -24,12 +24,12 @@ use Rattle.meld_yaku.proofs.Few.{all-count, at-most-two, too-few}
 use Rattle.set_yaku.specs.declared.SetYaku.{SetYaku}
 use Rattle.set_yaku.specs.Sets.{toitoi, kans, sanAnkou, sanshokuDoukou, suuankou}
 
-kan-set : (m : Meld) → T (isKan m) → T (isTripletOrKan m)
+pub kan-set : (m : Meld) → T (isKan m) → T (isTripletOrKan m)
 kan-set m h =
     let four = leb→le 4 (m .kind) (and-left (leb 4 (m .kind)) (ltb (m .kind) 7) h) in
     and-both (leb 2 (m .kind)) (ltb (m .kind) 7) (le→leb 2 (m .kind) (omega arith)) (and-right (leb 4 (m .kind)) (ltb (m .kind) 7) h)
 
-concealed-set : (w : GameContext) (kept : Bool) (m : Meld) → T (concealed w kept m) → T (isTripletOrKan m)
+pub concealed-set : (w : GameContext) (kept : Bool) (m : Meld) → T (concealed w kept m) → T (isTripletOrKan m)
 concealed-set w kept m h =
     or-elim (eqb (m .kind) 4) _ h (λ i. of-kind 4 (eqb→eq (m .kind) 4 i) tt)
     (λ i. of-kind 2 (eqb→eq (m .kind) 2 (and-left (eqb (m .kind) 2) _ i)) tt)

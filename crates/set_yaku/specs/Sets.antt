@@ -22,9 +22,13 @@ kans ms = count isKan ms
 unfoldable pub sanAnkou : GameContext → List Meld → Bool
 sanAnkou w ms = eqb (count (concealed w (spared w ms)) ms) 3
 
+-- 111, 222 and so on to 999 of man, pin and sou
+abbrev pub setLines : List (List ℕ)
+setLines = map threeSuits (0 ∷ 1 ∷ 2 ∷ 3 ∷ 4 ∷ 5 ∷ 6 ∷ 7 ∷ 8 ∷ [])
+
 -- SanshokuDoukou: the same triplet or kan in all three suits
 unfoldable pub sanshokuDoukou : List Meld → Bool
-sanshokuDoukou ms = anyLine (λ t. setOf (eqb t)) ms (map threeSuits (0 ∷ 1 ∷ 2 ∷ 3 ∷ 4 ∷ 5 ∷ 6 ∷ 7 ∷ 8 ∷ []))
+sanshokuDoukou ms = anyLine (λ t. setOf (eqb t)) ms setLines
 
 -- ---- yakuman
 -- Suuankou: four concealed triplets or kans; by ron a triplet of the winning tile is not concealed, so only a ron on the pair is left
