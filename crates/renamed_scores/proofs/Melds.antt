@@ -2,7 +2,7 @@
 use mathlib.Core.Path.{_≡_, refl, ap, ap₂, _∙_}
 use mathlib.Core.Bool.{Bool, false, _&&_, not}
 use mathlib.Core.List.{List}
-use Prim.Native.Nat.{ℕ, _/_, _<_}
+use Prim.Native.Nat.{ℕ, _<_}
 use lib.Dec.{T, eqb, ltb, ltb→lt}
 use Rattle.lists.specs.Fold.{any, count}
 use Rattle.lists.proofs.Permuted.{sum-over, lines-over}
@@ -22,7 +22,7 @@ use Rattle.set_yaku.specs.Sets.{toitoi, kans, sanAnkou, setLines, sanshokuDouko
 use Rattle.set_yaku.proofs.Renamed.{setLines-same}
 use Rattle.honor_yaku.specs.Honors.{dragons, winds, shousangen, daisangen, shousuushii, daisuushii}
 use Rattle.honor_yaku.proofs.Renamed.{dragon-set, wind-set}
-use Rattle.sequence_yaku.specs.Sequences.{straights, ittsu, runLines, sanshokuDoujun, peikou}
+use Rattle.sequence_yaku.specs.Sequences.{straights, ittsu, runLines, sanshokuDoujun, pairsAmong, peikou}
 use Rattle.sequence_yaku.proofs.Renamed.{renStart, ren-runFrom, starts-over, straights-same, runLines-same}
 use Rattle.end_yaku.specs.Ends.{chanta, junchan}
 use Rattle.end_yaku.proofs.Renamed.{outer-meld, terminal-meld}
@@ -81,8 +81,8 @@ module _ (ρ : Renaming) (ms ns : List Meld) (mv : Moved ρ ms ns) where
   pub ren-peikou : peikou ns ≡ peikou ms
   unfolding peikou
   ren-peikou =
-      sum-over (starts-over ρ) (λ t. count (runFrom t) ms / 2) (λ t. count (runFrom t) ns / 2)
-      (λ t s. ap (λ (n : ℕ). n / 2) (count-moved mv (runFrom t) (runFrom (renStart ρ t)) (ren-runFrom ρ t s)))
+      sum-over (starts-over ρ) (λ t. pairsAmong (count (runFrom t) ms)) (λ t. pairsAmong (count (runFrom t) ns))
+      (λ t s. ap pairsAmong (count-moved mv (runFrom t) (runFrom (renStart ρ t)) (ren-runFrom ρ t s)))
 
   -- ---- concealed triplets and kans
   module _ (w : GameContext) (h : w .«winning_tile» < 34) where

@@ -2,7 +2,7 @@
 use mathlib.Core.Path.{_≡_, refl, ap, _∙_}
 use mathlib.Core.Bool.{Bool, true, false, _||_}
 use mathlib.Core.List.{List, [], _∷_}
-use Prim.Native.Nat.{ℕ, _+_, _/_}
+use Prim.Native.Nat.{ℕ, _+_}
 use native.Mathlib.Omega.{arith}
 use Rattle.lists.specs.Fold.{any, count, one, total}
 use Rattle.lists.proofs.Finite.{and-left}
@@ -12,7 +12,7 @@ use Rattle.meld.specs.declared.Meld.{Meld}
 use Rattle.meld.specs.Meld.{isSequence}
 use Rattle.meld_yaku.specs.Melds.{runFrom}
 use Rattle.meld_yaku.proofs.Few.{count-fewer, any-none}
-use Rattle.sequence_yaku.specs.Sequences.{ittsu, sanshokuDoujun, starts, peikou}
+use Rattle.sequence_yaku.specs.Sequences.{ittsu, sanshokuDoujun, starts, pairsAmong, peikou}
 
 -- where none is counted there is none
 count-none : (q : Meld → Bool) (ms : List Meld) → count q ms ≡ 0 → any q ms ≡ false
@@ -36,7 +36,7 @@ module _ (ms : List Meld) (none : any isSequence ms ≡ false) where
   pub no-peikou : peikou ms ≡ 0
   unfolding peikou
   no-peikou =
-      ap total (map-members (λ t. count (runFrom t) ms / 2) (λ t. 0) starts (λ t i. ap (λ (n : ℕ). n / 2) (no-run-count t))) ∙ sum-zero starts
+      ap total (map-members (λ t. pairsAmong (count (runFrom t) ms)) (λ t. 0) starts (λ t i. ap pairsAmong (no-run-count t))) ∙ sum-zero starts
 
   pub no-ittsu : ittsu ms ≡ false
   unfolding ittsu

@@ -3,7 +3,7 @@
 use mathlib.Core.Path.{_≡_, refl, sym, ap, ap₂, _∙_}
 use mathlib.Core.Bool.{Bool, true, false, _&&_, not, and-false, Bool·beq}
 use mathlib.Core.List.{List, [], _∷_}
-use Prim.Native.Nat.{ℕ, _+_, _/_, _%_, _≤_}
+use Prim.Native.Nat.{ℕ, _+_, _%_, _≤_}
 use native.Mathlib.Omega.{arith}
 use native.Mathlib.Decide.{ℕ-discrete}
 use lib.Dec.{T, eqb, ltb, eqb→eq, ltb→lt}
@@ -18,7 +18,7 @@ use Rattle.tile.specs.Tile.{isStart}
 use Rattle.meld.specs.declared.Meld.{Meld}
 use Rattle.meld.specs.Meld.{isSequence}
 use Rattle.meld_yaku.specs.Melds.{runFrom}
-use Rattle.sequence_yaku.specs.Sequences.{peikou, starts}
+use Rattle.sequence_yaku.specs.Sequences.{pairsAmong, peikou, starts}
 
 -- ---- a sum of which each term grows
 sum-grown : (f g e : ℕ → ℕ) → ((t : ℕ) → f t ≡ g t + e t) → (l : List ℕ) → sum f l ≡ sum g l + sum e l
@@ -56,7 +56,7 @@ one-odd n = go (odd n) refl
     go true e = sym (eqb-true (n % 2) 1 e)
     go false e = let f = eqb-false (n % 2) 1 e in omega arith
 
-half-more : (b : Bool) (n : ℕ) → (one b + n) / 2 ≡ n / 2 + one (b && odd n)
+half-more : (b : Bool) (n : ℕ) → pairsAmong (one b + n) ≡ pairsAmong n + one (b && odd n)
 half-more true n = let e = one-odd n in omega (arith, e)
 half-more false n = omega arith
 
@@ -90,9 +90,9 @@ module _ (m : Meld) (ms : List Meld) where
   pub peikou-more : peikou (m ∷ ms) ≡ peikou ms + one (startsRun m && odd (count (runFrom (m .tile)) ms))
   unfolding peikou
   peikou-more =
-      sum-grown (λ t. count (runFrom t) (m ∷ ms) / 2) (λ t. count (runFrom t) ms / 2) (λ t. one (pairs-up && eqb (m .tile) t))
-      (λ t. half-more (runFrom t m) (count (runFrom t) ms) ∙ ap (λ (b : Bool). count (runFrom t) ms / 2 + one b) (own-start t)) starts
-      ∙ ap (λ (n : ℕ). sum (λ t. count (runFrom t) ms / 2) starts + n)
+      sum-grown (λ t. pairsAmong (count (runFrom t) (m ∷ ms))) (λ t. pairsAmong (count (runFrom t) ms)) (λ t. one (pairs-up && eqb (m .tile) t))
+      (λ t. half-more (runFrom t m) (count (runFrom t) ms) ∙ ap (λ (b : Bool). pairsAmong (count (runFrom t) ms) + one b) (own-start t)) starts
+      ∙ ap (λ (n : ℕ). sum (λ t. pairsAmong (count (runFrom t) ms)) starts + n)
       (sum-starts pairs-up (m .tile) ∙ ap one (sym (and-turn (isSequence m) (odd (count (runFrom (m .tile)) ms)) (isStart (m .tile)))))
 
   -- the same, with another test for it

@@ -26,6 +26,10 @@ sanshokuDoujun ms = anyLine runFrom ms runLines
 abbrev pub starts : List ℕ
 starts = 0 ∷ 1 ∷ 2 ∷ 3 ∷ 4 ∷ 5 ∷ 6 ∷ 9 ∷ 10 ∷ 11 ∷ 12 ∷ 13 ∷ 14 ∷ 15 ∷ 18 ∷ 19 ∷ 20 ∷ 21 ∷ 22 ∷ 23 ∷ 24 ∷ []
 
--- pairs of identical sequences: three alike make one pair, four make two; one is Iipeikou, two are Ryanpeikou
+-- the pairs that so many alike make: three make one, four make two
+abbrev pub pairsAmong : ℕ → ℕ
+pairsAmong n = n / 2
+
+-- pairs of identical sequences: one is Iipeikou, two are Ryanpeikou
 unfoldable pub peikou : List Meld → ℕ
-peikou ms = sum (λ t. count (runFrom t) ms / 2) starts
+peikou ms = sum (λ t. pairsAmong (count (runFrom t) ms)) starts
