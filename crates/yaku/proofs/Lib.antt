@@ -3,3 +3,5 @@ pub mod Laws
 pub mod Found
 pub mod NameTable
 pub mod NoYakuman
+pub mod Examples
+pub mod HanTable

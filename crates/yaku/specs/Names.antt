@@ -2,6 +2,7 @@
 use mathlib.Core.Bool.{Bool, true, false, cond}
 use mathlib.Core.List.{List, [], _∷_}
 use Prim.Native.Nat.{ℕ, _-_}
+use lib.ListN.{getD}
 use Rattle.tile.specs.Tile.{isHonor}
 use Rattle.yaku.specs.declared.names.Yaku.{Yaku}
 use Rattle.yaku.specs.declared.names.Yaku.the-variants.{Riichi, Ippatsu, MenzenTsumo, Tanyao, Pinfu, Iipeikou, Yakuhai, RinshanKaihou, Chankan, HaiteiRaoyue, HouteiRaoyui, DoubleRiichi, Toitoi, SanshokuDoujun, SanshokuDoukou, Ittsu, Chiitoitsu, Chanta, SanAnkou, SanKantsu, Honroutou, Shousangen, Honitsu, Junchan, Ryanpeikou, Chinitsu, Tenhou, Chiihou, KokushiMusou, Suuankou, Daisangen, Shousuushii, Daisuushii, Tsuuiisou, Chinroutou, Ryuuiisou, ChuurenPoutou, SuuKantsu, Kokushi13Wait, SuuankouTanki, JunseiChuurenPoutou}
@@ -185,6 +186,10 @@ place SuuKantsu = 43
 place Kokushi13Wait = 44
 place SuuankouTanki = 45
 place JunseiChuurenPoutou = 46
+
+-- how often the yaku counts by the tallies ts
+abbrev pub tallied : Yaku → List ℕ → ℕ
+tallied y ts = getD ts (place y) 0
 
 -- Yakuhai of a tile by its number
 abbrev pub yakuhaiName : ℕ → Yaku
