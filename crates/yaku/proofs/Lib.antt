@@ -5,3 +5,4 @@ pub mod NameTable
 pub mod NoYakuman
 pub mod Examples
 pub mod HanTable
+pub mod Excludes
