@@ -8,7 +8,7 @@ use native.Mathlib.Decide.{decLt}
 use native.Mathlib.Omega.{arith}
 use lib.Dec.{T, eqb, leb, ltb, eqb→eq, leb→le, ltb→lt, le→leb, lt→ltb}
 use lib.ListN.{getD, replicate, length, List·getD-eq-default}
-use Rattle.lists.specs.Fold.{all, one}
+use Rattle.lists.specs.Fold.{all, allBelow, one}
 use Rattle.lists.proofs.Finite.{and-left, and-right, and-both, at, true→T, T→true}
 use Rattle.tile.specs.Named.{East, South, West, North, White, Green, Red}
 use Rattle.context.specs.declared.GameContext.{GameContext}
@@ -22,6 +22,7 @@ use Rattle.yaku.specs.declared.names.Yaku.{Yaku}
 use Rattle.yaku.specs.declared.names.Yaku.the-variants.{Riichi, Ippatsu, MenzenTsumo, Pinfu, Iipeikou, RinshanKaihou, Chankan, HaiteiRaoyue, HouteiRaoyui, DoubleRiichi, Toitoi, SanshokuDoujun, SanshokuDoukou, Ittsu, Chiitoitsu, Chanta, SanAnkou, SanKantsu, Shousangen, Honitsu, Junchan, Ryanpeikou, Chinitsu, Tenhou, Chiihou, KokushiMusou, Suuankou, Daisangen, Shousuushii, Daisuushii, Ryuuiisou, ChuurenPoutou, SuuKantsu, Kokushi13Wait, SuuankouTanki, JunseiChuurenPoutou}
 use Rattle.yaku.specs.Names.{isYakumanName, place, tallied, yakuhaiName}
 use Rattle.yaku.specs.Tally.{unlessOrphans, rinshan, oneHan, moreHan, yakuman, isYakuman, ordinary, tallies}
+use Rattle.yaku.proofs.Laws.{one-small}
 use Rattle.yaku.proofs.NameTable.{yakuman-at}
 use Rattle.yaku.proofs.NoYakuman.{all-zero}
 
@@ -30,7 +31,7 @@ abbrev pub apart : Yaku → Yaku → List ℕ → Bool
 apart y z ts = eqb (tallied y ts) 0 || eqb (tallied z ts) 0
 
 -- a proof for each answer to a question
-by-answer : {P : Type 0} (b : Bool) → (b ≡ true → P) → (b ≡ false → P) → P
+pub by-answer : {P : Type 0} (b : Bool) → (b ≡ true → P) → (b ≡ false → P) → P
 by-answer true f g = f refl
 by-answer false f g = g refl
 
@@ -96,6 +97,21 @@ module _ (w : GameContext) (opened : Bool) (s : TileYaku) (r : Reading) where
       by-answer (isYakuman w opened s r)
       (λ e. simp (yakuman-alone e z n, or-true) tt)
       (λ e. simp (no-yakuman-tallied e y m) tt)
+
+  -- ---- a yaku counts once, but for Yakuhai (at most twice in a hand that passes the checks)
+  abbrev once : List ℕ → ℕ → Bool
+  once ts i = (leb 6 i && ltb i 13) || leb (getD ts i 0) 1
+
+  all-once : T (allBelow 47 (once (tallies w opened s r)))
+  unfolding ordinary oneHan moreHan
+  all-once = by-yakuman (λ ts. T (allBelow 47 (once ts))) (simp one-small tt) (simp one-small tt)
+
+  pub at-most-once : (y : Yaku) → (leb 6 (place y) && ltb (place y) 13) ≡ false → tallied y (tallies w opened s r) ≤ 1
+  at-most-once y e = go (decLt (place y) 47)
+    where
+      go : Dec (place y < 47) → tallied y (tallies w opened s r) ≤ 1
+      go (yes h) = let t = at 47 (once (tallies w opened s r)) all-once (place y) h in leb→le _ 1 (rw e at t)
+      go (no h) = rw (List·getD-eq-default (tallies w opened s r) 0 {n = place y} (omega (arith, long))) (omega arith)
 
   -- at most one of two counts, if so both where a yakuman is there and where none is
   kept-apart :

@@ -49,7 +49,7 @@ dot-within (v ∷ vs) (n ∷ ns) (b ∷ bs) h =
     omega arith
 
 -- ---- the tallies of yakuman are at most 1, and 0 where there is no yakuman
-one-small : (b : Bool) → leb (one b) 1 ≡ true
+pub one-small : (b : Bool) → leb (one b) 1 ≡ true
 one-small true = refl
 one-small false = refl
 

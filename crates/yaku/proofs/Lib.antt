@@ -6,3 +6,5 @@ pub mod NoYakuman
 pub mod Examples
 pub mod HanTable
 pub mod Excludes
+pub mod Closed
+pub mod Pinfu
