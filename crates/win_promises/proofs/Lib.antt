@@ -1,3 +1,4 @@
 pub mod Outcomes
 pub mod Winning
 pub mod Refusals
+pub mod Open
