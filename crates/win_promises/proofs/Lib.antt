@@ -2,3 +2,4 @@ pub mod Outcomes
 pub mod Winning
 pub mod Refusals
 pub mod Open
+pub mod Whole
