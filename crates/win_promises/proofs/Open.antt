@@ -26,7 +26,7 @@ use Rattle.promises.proofs.Listing.{admitted}
 use Rattle.unit.specs.Listing.{handReadings}
 use Rattle.unit.proofs.Listed.{melds-called}
 use Rattle.win.specs.Win.{winCheck, isOpened, tilesTogether, scoreIn}
-use Rattle.win.proofs.Checked.{win-passes}
+use Rattle.win.proofs.Passed.{checked}
 use Rattle.win.proofs.Readings.{listed-short}
 
 any-first : (p : Meld → Bool) (l m : List Meld) → T (any p l) → T (any p (l ++ m))
@@ -37,7 +37,7 @@ any-first p (a ∷ l) m t =
 -- ---- a win that passes the checks; the four melds of the calls are four (an array of four in the code)
 module _ (cs : List ℕ) (k : Calls) (w : GameContext) (four : length (k .melds) ≡ 4) (passes : winCheck cs k w ≡ 0) (opened : isOpened k ≡ true) where
   hand-passes : handCheck cs k ≡ 0
-  hand-passes = win-passes cs k w passes .hand
+  hand-passes = checked cs k w passes .hand
 
   nothing-called : called k ≡ [] → ⊥
   nothing-called e = subst T (sym opened ∙ ap (any isOpen) e) tt

@@ -29,7 +29,8 @@ use Rattle.hand.specs.Reading.{Reading, pairs, orphans, standard, Admits, Admit
 use Rattle.wait.specs.Wait.{weight}
 use Rattle.tile_yaku.specs.declared.TileYaku.{TileYaku}
 use Rattle.tile_yaku.specs.Tiles.{chinroutou, gate, nineGates, suits, tileYaku}
-use Rattle.meld_yaku.specs.Melds.{setOf, yakuhai}
+use Rattle.honor_yaku.specs.Honors.{yakuhai}
+use Rattle.meld_yaku.specs.Melds.{setOf}
 use Rattle.yaku.specs.declared.names.Yaku.the-variants.{Chinroutou, ChuurenPoutou, JunseiChuurenPoutou}
 use Rattle.yaku.specs.Names.{tallied, yakuhaiName}
 use Rattle.yaku.specs.Tally.{oneHan, moreHan, ordinary, tallies}
@@ -42,7 +43,7 @@ use Rattle.promises.proofs.Listing.{admitted}
 use Rattle.unit.specs.Listing.{handReadings}
 use Rattle.unit.proofs.Listed.{melds-called}
 use Rattle.win.specs.Win.{winCheck, isOpened, tilesTogether, scoreIn}
-use Rattle.win.proofs.Checked.{win-passes}
+use Rattle.win.proofs.Passed.{checked}
 
 -- ---- the tiles of melds: three each, four of a kan
 size-test : T (allMelds (λ m. eqb (sum (uses m) tiles) (3 + one (isKan m))))
@@ -183,7 +184,7 @@ gates-asked w opened s (standard p ms) e =
 -- ---- a win that passes the checks; the four melds of the calls are four (an array of four in the code)
 module _ (cs : List ℕ) (k : Calls) (w : GameContext) (four : length (k .melds) ≡ 4) (passes : winCheck cs k w ≡ 0) where
   hand-passes : handCheck cs k ≡ 0
-  hand-passes = win-passes cs k w passes .hand
+  hand-passes = checked cs k w passes .hand
 
   -- hand and calls hold 14 tiles and one more for each kan
   whole-sum : sum (together cs (called k)) tiles ≡ 14 + count isKan (called k)
@@ -240,7 +241,7 @@ module _ (cs : List ℕ) (k : Calls) (w : GameContext) (four : length (k .melds)
     unfolding yakuhai
     twice =
         let winds =
-        and-right (ltb (w .«win_type») 2) (isWind (w .«round_wind») && isWind (w .«seat_wind»)) (win-passes cs k w passes .range) in
+        and-right (ltb (w .«win_type») 2) (isWind (w .«round_wind») && isWind (w .«seat_wind»)) (checked cs k w passes .range) in
         le-leb (count (setOf (eqb t)) ms * weight w t) 2
         (mul-le-mul one-set
         (weight-two w (and-left (isWind (w .«round_wind»)) (isWind (w .«seat_wind»)) winds) (and-right (isWind (w .«round_wind»)) (isWind (w .«seat_wind»)) winds) t))

@@ -20,7 +20,7 @@ use Rattle.wait.specs.Wait.{pinfu}
 use Rattle.wait.specs.Concealed.{concealed}
 use Rattle.tile_yaku.specs.declared.TileYaku.{TileYaku}
 use Rattle.meld_yaku.specs.Standard.{ofStandard}
-use Rattle.meld_yaku.specs.Yakuman.{suuankou}
+use Rattle.set_yaku.specs.Sets.{suuankou}
 use Rattle.yaku.specs.declared.names.Yaku.{Yaku}
 use Rattle.yaku.specs.Names.{hanOpen, names, place, tallied}
 use Rattle.yaku.specs.Tally.{oneHan, moreHan, ordinary, tallies}

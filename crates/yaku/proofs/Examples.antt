@@ -12,8 +12,10 @@ use Rattle.context.specs.Named.{Flag, riichi, doubleRiichi, ippatsu, rinshan, c
 use Rattle.hand.specs.Reading.{Reading, pairs, orphans, standard}
 use Rattle.wait.specs.Wait.{pinfu}
 use Rattle.tile_yaku.specs.declared.TileYaku.{TileYaku}
-use Rattle.meld_yaku.specs.Melds.{toitoi, kans, yakuhai, dragons, winds, sanAnkou, ittsu, sanshokuDoujun, sanshokuDoukou, peikou, chanta, junchan, shousangen}
-use Rattle.meld_yaku.specs.Yakuman.{suuankou, daisangen, shousuushii, daisuushii, suuKantsu}
+use Rattle.set_yaku.specs.Sets.{toitoi, kans, sanAnkou, sanshokuDoukou, suuankou, suuKantsu}
+use Rattle.honor_yaku.specs.Honors.{yakuhai, dragons, winds, shousangen, daisangen, shousuushii, daisuushii}
+use Rattle.sequence_yaku.specs.Sequences.{ittsu, sanshokuDoujun, peikou}
+use Rattle.end_yaku.specs.Ends.{chanta, junchan}
 use Rattle.yaku.specs.declared.names.Yaku.{Yaku}
 use Rattle.yaku.specs.declared.names.Yaku.the-variants.{Riichi, Ippatsu, MenzenTsumo, Tanyao, Pinfu, Iipeikou, RinshanKaihou, Chankan, HaiteiRaoyue, HouteiRaoyui, DoubleRiichi, Toitoi, Chiitoitsu, Chanta, SanAnkou, SanKantsu, Honroutou, Honitsu, Junchan, Ryanpeikou, Chinitsu, Tenhou, Chiihou, KokushiMusou, Suuankou, Tsuuiisou, Chinroutou, Ryuuiisou, ChuurenPoutou, SuuKantsu, Kokushi13Wait, SuuankouTanki, JunseiChuurenPoutou}
 use Rattle.yaku.specs.Names.{names, place, tallied, yakuhaiName}

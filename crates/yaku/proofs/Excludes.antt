@@ -16,8 +16,9 @@ use Rattle.context.specs.Context.{isDealer, isTsumo}
 use Rattle.hand.specs.Reading.{Reading, pairs, orphans, standard}
 use Rattle.tile_yaku.specs.declared.TileYaku.{TileYaku}
 use Rattle.wait.specs.Wait.{pinfu}
-use Rattle.meld_yaku.specs.Melds.{winds, peikou, junchan}
-use Rattle.meld_yaku.specs.Yakuman.{shousuushii, daisuushii}
+use Rattle.honor_yaku.specs.Honors.{winds, shousuushii, daisuushii}
+use Rattle.sequence_yaku.specs.Sequences.{peikou}
+use Rattle.end_yaku.specs.Ends.{junchan}
 use Rattle.yaku.specs.declared.names.Yaku.{Yaku}
 use Rattle.yaku.specs.declared.names.Yaku.the-variants.{Riichi, Ippatsu, MenzenTsumo, Pinfu, Iipeikou, RinshanKaihou, Chankan, HaiteiRaoyue, HouteiRaoyui, DoubleRiichi, Toitoi, SanshokuDoujun, SanshokuDoukou, Ittsu, Chiitoitsu, Chanta, SanAnkou, SanKantsu, Shousangen, Honitsu, Junchan, Ryanpeikou, Chinitsu, Tenhou, Chiihou, KokushiMusou, Suuankou, Daisangen, Shousuushii, Daisuushii, Ryuuiisou, ChuurenPoutou, SuuKantsu, Kokushi13Wait, SuuankouTanki, JunseiChuurenPoutou}
 use Rattle.yaku.specs.Names.{isYakumanName, place, tallied, yakuhaiName}

@@ -16,8 +16,11 @@ use Rattle.context.specs.declared.GameContext.{GameContext}
 use Rattle.hand.specs.Reading.{Reading, pairs, orphans, standard}
 use Rattle.wait.specs.Wait.{closedRun, twoSided, weight, pinfu}
 use Rattle.tile_yaku.specs.declared.TileYaku.{TileYaku}
-use Rattle.meld_yaku.specs.Melds.{setOf, toitoi, dragons, yakuhai, shousangen}
-use Rattle.meld_yaku.proofs.Few.{count-fewer, no-kans, no-sanankou}
+use Rattle.set_yaku.specs.Sets.{toitoi}
+use Rattle.honor_yaku.specs.Honors.{dragons, yakuhai, shousangen}
+use Rattle.meld_yaku.specs.Melds.{setOf}
+use Rattle.meld_yaku.proofs.Few.{count-fewer}
+use Rattle.set_yaku.proofs.Few.{no-kans, no-sanankou}
 use Rattle.yaku.specs.declared.names.Yaku.{Yaku}
 use Rattle.yaku.specs.declared.names.Yaku.the-variants.{Pinfu, Toitoi, SanAnkou, SanKantsu, Shousangen}
 use Rattle.yaku.specs.Names.{yakuhaiName}
