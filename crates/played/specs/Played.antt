@@ -1,42 +1,47 @@
 -- The played hands: a row for each hand and each value that the scope paper's section of that name states, in its order. The rows that
 -- it marks with (P) come first; the others follow. These are definitions.
 use mathlib.Core.List.{List, [], _∷_, _++_}
-use Rattle.scoring.specs.declared.ScoreLevel.the-variants.{Normal, Mangan}
+use Rattle.yaku.specs.declared.names.Yaku.the-variants.{MenzenTsumo, Tanyao, Pinfu, Iipeikou, Chiitoitsu, SanAnkou, Ryanpeikou, KokushiMusou, Kokushi13Wait}
+use Rattle.scoring.specs.declared.ScoreLevel.the-variants.{Normal, Mangan, Yakuman}
 use Rattle.scoring.specs.declared.Payment.the-variants.{Ron, DealerTsumo, Tsumo}
 use Rattle.scoring.specs.declared.PaymentAnswer.the-variants.{Refused, Paid}
 use Rattle.tile.specs.Named.{man, pin, sou, East, White, mans, pins, sous, orphanTiles}
 use Rattle.meld.specs.Named.{chi, pon, closedKan, addedKan}
 use Rattle.context.specs.Named.{byRon, byTsumo, ron, tsumo}
 use Rattle.hand.specs.Named.{hand}
-use Rattle.played.specs.Row.{dealer, nonDealer, Row, won, listed, valued, paid, asked, worth, refuses, chooses}
+use Rattle.played.specs.Row.{dealer, nonDealer, noYakuman, Row, won, listed, valued, paid, asked, worth, refuses, chooses}
 
 -- man 123 55, pin 456, sou 234 678, tsumo sou 8: 2 han 20 fu, dealer 700, others 400, total 1,500
 abbrev pub pinfuByTsumo : Row
 pinfuByTsumo =
     won (hand (mans 12355 ++ pins 456 ++ sous 234678)) [] (tsumo (sou 8))
-    (worth 2 20 1500 ∷ [])
-    (chooses 0 (Tsumo 700 400))
+    (worth (MenzenTsumo ∷ Pinfu ∷ []) 2 20 Normal (Tsumo 700 400) ∷ [])
+    (chooses 0)
 
 -- the same by ron: 1 han 30 fu, 1,000
 abbrev pub pinfuByRon : Row
 pinfuByRon =
     won (hand (mans 12355 ++ pins 456 ++ sous 234678)) [] (ron (sou 8))
-    (worth 1 30 1000 ∷ [])
-    (chooses 0 (Ron 1000))
+    (worth (Pinfu ∷ []) 1 30 Normal (Ron 1000) ∷ [])
+    (chooses 0)
 
 -- man 222333444, pin 567, sou 88, ron sou 8: two readings; 3 han 50 fu pays 6,400, the other 2 han 40 fu 2,600
 abbrev pub sequencesOrTriplets : Row
 sequencesOrTriplets =
     won (hand (mans 222333444 ++ pins 567 ++ sous 88)) [] (ron (sou 8))
-    (worth 2 40 2600 ∷ worth 3 50 6400 ∷ [])
-    (chooses 1 (Ron 6400))
+    (worth (Tanyao ∷ Iipeikou ∷ []) 2 40 Normal (Ron 2600)
+    ∷ worth (Tanyao ∷ SanAnkou ∷ []) 3 50 Normal (Ron 6400)
+    ∷ [])
+    (chooses 1)
 
 -- man 223344, pin 667788, sou 55, ron man 4: standard 5 han 8,000; seven pairs 3 han 25 fu 3,200
 abbrev pub ryanpeikouOrPairs : Row
 ryanpeikouOrPairs =
     won (hand (mans 223344 ++ pins 667788 ++ sous 55)) [] (ron (man 4))
-    (worth 3 25 3200 ∷ worth 5 30 8000 ∷ [])
-    (chooses 1 (Ron 8000))
+    (worth (Tanyao ∷ Chiitoitsu ∷ []) 3 25 Normal (Ron 3200)
+    ∷ worth (Tanyao ∷ Pinfu ∷ Ryanpeikou ∷ []) 5 30 Mangan (Ron 8000)
+    ∷ [])
+    (chooses 1)
 
 -- man 111123, pin 456, sou 789, East East: one reading
 abbrev pub fourOfOneTile : Row
@@ -46,42 +51,42 @@ fourOfOneTile = listed (hand (mans 111123 ++ pins 456 ++ sous 789 ++ (East ∷ E
 abbrev pub orphansByPair : Row
 orphansByPair =
     won (hand (man 1 ∷ orphanTiles)) [] (ron (man 1))
-    (worth 26 30 64000 ∷ [])
-    (chooses 0 (Ron 64000))
+    (worth (Kokushi13Wait ∷ []) 26 30 (Yakuman 2) (Ron 64000) ∷ [])
+    (chooses 0)
 
 abbrev pub orphansByOther : Row
 orphansByOther =
     won (hand (man 1 ∷ orphanTiles)) [] (ron (man 9))
-    (worth 13 30 32000 ∷ [])
-    (chooses 0 (Ron 32000))
+    (worth (KokushiMusou ∷ []) 13 30 (Yakuman 1) (Ron 32000) ∷ [])
+    (chooses 0)
 
 -- 4 han 30 fu: 1,920, Normal; 40 fu: Mangan
 abbrev pub han4Fu30 : Row
-han4Fu30 = valued 4 30 Normal 1920
+han4Fu30 = valued 4 30 noYakuman Normal 1920
 
 abbrev pub han4Fu40 : Row
-han4Fu40 = valued 4 40 Mangan 2000
+han4Fu40 = valued 4 40 noYakuman Mangan 2000
 
 -- 3 han 60 fu: 1,920, Normal; 70 fu: Mangan
 abbrev pub han3Fu60 : Row
-han3Fu60 = valued 3 60 Normal 1920
+han3Fu60 = valued 3 60 noYakuman Normal 1920
 
 abbrev pub han3Fu70 : Row
-han3Fu70 = valued 3 70 Mangan 2000
+han3Fu70 = valued 3 70 noYakuman Mangan 2000
 
 -- 2 han 25 fu, ron: 1,600, dealer 2,400
 abbrev pub han2Fu25 : Row
-han2Fu25 = paid 2 25 byRon nonDealer (Ron 1600)
+han2Fu25 = paid 2 25 noYakuman byRon nonDealer (Ron 1600)
 
 abbrev pub han2Fu25Dealer : Row
-han2Fu25Dealer = paid 2 25 byRon dealer (Ron 2400)
+han2Fu25Dealer = paid 2 25 noYakuman byRon dealer (Ron 2400)
 
 -- ---- not marked
 -- open man 123 called, pin 456, sou 234 678, man 55, ron sou 8: 11; as reading 0 it has han 0, 30 fu, 500
 abbrev pub noYaku : Row
 noYaku =
     won (hand (mans 55 ++ pins 456 ++ sous 234678)) (chi (man 1) ∷ []) (ron (sou 8))
-    (worth 0 30 500 ∷ [])
+    (worth [] 0 30 Normal (Ron 500) ∷ [])
     (refuses 11)
 
 -- 13 tiles, nothing called: 6
