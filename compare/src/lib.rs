@@ -18,6 +18,7 @@ pub mod random;
 pub mod readings;
 pub mod renaming;
 pub mod rng;
+pub mod rows;
 pub mod score_tally;
 pub mod scored_wins;
 pub mod scores;

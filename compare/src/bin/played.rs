@@ -1,8 +1,9 @@
-//! Writes the hands of `played.txt` with their right answers, which a proved program plays.
+//! Writes the rows of the proved tables of hands with their right answers, which a proved program plays.
 //!
-//! The table says of each hand what it has to come to by the scope paper or by the rules. That agari
-//! comes to the same is looked at first; all that is stored beside is agari's. Where a line differs,
-//! it is printed, and nothing is written.
+//! The rows are read where they are proved: the played hands of the scope paper, and the worked hands.
+//! That each has its theorem, and that agari comes to what the row says, is looked at first; all that is
+//! stored beside is agari's. Where a row differs, it is printed with agari's answer, and nothing is
+//! written.
 //!
 //! The file is a row of records of 1,024 bytes, numbers little-endian, zero where nothing stands,
 //! flags 0 or 1:
@@ -29,136 +30,118 @@
 //! count of yakuman, each in one byte; then from its byte 60 on in four bytes each basic points, what
 //! each non-dealer, the dealer and the discarder pays, and the total.
 
-use compare::agari_scores::{basic_points, level, payment};
+use compare::agari_scores::{WAIT_ENTRIES, YAKU_ENTRIES, basic_points, level, payment};
 use compare::arguments;
 use compare::hand::*;
-use compare::library::{Calls, Level, Meld, PaymentAnswer, RON, Score, TSUMO, WAITS, Win};
+use compare::library::{Level, PaymentAnswer, RON, Score, TSUMO, WAITS, Win};
 use compare::oracle::Expected;
+use compare::rows::{EAST, FLAGS, Row, SOUTH, Term};
 use compare::stored::put_win;
 use compare::win_oracle::ExpectedWin;
+use compare::win_tally::LEVELS;
+use std::collections::HashSet;
+use std::fmt::Debug;
 use std::fs;
+use std::path::Path;
 use std::process::ExitCode;
 
-const TABLE: &str = include_str!("../../played.txt");
+/// The files of rows, each by its crate and its name, in the order in which they are played.
+const TABLES: [(&str, &str); 7] = [
+    ("played", "Played"),
+    ("worked_hands", "OneHan"),
+    ("worked_hands", "MoreHan"),
+    ("worked_hands", "Yakuman"),
+    ("worked_hands", "Fu"),
+    ("worked_hands", "Choice"),
+    ("worked_hands", "Refusals"),
+];
 const RECORD: usize = 1024;
 const SLOTS: usize = 256;
 const SLOT: usize = 96;
 /// A length of buffer that always suffices.
 const ENOUGH: usize = 1467;
-const EAST: u8 = 27;
-const SOUTH: u8 = 28;
-const LEVELS: [&str; 6] = [
-    "Normal",
-    "Mangan",
-    "Haneman",
-    "Baiman",
-    "Sanbaiman",
-    "Yakuman",
-];
 
-/// A line played: its record, and what it comes to, written as in the table.
+/// A row played: its record, what it says, and what it has to say.
 struct Played {
     record: [u8; RECORD],
-    answer: String,
+    says: String,
+    agari: String,
 }
 
-/// The tile of a text such as `5m`.
-fn tile(text: &str) -> u8 {
-    tiles(text)[0]
-}
+// ---- what agari comes to, in the words of the rows
 
-/// The tiles of a text such as `123m55z`.
-fn tiles(text: &str) -> Vec<u8> {
-    let mut tiles = Vec::new();
-    let mut first = 0;
-    for letter in text.bytes().rev() {
-        match letter {
-            b'm' => first = 0,
-            b'p' => first = 9,
-            b's' => first = 18,
-            b'z' => first = 27,
-            number => tiles.push(first + number - b'1'),
+/// Entries by name, each as often as its tally says.
+fn names<T: Debug>(entries: &[T], tallies: &[u8]) -> String {
+    let mut names = String::new();
+    for (entry, &tally) in entries.iter().zip(tallies) {
+        let name = format!("{entry:?}");
+        let name = match name.strip_prefix("Yakuhai(") {
+            Some(honor) => format!("yakuhaiName {}", honor.trim_end_matches(')')),
+            None => name,
+        };
+        for _ in 0..tally {
+            names += &format!("{name} ∷ ");
         }
     }
-    tiles
+    names + "[]"
 }
 
-/// The call of a text such as `pon 5z`.
-fn call(text: &str) -> Meld {
-    let (kind, of) = text.split_once(' ').expect("a call is a kind and a tile");
-    let kind = match kind {
-        "chi" => OPEN_SEQUENCE,
-        "pon" => OPEN_TRIPLET,
-        "kan" => CLOSED_KAN,
-        "open-kan" => OPEN_KAN,
-        "added-kan" => ADDED_KAN,
-        _ => panic!("no call: {text}"),
+fn level_name(level: u8, count: u8) -> String {
+    let name = LEVELS[usize::from(level)];
+    match count {
+        0 => name.into(),
+        count => format!("({name} {count})"),
+    }
+}
+
+fn settlement(win_type: u8, dealer: bool, paid: &PaymentAnswer) -> String {
+    match (win_type, dealer) {
+        (TSUMO, true) => format!("(DealerTsumo {})", paid.from_non_dealer),
+        (TSUMO, false) => format!("(Tsumo {} {})", paid.from_dealer, paid.from_non_dealer),
+        _ => format!("(Ron {})", paid.from_discarder),
+    }
+}
+
+fn paid(score: &Score) -> PaymentAnswer {
+    PaymentAnswer {
+        number: 0,
+        from_non_dealer: score.from_non_dealer,
+        from_dealer: score.from_dealer,
+        from_discarder: score.from_discarder,
+        total: score.total,
+    }
+}
+
+fn worth(win: &Win, score: &Score) -> String {
+    format!(
+        "worth ({}) {} {} {} {}",
+        names(&YAKU_ENTRIES, &score.tallies),
+        score.han,
+        score.fu,
+        level_name(score.level, score.yakuman_count),
+        settlement(win.win_type, win.seat_wind == EAST, &paid(score)),
+    )
+}
+
+/// What each reading comes to, and what scoring the win answers.
+fn won(win: &Win, expected: &ExpectedWin) -> String {
+    let worths = expected.scores.iter().map(|score| worth(win, score) + " ∷ ");
+    let worths: String = worths.collect();
+    let chosen = expected.score_win();
+    let outcome = match chosen.number {
+        0 => format!("chooses {}", chosen.reading),
+        refused => format!("refuses {refused}"),
     };
-    Meld::new(tile(of), kind)
+    format!("won ({worths}[]) ({outcome})")
 }
 
-/// The hand of a text such as `123m55z` and one such as `chi 1m, pon 5z`. Behind the fourth call only
-/// the number of calls is kept.
-fn hand(closed: &str, calls: &str) -> Hand {
-    let mut hand = Hand::empty();
-    for tile in tiles(closed) {
-        hand.counts[usize::from(tile)] += 1;
-    }
-    let calls = calls.split(", ").filter(|text| !text.is_empty()).map(call);
-    let melds: Vec<Meld> = calls.collect();
-    hand.calls = Calls {
-        count: melds.len(),
-        ..Calls::default()
-    };
-    for (place, &meld) in melds.iter().take(4).enumerate() {
-        hand.calls.melds[place] = meld;
-    }
-    hand
+fn waiting(expected: &ExpectedWin) -> String {
+    let waits = expected.waits.iter();
+    let waits: String = waits.map(|waits| format!("({}) ∷ ", names(&WAIT_ENTRIES, waits))).collect();
+    format!("waiting ({waits}[])")
 }
 
-/// The win of a text such as `ron 8s seat=1z riichi`: seat South in the round of East, if it does not
-/// say otherwise.
-fn win(text: &str) -> Win {
-    let mut words = text.split(' ');
-    let mut win = Win {
-        win_type: win_type(words.next().expect("a win has a type")),
-        winning_tile: tile(words.next().expect("a win has a tile")),
-        round_wind: EAST,
-        seat_wind: SOUTH,
-        ..Win::default()
-    };
-    for word in words {
-        match word.split_once('=') {
-            Some(("seat", wind)) => win.seat_wind = tile(wind),
-            Some(("round", wind)) => win.round_wind = tile(wind),
-            _ => *flag(&mut win, word) = true,
-        }
-    }
-    win
-}
-
-fn win_type(text: &str) -> u8 {
-    match text {
-        "ron" => RON,
-        "tsumo" => TSUMO,
-        "type-2" => 2,
-        _ => panic!("no win type: {text}"),
-    }
-}
-
-fn flag<'a>(win: &'a mut Win, name: &str) -> &'a mut bool {
-    match name {
-        "riichi" => &mut win.is_riichi,
-        "double-riichi" => &mut win.is_double_riichi,
-        "ippatsu" => &mut win.is_ippatsu,
-        "rinshan" => &mut win.is_rinshan,
-        "chankan" => &mut win.is_chankan,
-        "last-tile" => &mut win.is_last_tile,
-        "tenhou" => &mut win.is_tenhou,
-        "chiihou" => &mut win.is_chiihou,
-        _ => panic!("no flag: {name}"),
-    }
-}
+// ---- the records
 
 /// Writes the text that the program prints.
 fn put_text(record: &mut [u8], text: &str) {
@@ -198,43 +181,18 @@ fn put_reading(slot: &mut [u8], score: &Score, waits: &[u8; WAITS]) {
     slot[55] = score.is_yakuman;
     slot[56] = score.level;
     slot[57] = score.yakuman_count;
-    let paid = PaymentAnswer {
-        number: 0,
-        from_non_dealer: score.from_non_dealer,
-        from_dealer: score.from_dealer,
-        from_discarder: score.from_discarder,
-        total: score.total,
-    };
-    put_points(slot, score.basic_points, &paid);
+    put_points(slot, score.basic_points, &paid(score));
 }
 
-/// The readings as the table writes them, han, fu and total of each, with a star at the chosen one,
-/// and the refusal of the win.
-fn answer(expected: &ExpectedWin) -> String {
-    let chosen = expected.score_win();
-    let star = |score: &Score| chosen.number == 0 && chosen.reading == score.reading;
-    let readings = expected.scores.iter().map(|score| {
-        let star = if star(score) { "*" } else { "" };
-        format!("{}/{}/{}{star}", score.han, score.fu, score.total)
-    });
-    let refusal = (chosen.number != 0).then(|| format!("refused {}", chosen.number));
-    readings.chain(refusal).collect::<Vec<_>>().join(" ")
-}
-
-/// A line of a hand: title, hand, calls, win.
-fn play_hand(title: &str, closed: &str, calls: &str, won: &str) -> Played {
-    let hand = hand(closed, calls);
-    let win = win(won);
-    let expected = ExpectedWin::of(&hand, &win);
-    let listing = Expected::of(&hand).listing(ENOUGH);
+/// The record of a win.
+fn hand_record(title: &str, hand: &Hand, win: &Win, expected: &ExpectedWin) -> [u8; RECORD] {
+    let listing = Expected::of(hand).listing(ENOUGH);
     let chosen = expected.score_win();
     let readings = expected.scores.len();
-    let words = [closed, calls, won].map(str::to_string).into_iter();
-    let words: Vec<String> = words.filter(|word| !word.is_empty()).collect();
     let mut record = [0; RECORD];
-    put_text(&mut record, &format!("{title}: {}", words.join(", ")));
-    put_hand(&mut record, &hand);
-    put_win(&mut record[171..183], &win);
+    put_text(&mut record, &format!("{title}: {}", written(hand, win)));
+    put_hand(&mut record, hand);
+    put_win(&mut record[171..183], win);
     record[183] = listing.number as u8;
     record[184] = listing.readings as u8;
     record[185] = chosen.number as u8;
@@ -244,60 +202,203 @@ fn play_hand(title: &str, closed: &str, calls: &str, won: &str) -> Played {
     for (place, (score, waits)) in expected.scores.iter().zip(&expected.waits).enumerate() {
         put_reading(&mut record[SLOTS + SLOT * place..][..SLOT], score, waits);
     }
-    Played {
-        record,
-        answer: answer(&expected),
-    }
+    record
 }
 
-/// A line of points: `4 han 30 fu` or `basic 1920`, and `ron`, `dealer tsumo` or the like.
-fn play_points(of: &str, won: &str) -> Played {
-    let words: Vec<&str> = of.split(' ').collect();
-    let number = |place: usize| words[place].parse().expect("a number");
-    let (dealer, by) = match won.strip_prefix("dealer ") {
-        Some(by) => (true, by),
-        None => (false, won),
-    };
-    let win_type = win_type(by);
+/// Han and fu, with or without a yakuman, or basic points.
+enum Points {
+    Han(u8, u8, bool),
+    Basic(u32),
+}
+
+/// The record of points won so.
+fn points_record(title: &str, points: &Points, win_type: u8, dealer: bool) -> [u8; RECORD] {
     let mut record = [0; RECORD];
-    put_text(&mut record, &format!("{of}, {won}"));
+    let slot = &mut [0; SLOT];
+    let (basic, text) = match *points {
+        Points::Basic(basic) => {
+            record[189] = 2;
+            (basic, format!("basic {basic}"))
+        }
+        Points::Han(han, fu, is_yakuman) => {
+            let Level { level, count } = level(han, fu, is_yakuman);
+            record[189] = 1;
+            record[190..193].copy_from_slice(&[han, fu, u8::from(is_yakuman)]);
+            slot[56] = level;
+            slot[57] = count;
+            let yakuman = if is_yakuman { " yakuman" } else { "" };
+            (basic_points(han, fu, is_yakuman), format!("{han} han {fu} fu{yakuman}"))
+        }
+    };
+    let who = if dealer { "dealer " } else { "" };
+    put_text(&mut record, &format!("{title}: {text}, {who}{}", type_name(win_type)));
     record[193] = win_type;
     record[194] = u8::from(dealer);
-    let slot = &mut [0; SLOT];
-    let mut answer = String::new();
-    let basic = if words[0] == "basic" {
-        record[189] = 2;
-        number(1)
-    } else {
-        let (han, fu, is_yakuman) = (number(0) as u8, number(2) as u8, words.len() > 4);
-        let Level { level, count } = level(han, fu, is_yakuman);
-        let basic = basic_points(han, fu, is_yakuman);
-        record[189] = 1;
-        record[190..193].copy_from_slice(&[han, fu, u8::from(is_yakuman)]);
-        slot[56] = level;
-        slot[57] = count;
-        answer = format!("{} {basic} ", LEVELS[usize::from(level)]);
-        basic
-    };
     let paid = payment(basic, dealer, win_type);
     record[195] = paid.number as u8;
     put_points(slot, basic, &paid);
     record[SLOTS..][..SLOT].copy_from_slice(slot);
-    answer += &match paid.number {
-        0 => paid.total.to_string(),
-        refused => format!("refused {refused}"),
-    };
-    Played { record, answer }
+    record
 }
 
-/// A line of the table, with what it has to come to.
-fn play(line: &str) -> (Played, &str) {
-    let fields: Vec<&str> = line.split(';').map(str::trim).collect();
-    match fields[..] {
-        [title, hand, calls, win, expected] => (play_hand(title, hand, calls, win), expected),
-        [of, won, expected] => (play_points(of, won), expected),
-        _ => panic!("neither a hand nor points: {line}"),
+// ---- the texts
+
+fn tile_name(tile: u8) -> String {
+    let suit = ["m", "p", "s", "z"].get(usize::from(tile / 9));
+    format!("{}{}", tile % 9 + 1, suit.unwrap_or(&"?"))
+}
+
+fn type_name(win_type: u8) -> String {
+    match win_type {
+        RON => "ron".into(),
+        TSUMO => "tsumo".into(),
+        other => format!("type-{other}"),
     }
+}
+
+/// A hand and its win in short: `12355m456p234678s, chi 1m, ron 8s seat=1z riichi`.
+fn written(hand: &Hand, win: &Win) -> String {
+    let mut text = String::new();
+    for (suit, counts) in ["m", "p", "s", "z"].iter().zip(hand.counts().chunks(9)) {
+        let before = text.len();
+        for (number, &count) in (1..).zip(counts) {
+            text += &number.to_string().repeat(usize::from(count));
+        }
+        if text.len() > before {
+            text += suit;
+        }
+    }
+    for meld in hand.called() {
+        let call = match meld.kind {
+            OPEN_SEQUENCE => "chi",
+            OPEN_TRIPLET => "pon",
+            CLOSED_KAN => "kan",
+            OPEN_KAN => "open-kan",
+            _ => "added-kan",
+        };
+        text += &format!(", {call} {}", tile_name(meld.tile));
+    }
+    text += &format!(", {} {}", type_name(win.win_type), tile_name(win.winning_tile));
+    for (name, wind, usual) in [("round", win.round_wind, EAST), ("seat", win.seat_wind, SOUTH)] {
+        if wind != usual {
+            text += &format!(" {name}={}", tile_name(wind));
+        }
+    }
+    for (flag, name) in win.flags().into_iter().zip(FLAGS) {
+        if flag {
+            text += &format!(" {name}");
+        }
+    }
+    text
+}
+
+// ---- the rows
+
+/// A row with one reading is one of wins, said more shortly.
+fn said(row: &Term) -> String {
+    let answer = match row.parts() {
+        ("won", [_, _, _, worths, outcome]) => format!("won ({worths}) ({outcome})"),
+        ("scored", [_, _, _, yaku, han, fu, level, pays]) => {
+            format!("won (worth ({yaku}) {han} {fu} ({level}) ({pays}) ∷ []) (chooses 0)")
+        }
+        ("yakuless", [_, _, _, fu, pays]) => {
+            format!("won (worth [] 0 {fu} Normal ({pays}) ∷ []) (refuses 11)")
+        }
+        ("waiting", [_, _, _, waits]) => format!("waiting ({waits})"),
+        (name, _) => panic!("no win: {name}"),
+    };
+    Term::of(&answer).to_string()
+}
+
+/// Plays a row.
+fn play(row: &Row) -> Played {
+    let title = row.theorem();
+    match row.term.parts() {
+        ("listed", [hand, calls, readings]) => {
+            // played as won by ron on the lowest tile
+            let hand = hand.hand(calls);
+            let lowest = hand.counts().iter().position(|&count| count > 0);
+            let win = Win {
+                winning_tile: lowest.expect("a tile") as u8,
+                round_wind: EAST,
+                seat_wind: SOUTH,
+                ..Win::default()
+            };
+            let expected = ExpectedWin::of(&hand, &win);
+            Played {
+                record: hand_record(&title, &hand, &win, &expected),
+                says: readings.to_string(),
+                agari: Expected::of(&hand).listing(ENOUGH).readings.to_string(),
+            }
+        }
+        ("valued", [han, fu, yakuman, says, basic]) => {
+            let (han, fu) = (han.number() as u8, fu.number() as u8);
+            let is_yakuman = yakuman.is("yakuman", "noYakuman");
+            let Level { level, count } = level(han, fu, is_yakuman);
+            let agari = level_name(level, count);
+            let points = Points::Han(han, fu, is_yakuman);
+            Played {
+                record: points_record(&title, &points, RON, false),
+                says: format!("{says} {basic}"),
+                agari: format!("{} {}", Term::of(&agari), basic_points(han, fu, is_yakuman)),
+            }
+        }
+        ("paid", [han, fu, yakuman, by, dealer, says]) => {
+            let (han, fu) = (han.number() as u8, fu.number() as u8);
+            let is_yakuman = yakuman.is("yakuman", "noYakuman");
+            let (by, dealer) = (by.win_type(), dealer.is("dealer", "nonDealer"));
+            let paid = payment(basic_points(han, fu, is_yakuman), dealer, by);
+            let points = Points::Han(han, fu, is_yakuman);
+            Played {
+                record: points_record(&title, &points, by, dealer),
+                says: says.to_string(),
+                agari: Term::of(&settlement(by, dealer, &paid)).to_string(),
+            }
+        }
+        ("asked", [basic, by, dealer, says]) => {
+            let basic = basic.number() as u32;
+            let (by, dealer) = (by.win_type(), dealer.is("dealer", "nonDealer"));
+            let paid = payment(basic, dealer, by);
+            let agari = match paid.number {
+                0 => format!("Paid {}", settlement(by, dealer, &paid)),
+                refused => format!("Refused {refused}"),
+            };
+            Played {
+                record: points_record(&title, &Points::Basic(basic), by, dealer),
+                says: says.to_string(),
+                agari,
+            }
+        }
+        (name, [hand, calls, win, ..]) => {
+            let hand = hand.hand(calls);
+            let win = win.win();
+            let expected = ExpectedWin::of(&hand, &win);
+            let agari = match name {
+                "waiting" => waiting(&expected),
+                _ => won(&win, &expected),
+            };
+            Played {
+                record: hand_record(&title, &hand, &win, &expected),
+                says: said(&row.term),
+                agari: Term::of(&agari).to_string(),
+            }
+        }
+        (name, _) => panic!("no row: {name}"),
+    }
+}
+
+/// A file of the repository.
+fn read(krate: &str, folder: &str, name: &str) -> String {
+    let root = Path::new(env!("CARGO_MANIFEST_DIR")).join("..");
+    let path = root.join(format!("crates/{krate}/{folder}/{name}.antt"));
+    fs::read_to_string(&path).unwrap_or_else(|error| panic!("{}: {error}", path.display()))
+}
+
+/// Whether the row is claimed: by a theorem of its own, or in the list of a common one.
+fn is_claimed(row: &Row, specs: &str, proofs: &str) -> bool {
+    let theorem = format!("pub {} : T (holds {})\n", row.theorem(), row.name);
+    let mut lines = specs.lines().map(|line| line.trim().trim_start_matches("∷ "));
+    proofs.contains(&theorem) || lines.any(|line| line == row.name)
 }
 
 fn main() -> ExitCode {
@@ -305,16 +406,25 @@ fn main() -> ExitCode {
         let [path] = words else {
             return None;
         };
-        let lines = TABLE.lines().map(str::trim);
-        let lines = lines.filter(|line| !line.is_empty() && !line.starts_with('#'));
         let mut bytes = Vec::new();
+        let mut seen = HashSet::new();
         let mut differ = 0;
-        for line in lines {
-            let (played, expected) = play(line);
-            bytes.extend(played.record);
-            if played.answer != expected {
+        for (krate, name) in TABLES {
+            let (specs, proofs) = (read(krate, "specs", name), read(krate, "proofs", name));
+            for row in Row::all(&specs) {
+                let played = play(&row);
+                bytes.extend(played.record);
+                let fault = if !is_claimed(&row, &specs, &proofs) {
+                    "no theorem claims it".into()
+                } else if played.says != played.agari {
+                    format!("it says {}\n    but agari {}", played.says, played.agari)
+                } else if !seen.insert(row.name.clone()) {
+                    "its name stands twice".into()
+                } else {
+                    continue;
+                };
                 differ += 1;
-                println!("{line}\n    but agari: {}", played.answer);
+                println!("{krate} {name} {}: {fault}", row.name);
             }
         }
         println!("{} played, {differ} differ", bytes.len() / RECORD);

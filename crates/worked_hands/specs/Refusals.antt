@@ -1,0 +1,113 @@
+-- What is turned down, and with which number. The winner is seat South in the round East, if nothing else is said. These are definitions.
+use mathlib.Core.List.{[], _∷_, _++_}
+use Rattle.tile.specs.Named.{man, sou, East, South, White, mans, pins, sous}
+use Rattle.meld.specs.Named.{chi, pon, closedKan}
+use Rattle.context.specs.Named.{byRon, byTsumo, riichi, win, southWins, ron}
+use Rattle.hand.specs.Named.{hand}
+use Rattle.scoring.specs.declared.Payment.the-variants.{Ron}
+use Rattle.scoring.specs.declared.PaymentAnswer.the-variants.{Refused}
+use Rattle.played.specs.Row.{dealer, nonDealer, Row, won, asked, refuses, yakuless}
+
+-- ---- 2 more than four calls
+abbrev pub fiveCalls : Row
+fiveCalls =
+    won (hand (White ∷ White ∷ [])) (chi (man 1) ∷ chi (man 1) ∷ chi (man 1) ∷ chi (man 1) ∷ chi (man 1) ∷ []) (ron White) [] (refuses 2)
+
+-- before the count of a tile: 4 would be the next
+abbrev pub fiveCallsFiveTiles : Row
+fiveCallsFiveTiles =
+    won (hand (White ∷ White ∷ White ∷ White ∷ White ∷ [])) (chi (man 1) ∷ chi (man 1) ∷ chi (man 1) ∷ chi (man 1) ∷ chi (man 1) ∷ []) (ron White) [] (refuses 2)
+
+-- ---- 3 a call's tile does not fit its kind
+-- a sequence that would start at 8
+abbrev pub sequenceFromEight : Row
+sequenceFromEight =
+    won (hand (mans 55 ++ pins 456 ++ sous 234678)) (chi (man 8) ∷ []) (ron (sou 8)) [] (refuses 3)
+
+-- a sequence of honors
+abbrev pub sequenceOfHonors : Row
+sequenceOfHonors =
+    won (hand (mans 55 ++ pins 456 ++ sous 234678)) (chi East ∷ []) (ron (sou 8)) [] (refuses 3)
+
+-- ---- 4 a count above four
+abbrev pub fiveInHand : Row
+fiveInHand =
+    won (hand (mans 11111 ++ pins 234567 ++ sous 234)) [] (ron (sou 4)) [] (refuses 4)
+
+-- ---- 5 more than four of a kind in hand and calls together
+abbrev pub fiveWithCalls : Row
+fiveWithCalls =
+    won (hand (mans 11 ++ pins 456 ++ sous 234678)) (pon (man 1) ∷ []) (ron (sou 8)) [] (refuses 5)
+
+-- a kan and a fifth one in a sequence
+abbrev pub fiveWithKan : Row
+fiveWithKan =
+    won (hand (mans 123 ++ pins 55 ++ sous 234678)) (closedKan (man 1) ∷ []) (ron (sou 8)) [] (refuses 5)
+
+-- ---- 6 another number of tiles than 14 less 3 for each call
+abbrev pub fifteenTiles : Row
+fifteenTiles =
+    won (hand (mans 123555 ++ pins 456 ++ sous 234678)) [] (ron (sou 8)) [] (refuses 6)
+
+abbrev pub elevenTiles : Row
+elevenTiles =
+    won (hand (mans 55 ++ pins 456 ++ sous 234678)) [] (ron (sou 8)) [] (refuses 6)
+
+-- a kan takes three places like any call
+abbrev pub kanFourPlaces : Row
+kanFourPlaces =
+    won (hand (pins 2345 ++ sous 44678)) (closedKan (man 1) ∷ []) (ron (sou 8)) [] (refuses 6)
+
+-- ---- 8 a win type or a wind out of range
+abbrev pub noSuchWinType : Row
+noSuchWinType =
+    won (hand (mans 12355 ++ pins 456 ++ sous 234678)) [] (southWins 2 (sou 8) []) [] (refuses 8)
+
+abbrev pub whiteAsSeat : Row
+whiteAsSeat =
+    won (hand (mans 12355 ++ pins 456 ++ sous 234678)) [] (win byRon (sou 8) East White []) [] (refuses 8)
+
+abbrev pub whiteAsRound : Row
+whiteAsRound =
+    won (hand (mans 12355 ++ pins 456 ++ sous 234678)) [] (win byRon (sou 8) White South []) [] (refuses 8)
+
+-- before 9
+abbrev pub seatBeforeTile : Row
+seatBeforeTile =
+    won (hand (mans 12355 ++ pins 456 ++ sous 234678)) [] (win byRon (sou 9) East White []) [] (refuses 8)
+
+-- ---- 9 the winning tile is no tile or not in the hand
+abbrev pub tileNotInHand : Row
+tileNotInHand =
+    won (hand (mans 12355 ++ pins 456 ++ sous 234678)) [] (ron (sou 9)) [] (refuses 9)
+
+-- in a call alone
+abbrev pub tileInCallOnly : Row
+tileInCallOnly =
+    won (hand (mans 55 ++ pins 456 ++ sous 234678)) (chi (man 1) ∷ []) (ron (man 1)) [] (refuses 9)
+
+abbrev pub tileAbove33 : Row
+tileAbove33 =
+    won (hand (mans 12355 ++ pins 456 ++ sous 234678)) [] (ron 34) [] (refuses 9)
+
+-- ---- 10 no reading: by number every reading is refused with 12
+abbrev pub noReading : Row
+noReading =
+    won (hand (mans 1379 ++ pins 1379 ++ sous 1379 ++ (East ∷ South ∷ []))) [] (ron East) [] (refuses 10)
+
+-- one tile away from a win
+abbrev pub oneTileAway : Row
+oneTileAway =
+    won (hand (mans 12356 ++ pins 456 ++ sous 234678)) [] (southWins byRon (sou 8) (riichi ∷ [])) [] (refuses 10)
+
+-- ---- 11 no reading has a yaku: by number it is answered with 0 han, and the number after it is refused with 12
+abbrev pub closedWithoutYaku : Row
+closedWithoutYaku =
+    yakuless (hand (mans 123456 ++ pins 789 ++ sous 22555)) [] (ron (man 6)) 40 (Ron 700)
+
+-- 8 and 13 of payment
+abbrev pub basicWinType : Row
+basicWinType = asked 152001 2 nonDealer (Refused 8)
+
+abbrev pub basicAbove : Row
+basicAbove = asked 152001 byTsumo dealer (Refused 13)
