@@ -46,13 +46,14 @@ use std::path::Path;
 use std::process::ExitCode;
 
 /// The files of rows, each by its crate and its name, in the order in which they are played.
-const TABLES: [(&str, &str); 7] = [
+const TABLES: [(&str, &str); 8] = [
     ("played", "Played"),
     ("worked_hands", "OneHan"),
     ("worked_hands", "MoreHan"),
     ("worked_hands", "Yakuman"),
     ("worked_hands", "Fu"),
-    ("worked_hands", "Choice"),
+    ("worked_hands", "Points"),
+    ("worked_hands", "Readings"),
     ("worked_hands", "Refusals"),
 ];
 const RECORD: usize = 1024;

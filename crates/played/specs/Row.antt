@@ -181,17 +181,18 @@ abbrev pub eachWaits : (ℕ → WaitsAnswer) → ℕ → List (List Wait) → Bo
 eachWaits f n [] = eqb (f n .number) 12
 eachWaits f n (ws ∷ wss) = eqb (f n .number) 0 && (same (f n .waits) (waited ws) && eachWaits f (suc n) wss)
 
+-- the answers to a win are those: the check's number, the listing, each reading by its number, and the win
+abbrev pub answers : List Worth → Outcome → ℕ → Listing → (ℕ → ScoreAnswer) → ScoreAnswer → Bool
+answers vs o n l f a =
+    every
+    (eqb n (checkedTo o) ∷ listsTo o (length vs) l ∷ eachReading f (checkedTo o) 0 vs ∷ winsWith vs o a ∷ [])
+
 -- the row holds. What a proof computes with stands here once: `unfolding holds` opens all of it
 unfoldable pub holds : Row → Bool
 unfolding meldLists standardsAt sevenPairs thirteenOrphans readings recordOf pinfu waits tanyao honroutou tsuuiisou chinroutou ryuuiisou honitsu chinitsu nineGates pureWait tileYaku toitoi kans yakuhai dragons winds sanAnkou ittsu sanshokuDoujun sanshokuDoukou peikou chanta junchan shousangen suuankou daisangen shousuushii daisuushii suuKantsu names oneHan moreHan isYakuman ordinary tallies hanOf han standardFu fu level basicPoints payment paymentAnswer check handCheck handReadings handRecords listing result scoreOf rank chooseBy choice numbered orThen winCheck scoreIn scores scoreReading scoreWin nameWaits
 holds (won cs ms w vs o) =
     let k = callsOf ms in
-    every
-    (eqb (winCheck cs k w) (checkedTo o)
-    ∷ listsTo o (length vs) (listing cs k 1467)
-    ∷ eachReading (scoreReading cs k w) (checkedTo o) 0 vs
-    ∷ winsWith vs o (scoreWin cs k w)
-    ∷ [])
+    answers vs o (winCheck cs k w) (listing cs k 1467) (scoreReading cs k w) (scoreWin cs k w)
 holds (waiting cs ms w wss) = eachWaits (nameWaits cs (callsOf ms) w) 0 wss
 holds (listed cs ms n) = listsTo (chooses 0) n (listing cs (callsOf ms) 1467)
 holds (valued h f y l n) = same (leveled (level h f y)) (leveled l) && eqb (basicPoints h f y) n

@@ -1,101 +1,102 @@
 -- The worked hands of specs/Refusals.antt hold: each row is computed from the definitions. Assumes nothing.
 use lib.Dec.{T}
 use Rattle.played.specs.Row.{holds}
+use Rattle.played.proofs.Quick.{quick}
 use Rattle.worked_hands.specs.Refusals.{fiveCalls, fiveCallsFiveTiles, sequenceFromEight, sequenceOfHonors, fiveInHand, fiveWithCalls, fiveWithKan, fifteenTiles, elevenTiles, kanFourPlaces, noSuchWinType, whiteAsSeat, whiteAsRound, seatBeforeTile, tileNotInHand, tileInCallOnly, tileAbove33, noReading, oneTileAway, closedWithoutYaku, basicWinType, basicAbove}
 
 -- ---- 2 more than four calls
 pub five-calls : T (holds fiveCalls)
 unfolding holds
-five-calls = tt
+five-calls = quick fiveCalls tt
 
 pub five-calls-five-tiles : T (holds fiveCallsFiveTiles)
 unfolding holds
-five-calls-five-tiles = tt
+five-calls-five-tiles = quick fiveCallsFiveTiles tt
 
 -- ---- 3 a call's tile does not fit its kind
 pub sequence-from-eight : T (holds sequenceFromEight)
 unfolding holds
-sequence-from-eight = tt
+sequence-from-eight = quick sequenceFromEight tt
 
 pub sequence-of-honors : T (holds sequenceOfHonors)
 unfolding holds
-sequence-of-honors = tt
+sequence-of-honors = quick sequenceOfHonors tt
 
 -- ---- 4 a count above four
 pub five-in-hand : T (holds fiveInHand)
 unfolding holds
-five-in-hand = tt
+five-in-hand = quick fiveInHand tt
 
 -- ---- 5 more than four of a kind in hand and calls together
 pub five-with-calls : T (holds fiveWithCalls)
 unfolding holds
-five-with-calls = tt
+five-with-calls = quick fiveWithCalls tt
 
 pub five-with-kan : T (holds fiveWithKan)
 unfolding holds
-five-with-kan = tt
+five-with-kan = quick fiveWithKan tt
 
 -- ---- 6 another number of tiles than 14 less 3 for each call
 pub fifteen-tiles : T (holds fifteenTiles)
 unfolding holds
-fifteen-tiles = tt
+fifteen-tiles = quick fifteenTiles tt
 
 pub eleven-tiles : T (holds elevenTiles)
 unfolding holds
-eleven-tiles = tt
+eleven-tiles = quick elevenTiles tt
 
 pub kan-four-places : T (holds kanFourPlaces)
 unfolding holds
-kan-four-places = tt
+kan-four-places = quick kanFourPlaces tt
 
 -- ---- 8 a win type or a wind out of range
 pub no-such-win-type : T (holds noSuchWinType)
 unfolding holds
-no-such-win-type = tt
+no-such-win-type = quick noSuchWinType tt
 
 pub white-as-seat : T (holds whiteAsSeat)
 unfolding holds
-white-as-seat = tt
+white-as-seat = quick whiteAsSeat tt
 
 pub white-as-round : T (holds whiteAsRound)
 unfolding holds
-white-as-round = tt
+white-as-round = quick whiteAsRound tt
 
 pub seat-before-tile : T (holds seatBeforeTile)
 unfolding holds
-seat-before-tile = tt
+seat-before-tile = quick seatBeforeTile tt
 
 -- ---- 9 the winning tile is no tile or not in the hand
 pub tile-not-in-hand : T (holds tileNotInHand)
 unfolding holds
-tile-not-in-hand = tt
+tile-not-in-hand = quick tileNotInHand tt
 
 pub tile-in-call-only : T (holds tileInCallOnly)
 unfolding holds
-tile-in-call-only = tt
+tile-in-call-only = quick tileInCallOnly tt
 
 pub tile-above33 : T (holds tileAbove33)
 unfolding holds
-tile-above33 = tt
+tile-above33 = quick tileAbove33 tt
 
 -- ---- 10 no reading
 pub no-reading : T (holds noReading)
 unfolding holds
-no-reading = tt
+no-reading = quick noReading tt
 
 pub one-tile-away : T (holds oneTileAway)
 unfolding holds
-one-tile-away = tt
+one-tile-away = quick oneTileAway tt
 
 -- ---- 11 no reading has a yaku
 pub closed-without-yaku : T (holds closedWithoutYaku)
 unfolding holds
-closed-without-yaku = tt
+closed-without-yaku = quick closedWithoutYaku tt
 
 pub basic-win-type : T (holds basicWinType)
 unfolding holds
-basic-win-type = tt
+basic-win-type = quick basicWinType tt
 
 pub basic-above : T (holds basicAbove)
 unfolding holds
-basic-above = tt
+basic-above = quick basicAbove tt

@@ -1,232 +1,233 @@
 -- The worked hands of specs/Yakuman.antt hold: each row is computed from the definitions. Assumes nothing.
 use lib.Dec.{T}
 use Rattle.played.specs.Row.{holds}
+use Rattle.played.proofs.Quick.{quick}
 use Rattle.worked_hands.specs.Yakuman.{tenhouDealer, tenhouNonDealer, tenhouByRon, tenhouOpen, tenhouClosedKan, chiihouNonDealer, chiihouDealer, chiihouByRon, kokushiByTsumo, kokushiTwelveKinds, kokushiSimple, kokushiOtherKinds, suuankouTsumo, suuankouClosedKan, suuankouRon, suuankouPon, daisangenPon, daisangenKan, daisangenPair, shousuushiiPair, shousuushiiOtherPair, daisuushiiPon, daisuushiiPair, tsuuiisouOpen, tsuuiisouPairs, tsuuiisouTerminals, chinroutouOpen, chinroutouHonors, chinroutouSequence, ryuuiisouClosed, ryuuiisouNoGreen, ryuuiisouFive, ryuuiisouRed, chuurenOther, chuurenWithoutTwo, chuurenOpen, chuurenKan, suuKantsuFour, suuKantsuThree, kokushiThirteen, kokushiThirteenDealer, kokushiOneWait, suuankouTankiRon, suuankouTankiTsumo, suuankouOnTriplet, junseiFive, junseiNine, daisuushiiAndTsuuiisou, withSuuankouTanki, withFourKans, withFourKansDealer, yakumanWithRiichi, yakumanWithPairs}
 
 -- ---- Tenhou
 pub tenhou-dealer : T (holds tenhouDealer)
 unfolding holds
-tenhou-dealer = tt
+tenhou-dealer = quick tenhouDealer tt
 
 pub tenhou-non-dealer : T (holds tenhouNonDealer)
 unfolding holds
-tenhou-non-dealer = tt
+tenhou-non-dealer = quick tenhouNonDealer tt
 
 pub tenhou-by-ron : T (holds tenhouByRon)
 unfolding holds
-tenhou-by-ron = tt
+tenhou-by-ron = quick tenhouByRon tt
 
 pub tenhou-open : T (holds tenhouOpen)
 unfolding holds
-tenhou-open = tt
+tenhou-open = quick tenhouOpen tt
 
 pub tenhou-closed-kan : T (holds tenhouClosedKan)
 unfolding holds
-tenhou-closed-kan = tt
+tenhou-closed-kan = quick tenhouClosedKan tt
 
 -- ---- Chiihou
 pub chiihou-non-dealer : T (holds chiihouNonDealer)
 unfolding holds
-chiihou-non-dealer = tt
+chiihou-non-dealer = quick chiihouNonDealer tt
 
 pub chiihou-dealer : T (holds chiihouDealer)
 unfolding holds
-chiihou-dealer = tt
+chiihou-dealer = quick chiihouDealer tt
 
 pub chiihou-by-ron : T (holds chiihouByRon)
 unfolding holds
-chiihou-by-ron = tt
+chiihou-by-ron = quick chiihouByRon tt
 
 -- ---- KokushiMusou
 pub kokushi-by-tsumo : T (holds kokushiByTsumo)
 unfolding holds
-kokushi-by-tsumo = tt
+kokushi-by-tsumo = quick kokushiByTsumo tt
 
 pub kokushi-twelve-kinds : T (holds kokushiTwelveKinds)
 unfolding holds
-kokushi-twelve-kinds = tt
+kokushi-twelve-kinds = quick kokushiTwelveKinds tt
 
 pub kokushi-simple : T (holds kokushiSimple)
 unfolding holds
-kokushi-simple = tt
+kokushi-simple = quick kokushiSimple tt
 
 pub kokushi-other-kinds : T (holds kokushiOtherKinds)
 unfolding holds
-kokushi-other-kinds = tt
+kokushi-other-kinds = quick kokushiOtherKinds tt
 
 -- ---- Suuankou
 pub suuankou-tsumo : T (holds suuankouTsumo)
 unfolding holds
-suuankou-tsumo = tt
+suuankou-tsumo = quick suuankouTsumo tt
 
 pub suuankou-closed-kan : T (holds suuankouClosedKan)
 unfolding holds
-suuankou-closed-kan = tt
+suuankou-closed-kan = quick suuankouClosedKan tt
 
 pub suuankou-ron : T (holds suuankouRon)
 unfolding holds
-suuankou-ron = tt
+suuankou-ron = quick suuankouRon tt
 
 pub suuankou-pon : T (holds suuankouPon)
 unfolding holds
-suuankou-pon = tt
+suuankou-pon = quick suuankouPon tt
 
 -- ---- Daisangen
 pub daisangen-pon : T (holds daisangenPon)
 unfolding holds
-daisangen-pon = tt
+daisangen-pon = quick daisangenPon tt
 
 pub daisangen-kan : T (holds daisangenKan)
 unfolding holds
-daisangen-kan = tt
+daisangen-kan = quick daisangenKan tt
 
 pub daisangen-pair : T (holds daisangenPair)
 unfolding holds
-daisangen-pair = tt
+daisangen-pair = quick daisangenPair tt
 
 -- ---- Shousuushii
 pub shousuushii-pair : T (holds shousuushiiPair)
 unfolding holds
-shousuushii-pair = tt
+shousuushii-pair = quick shousuushiiPair tt
 
 pub shousuushii-other-pair : T (holds shousuushiiOtherPair)
 unfolding holds
-shousuushii-other-pair = tt
+shousuushii-other-pair = quick shousuushiiOtherPair tt
 
 -- ---- Daisuushii
 pub daisuushii-pon : T (holds daisuushiiPon)
 unfolding holds
-daisuushii-pon = tt
+daisuushii-pon = quick daisuushiiPon tt
 
 pub daisuushii-pair : T (holds daisuushiiPair)
 unfolding holds
-daisuushii-pair = tt
+daisuushii-pair = quick daisuushiiPair tt
 
 -- ---- Tsuuiisou
 pub tsuuiisou-open : T (holds tsuuiisouOpen)
 unfolding holds
-tsuuiisou-open = tt
+tsuuiisou-open = quick tsuuiisouOpen tt
 
 pub tsuuiisou-pairs : T (holds tsuuiisouPairs)
 unfolding holds
-tsuuiisou-pairs = tt
+tsuuiisou-pairs = quick tsuuiisouPairs tt
 
 pub tsuuiisou-terminals : T (holds tsuuiisouTerminals)
 unfolding holds
-tsuuiisou-terminals = tt
+tsuuiisou-terminals = quick tsuuiisouTerminals tt
 
 -- ---- Chinroutou
 pub chinroutou-open : T (holds chinroutouOpen)
 unfolding holds
-chinroutou-open = tt
+chinroutou-open = quick chinroutouOpen tt
 
 pub chinroutou-honors : T (holds chinroutouHonors)
 unfolding holds
-chinroutou-honors = tt
+chinroutou-honors = quick chinroutouHonors tt
 
 pub chinroutou-sequence : T (holds chinroutouSequence)
 unfolding holds
-chinroutou-sequence = tt
+chinroutou-sequence = quick chinroutouSequence tt
 
 -- ---- Ryuuiisou
 pub ryuuiisou-closed : T (holds ryuuiisouClosed)
 unfolding holds
-ryuuiisou-closed = tt
+ryuuiisou-closed = quick ryuuiisouClosed tt
 
 pub ryuuiisou-no-green : T (holds ryuuiisouNoGreen)
 unfolding holds
-ryuuiisou-no-green = tt
+ryuuiisou-no-green = quick ryuuiisouNoGreen tt
 
 pub ryuuiisou-five : T (holds ryuuiisouFive)
 unfolding holds
-ryuuiisou-five = tt
+ryuuiisou-five = quick ryuuiisouFive tt
 
 pub ryuuiisou-red : T (holds ryuuiisouRed)
 unfolding holds
-ryuuiisou-red = tt
+ryuuiisou-red = quick ryuuiisouRed tt
 
 -- ---- ChuurenPoutou
 pub chuuren-other : T (holds chuurenOther)
 unfolding holds
-chuuren-other = tt
+chuuren-other = quick chuurenOther tt
 
 pub chuuren-without-two : T (holds chuurenWithoutTwo)
 unfolding holds
-chuuren-without-two = tt
+chuuren-without-two = quick chuurenWithoutTwo tt
 
 pub chuuren-open : T (holds chuurenOpen)
 unfolding holds
-chuuren-open = tt
+chuuren-open = quick chuurenOpen tt
 
 pub chuuren-kan : T (holds chuurenKan)
 unfolding holds
-chuuren-kan = tt
+chuuren-kan = quick chuurenKan tt
 
 -- ---- SuuKantsu
 pub suu-kantsu-four : T (holds suuKantsuFour)
 unfolding holds
-suu-kantsu-four = tt
+suu-kantsu-four = quick suuKantsuFour tt
 
 pub suu-kantsu-three : T (holds suuKantsuThree)
 unfolding holds
-suu-kantsu-three = tt
+suu-kantsu-three = quick suuKantsuThree tt
 
 -- ---- Kokushi13Wait
 pub kokushi-thirteen : T (holds kokushiThirteen)
 unfolding holds
-kokushi-thirteen = tt
+kokushi-thirteen = quick kokushiThirteen tt
 
 pub kokushi-thirteen-dealer : T (holds kokushiThirteenDealer)
 unfolding holds
-kokushi-thirteen-dealer = tt
+kokushi-thirteen-dealer = quick kokushiThirteenDealer tt
 
 pub kokushi-one-wait : T (holds kokushiOneWait)
 unfolding holds
-kokushi-one-wait = tt
+kokushi-one-wait = quick kokushiOneWait tt
 
 -- ---- SuuankouTanki
 pub suuankou-tanki-ron : T (holds suuankouTankiRon)
 unfolding holds
-suuankou-tanki-ron = tt
+suuankou-tanki-ron = quick suuankouTankiRon tt
 
 pub suuankou-tanki-tsumo : T (holds suuankouTankiTsumo)
 unfolding holds
-suuankou-tanki-tsumo = tt
+suuankou-tanki-tsumo = quick suuankouTankiTsumo tt
 
 pub suuankou-on-triplet : T (holds suuankouOnTriplet)
 unfolding holds
-suuankou-on-triplet = tt
+suuankou-on-triplet = quick suuankouOnTriplet tt
 
 -- ---- JunseiChuurenPoutou
 pub junsei-five : T (holds junseiFive)
 unfolding holds
-junsei-five = tt
+junsei-five = quick junseiFive tt
 
 pub junsei-nine : T (holds junseiNine)
 unfolding holds
-junsei-nine = tt
+junsei-nine = quick junseiNine tt
 
 -- ---- Several at once add up
 pub daisuushii-and-tsuuiisou : T (holds daisuushiiAndTsuuiisou)
 unfolding holds
-daisuushii-and-tsuuiisou = tt
+daisuushii-and-tsuuiisou = quick daisuushiiAndTsuuiisou tt
 
 pub with-suuankou-tanki : T (holds withSuuankouTanki)
 unfolding holds
-with-suuankou-tanki = tt
+with-suuankou-tanki = quick withSuuankouTanki tt
 
 pub with-four-kans : T (holds withFourKans)
 unfolding holds
-with-four-kans = tt
+with-four-kans = quick withFourKans tt
 
 pub with-four-kans-dealer : T (holds withFourKansDealer)
 unfolding holds
-with-four-kans-dealer = tt
+with-four-kans-dealer = quick withFourKansDealer tt
 
 pub yakuman-with-riichi : T (holds yakumanWithRiichi)
 unfolding holds
-yakuman-with-riichi = tt
+yakuman-with-riichi = quick yakumanWithRiichi tt
 
 pub yakuman-with-pairs : T (holds yakumanWithPairs)
 unfolding holds
-yakuman-with-pairs = tt
+yakuman-with-pairs = quick yakumanWithPairs tt

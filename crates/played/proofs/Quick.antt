@@ -1,0 +1,108 @@
+-- A row holds where it holds of readings found quickly: melds that do not fit the hand are left out before the search. Assumes nothing.
+use mathlib.Core.Path.{_≡_, refl, sym, ap, _∙_, subst, fun-ext}
+use mathlib.Core.Bool.{Bool, false, _&&_, cond}
+use mathlib.Core.List.{List, [], _∷_, _++_, map}
+use Prim.Native.Nat.{ℕ, _-_}
+use lib.Dec.{T, eqb, leb}
+use lib.ListN.{length}
+use Rattle.lists.specs.Fold.{flat, keep}
+use Rattle.tile.specs.Tile.{tiles}
+use Rattle.meld.specs.declared.Meld.{Meld}
+use Rattle.meld.specs.Meld.{handMelds, sorted}
+use Rattle.context.specs.declared.GameContext.{GameContext}
+use Rattle.hand.specs.Counts.{held}
+use Rattle.hand.specs.Reading.{Reading, standard}
+use Rattle.hand.specs.Readings.{find, fits, lessPair, meldLists, standardsAt, sevenPairs, thirteenOrphans, uncalled, readings}
+use Rattle.hand.specs.Records.{records}
+use Rattle.wait.specs.Wait.{waits}
+use Rattle.checks.specs.declared.Calls.{Calls}
+use Rattle.checks.specs.Checks.{called, handCheck}
+use Rattle.unit.specs.declared.Listing.{Listing}
+use Rattle.unit.specs.declared.Listing.the-variants.{Refused, Listed}
+use Rattle.unit.specs.Listing.{handReadings}
+use Rattle.lent.specs.Lent.{callsOf}
+use Rattle.records.specs.Pick.{pickAt}
+use Rattle.reading_score.specs.declared.ScoringResult.{ScoringResult}
+use Rattle.choice.specs.declared.ScoreAnswer.{ScoreAnswer}
+use Rattle.choice.specs.Choice.{refused, choice, numbered}
+use Rattle.win.specs.declared.WaitsAnswer.{WaitsAnswer}
+use Rattle.win.specs.Win.{namedWaits, refusedWaits, scoreIn, winCheck}
+use Rattle.played.specs.Row.{Row, won, waiting, listed, valued, paid, asked, chooses, answers, eachWaits, listsTo, holds}
+use Rattle.played.proofs.Fitting.{keep-find}
+
+-- ---- the readings, found among the melds that fit
+abbrev quickLists : ℕ → (ℕ → ℕ) → List (List Meld)
+quickLists n c = find n c (keep (λ m. fits m c) handMelds)
+
+quick-lists : (n : ℕ) (c : ℕ → ℕ) → meldLists n c ≡ quickLists n c
+unfolding meldLists
+quick-lists n c = sym (keep-find (λ m. fits m c) n c (λ m e. e) handMelds)
+
+abbrev quickAt : (ℕ → ℕ) → List Meld → ℕ → List Reading
+quickAt c k p =
+    cond (leb 2 (c p)) (map (λ l. standard p (sorted (k ++ l))) (quickLists (4 - length k) (lessPair c p))) []
+
+quick-at : (c : ℕ → ℕ) (k : List Meld) (p : ℕ) → standardsAt c k p ≡ quickAt c k p
+unfolding standardsAt
+quick-at c k p =
+    ap (λ (ls : List (List Meld)). cond (leb 2 (c p)) (map (λ l. standard p (sorted (k ++ l))) ls) [])
+    (quick-lists (4 - length k) (lessPair c p))
+
+abbrev pub quickReadings : List ℕ → Calls → List Reading
+quickReadings cs k =
+    uncalled (called k) (sevenPairs (held cs) ++ thirteenOrphans (held cs)) ++ flat (quickAt (held cs) (called k)) tiles
+
+quick-readings : (cs : List ℕ) (k : Calls) → handReadings cs k ≡ quickReadings cs k
+unfolding handReadings readings
+quick-readings cs k =
+    ap (λ (g : ℕ → List Reading). uncalled (called k) (sevenPairs (held cs) ++ thirteenOrphans (held cs)) ++ flat g tiles)
+    (fun-ext (quick-at (held cs) (called k)))
+
+-- ---- the claim of a row, from any way to find the readings
+module _ (R : List ℕ → Calls → List Reading) where
+  abbrev pub listingFrom : List ℕ → Calls → Listing
+  listingFrom cs k =
+      cond (eqb (handCheck cs k) 0)
+      (cond (leb (length (records (R cs k))) 1467) (Listed (length (R cs k)) (length (records (R cs k)))) (Refused 7))
+      (Refused (handCheck cs k))
+
+  abbrev pub scoresFrom : List ℕ → Calls → GameContext → List ScoringResult
+  scoresFrom cs k w = map (scoreIn cs k w) (R cs k)
+
+  abbrev pub winFrom : List ℕ → Calls → GameContext → ScoreAnswer
+  winFrom cs k w = cond (eqb (winCheck cs k w) 0) (choice (scoresFrom cs k w)) (refused (winCheck cs k w))
+
+  abbrev pub readingFrom : List ℕ → Calls → GameContext → ℕ → ScoreAnswer
+  readingFrom cs k w n = cond (eqb (winCheck cs k w) 0) (numbered (scoresFrom cs k w) n) (refused (winCheck cs k w))
+
+  abbrev pub waitsFrom : List ℕ → Calls → GameContext → ℕ → WaitsAnswer
+  waitsFrom cs k w n =
+      cond (eqb (winCheck cs k w) 0)
+      (pickAt (refusedWaits 12) (λ r. namedWaits (waits (w .«winning_tile») r)) (R cs k) n)
+      (refusedWaits (winCheck cs k w))
+
+  abbrev pub holdsFrom : Row → Bool
+  holdsFrom (won cs ms w vs o) =
+      let k = callsOf ms in
+      answers vs o (winCheck cs k w) (listingFrom cs k) (readingFrom cs k w) (winFrom cs k w)
+  holdsFrom (waiting cs ms w wss) = eachWaits (waitsFrom cs (callsOf ms) w) 0 wss
+  holdsFrom (listed cs ms n) = listsTo (chooses 0) n (listingFrom cs (callsOf ms))
+  holdsFrom (valued h f y l n) = holds (valued h f y l n)
+  holdsFrom (paid h f y by dealer p) = holds (paid h f y by dealer p)
+  holdsFrom (asked n by dealer a) = holds (asked n by dealer a)
+
+from-readings : (r : Row) → holds r ≡ holdsFrom handReadings r
+unfolding holds
+from-readings (won cs ms w vs o) = refl
+from-readings (waiting cs ms w wss) = refl
+from-readings (listed cs ms n) = refl
+from-readings (valued h f y l n) = refl
+from-readings (paid h f y by dealer p) = refl
+from-readings (asked n by dealer a) = refl
+
+-- a row holds where it holds of the readings found quickly
+pub quick : (r : Row) → T (holdsFrom quickReadings r) → T (holds r)
+quick r t =
+    subst T
+    (sym (from-readings r ∙ ap (λ (R : List ℕ → Calls → List Reading). holdsFrom R r) (fun-ext (λ cs. fun-ext (quick-readings cs)))))
+    t
