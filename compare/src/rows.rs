@@ -265,7 +265,10 @@ fn chained(words: &mut Words) -> Term {
 /// A name with its arguments, or one expression.
 fn applied(words: &mut Words) -> Term {
     let mut term = single(words);
-    while words.peek().is_some_and(|word| !matches!(**word, ")" | "∷" | "++")) {
+    while words
+        .peek()
+        .is_some_and(|word| !matches!(**word, ")" | "∷" | "++"))
+    {
         let Term::Name(_, arguments) = &mut term else {
             panic!("arguments behind {term}");
         };
@@ -333,9 +336,15 @@ mod tests {
         };
         let hand = tiles.hand(calls);
         assert_eq!((hand.counts[4], hand.counts[27]), (2, 1));
-        assert_eq!(hand.called(), [Meld::new(0, OPEN_SEQUENCE), Meld::new(33, OPEN_TRIPLET)]);
+        assert_eq!(
+            hand.called(),
+            [Meld::new(0, OPEN_SEQUENCE), Meld::new(33, OPEN_TRIPLET)]
+        );
         let win = win.win();
-        assert_eq!((win.win_type, win.winning_tile, win.seat_wind), (TSUMO, 11, SOUTH));
+        assert_eq!(
+            (win.win_type, win.winning_tile, win.seat_wind),
+            (TSUMO, 11, SOUTH)
+        );
         assert!(win.is_riichi && win.is_ippatsu && !win.is_rinshan);
         assert_eq!(refuses.to_string(), "refuses 11");
         assert_eq!(Term::of(&rows[0].term.to_string()), rows[0].term);

@@ -126,7 +126,10 @@ fn worth(win: &Win, score: &Score) -> String {
 
 /// What each reading comes to, and what scoring the win answers.
 fn won(win: &Win, expected: &ExpectedWin) -> String {
-    let worths = expected.scores.iter().map(|score| worth(win, score) + " ∷ ");
+    let worths = expected
+        .scores
+        .iter()
+        .map(|score| worth(win, score) + " ∷ ");
     let worths: String = worths.collect();
     let chosen = expected.score_win();
     let outcome = match chosen.number {
@@ -138,7 +141,9 @@ fn won(win: &Win, expected: &ExpectedWin) -> String {
 
 fn waiting(expected: &ExpectedWin) -> String {
     let waits = expected.waits.iter();
-    let waits: String = waits.map(|waits| format!("({}) ∷ ", names(&WAIT_ENTRIES, waits))).collect();
+    let waits: String = waits
+        .map(|waits| format!("({}) ∷ ", names(&WAIT_ENTRIES, waits)))
+        .collect();
     format!("waiting ({waits}[])")
 }
 
@@ -228,11 +233,17 @@ fn points_record(title: &str, points: &Points, win_type: u8, dealer: bool) -> [u
             slot[56] = level;
             slot[57] = count;
             let yakuman = if is_yakuman { " yakuman" } else { "" };
-            (basic_points(han, fu, is_yakuman), format!("{han} han {fu} fu{yakuman}"))
+            (
+                basic_points(han, fu, is_yakuman),
+                format!("{han} han {fu} fu{yakuman}"),
+            )
         }
     };
     let who = if dealer { "dealer " } else { "" };
-    put_text(&mut record, &format!("{title}: {text}, {who}{}", type_name(win_type)));
+    put_text(
+        &mut record,
+        &format!("{title}: {text}, {who}{}", type_name(win_type)),
+    );
     record[193] = win_type;
     record[194] = u8::from(dealer);
     let paid = payment(basic, dealer, win_type);
@@ -279,8 +290,15 @@ fn written(hand: &Hand, win: &Win) -> String {
         };
         text += &format!(", {call} {}", tile_name(meld.tile));
     }
-    text += &format!(", {} {}", type_name(win.win_type), tile_name(win.winning_tile));
-    for (name, wind, usual) in [("round", win.round_wind, EAST), ("seat", win.seat_wind, SOUTH)] {
+    text += &format!(
+        ", {} {}",
+        type_name(win.win_type),
+        tile_name(win.winning_tile)
+    );
+    for (name, wind, usual) in [
+        ("round", win.round_wind, EAST),
+        ("seat", win.seat_wind, SOUTH),
+    ] {
         if wind != usual {
             text += &format!(" {name}={}", tile_name(wind));
         }
@@ -398,7 +416,9 @@ fn read(krate: &str, folder: &str, name: &str) -> String {
 /// Whether the row is claimed: by a theorem of its own, or in the list of a common one.
 fn is_claimed(row: &Row, specs: &str, proofs: &str) -> bool {
     let theorem = format!("pub {} : T (holds {})\n", row.theorem(), row.name);
-    let mut lines = specs.lines().map(|line| line.trim().trim_start_matches("∷ "));
+    let mut lines = specs
+        .lines()
+        .map(|line| line.trim().trim_start_matches("∷ "));
     proofs.contains(&theorem) || lines.any(|line| line == row.name)
 }
 

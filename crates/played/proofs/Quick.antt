@@ -1,14 +1,15 @@
 -- A row holds where it holds of readings found quickly: melds that do not fit the hand are left out before the search. Assumes nothing.
 use mathlib.Core.Path.{_≡_, refl, sym, ap, _∙_, subst, fun-ext}
-use mathlib.Core.Bool.{Bool, false, _&&_, cond}
+use mathlib.Core.Bool.{Bool, true, false, _&&_, _||_, not, cond}
 use mathlib.Core.List.{List, [], _∷_, _++_, map}
 use Prim.Native.Nat.{ℕ, _-_}
-use lib.Dec.{T, eqb, leb}
+use lib.Dec.{T, eqb, leb, ltb, ltb→lt}
 use lib.ListN.{length}
 use Rattle.lists.specs.Fold.{flat, keep}
+use Rattle.lists.proofs.Finite.{at, and-both, ¬T→false}
 use Rattle.tile.specs.Tile.{tiles}
 use Rattle.meld.specs.declared.Meld.{Meld}
-use Rattle.meld.specs.Meld.{handMelds, sorted}
+use Rattle.meld.specs.Meld.{handMelds, sorted, uses}
 use Rattle.context.specs.declared.GameContext.{GameContext}
 use Rattle.hand.specs.Counts.{held}
 use Rattle.hand.specs.Reading.{Reading, standard}
@@ -31,12 +32,27 @@ use Rattle.played.specs.Row.{Row, won, waiting, listed, valued, paid, as
 use Rattle.played.proofs.Fitting.{keep-find}
 
 -- ---- the readings, found among the melds that fit
+-- the meld fits; that its lowest tile is there is asked first, as it is not of most melds
+abbrev isThere : (ℕ → ℕ) → Meld → Bool
+isThere c m = not (ltb (m .tile) 34) || leb (uses m (m .tile)) (c (m .tile))
+
+abbrev mayStand : (ℕ → ℕ) → Meld → Bool
+mayStand c m = isThere c m && fits m c
+
+no-other : (c : ℕ → ℕ) (m : Meld) → mayStand c m ≡ false → fits m c ≡ false
+no-other c m e =
+    ¬T→false (fits m c) (λ t. subst T e (and-both (isThere c m) (fits m c) (there t (ltb (m .tile) 34) refl) t))
+  where
+    there : T (fits m c) → (b : Bool) → ltb (m .tile) 34 ≡ b → T (not b || leb (uses m (m .tile)) (c (m .tile)))
+    there t true q = at 34 (λ v. leb (uses m v) (c v)) t (m .tile) (ltb→lt (m .tile) 34 (subst T (sym q) tt))
+    there t false q = tt
+
 abbrev quickLists : ℕ → (ℕ → ℕ) → List (List Meld)
-quickLists n c = find n c (keep (λ m. fits m c) handMelds)
+quickLists n c = find n c (keep (mayStand c) handMelds)
 
 quick-lists : (n : ℕ) (c : ℕ → ℕ) → meldLists n c ≡ quickLists n c
 unfolding meldLists
-quick-lists n c = sym (keep-find (λ m. fits m c) n c (λ m e. e) handMelds)
+quick-lists n c = sym (keep-find (mayStand c) n c (no-other c) handMelds)
 
 abbrev quickAt : (ℕ → ℕ) → List Meld → ℕ → List Reading
 quickAt c k p =

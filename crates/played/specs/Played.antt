@@ -29,10 +29,7 @@ pinfuByRon =
 abbrev pub sequencesOrTriplets : Row
 sequencesOrTriplets =
     won (hand (mans 222333444 ++ pins 567 ++ sous 88)) [] (ron (sou 8))
-    (worth (Tanyao ∷ Iipeikou ∷ []) 2 40 Normal (Ron 2600)
-    ∷ worth (Tanyao ∷ SanAnkou ∷ []) 3 50 Normal (Ron 6400)
-    ∷ [])
-    (chooses 1)
+    (worth (Tanyao ∷ Iipeikou ∷ []) 2 40 Normal (Ron 2600) ∷ worth (Tanyao ∷ SanAnkou ∷ []) 3 50 Normal (Ron 6400) ∷ []) (chooses 1)
 
 -- man 223344, pin 667788, sou 55, ron man 4: standard 5 han 8,000; seven pairs 3 han 25 fu 3,200
 abbrev pub ryanpeikouOrPairs : Row

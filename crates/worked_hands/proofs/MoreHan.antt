@@ -2,7 +2,7 @@
 use lib.Dec.{T}
 use Rattle.played.specs.Row.{holds}
 use Rattle.played.proofs.Quick.{quick}
-use Rattle.worked_hands.specs.MoreHan.{doubleRiichiClosed, doubleRiichiIppatsu, doubleRiichiWithoutRiichi, doubleRiichiOpen, toitoiOpen, toitoiWithKans, toitoiClosed, toitoiSequence, sanshokuClosed, sanshokuOpen, sanshokuShifted, sanshokuTwoSuits, sanshokuDoukouOpen, sanshokuDoukouKan, sanshokuDoukouClosed, sanshokuDoukouOther, sanshokuDoukouPair, ittsuClosed, ittsuOpen, ittsuTwoSuits, ittsuShifted, pairsByRon, pairsByTsumo, pairsOfSimples, pairsHalfFlush, pairsFullFlush, pairsTerminalsHonors, pairsFourOfAKind, pairsSevenKinds, chantaClosed, chantaOpen, chantaHonorPair, chantaMiddle, chantaSimplePair, chantaSimpleTriplet, sanAnkouClosed, sanAnkouOpen, sanAnkouKan, sanAnkouTsumo, sanAnkouRonTriplet, sanAnkouSpared, sanAnkouCalledSequence, sanAnkouPon, sanAnkouOpenKan, sanKantsuThree, sanKantsuTwo, honroutouOpen, honroutouSequence, honroutouSimple, shousangenPair, shousangenOtherPair, shousangenOneTriplet, honitsuClosed, honitsuOpen, honitsuTwoSuits, honitsuCall, junchanClosed, junchanOpen, junchanHonors, junchanMiddle, ryanpeikouClosed, ryanpeikouFourAlike, ryanpeikouThreeAlike, ryanpeikouOpen, chinitsuClosed, chinitsuOpen, chinitsuHonors, chinitsuOtherPair}
+use Rattle.worked_hands.specs.MoreHan.{doubleRiichiClosed, doubleRiichiIppatsu, doubleRiichiWithoutRiichi, doubleRiichiOpen, toitoiOpen, toitoiWithKans, toitoiClosed, toitoiSequence, sanshokuClosed, sanshokuOpen, sanshokuShifted, sanshokuTwoSuits, sanshokuDoukouOpen, sanshokuDoukouKan, sanshokuDoukouClosed, sanshokuDoukouOther, sanshokuDoukouPair, ittsuClosed, ittsuOpen, ittsuTwoSuits, ittsuShifted, pairsByRon, pairsByTsumo, pairsOfSimples, pairsOfSimplesTsumo, pairsHalfFlush, pairsFullFlush, pairsTerminalsHonors, pairsFourOfAKind, pairsSevenKinds, chantaClosed, chantaOpen, chantaHonorPair, chantaMiddle, chantaSimplePair, chantaSimpleTriplet, sanAnkouClosed, sanAnkouOpen, sanAnkouKan, sanAnkouTsumo, sanAnkouRonTriplet, sanAnkouSpared, sanAnkouCalledSequence, sanAnkouPon, sanAnkouOpenKan, sanKantsuThree, sanKantsuTwo, honroutouOpen, honroutouSequence, honroutouSimple, shousangenPair, shousangenOtherPair, shousangenOneTriplet, honitsuClosed, honitsuOpen, honitsuTwoSuits, honitsuCall, junchanClosed, junchanOpen, junchanHonors, junchanMiddle, ryanpeikouClosed, ryanpeikouFourAlike, ryanpeikouThreeAlike, ryanpeikouOpen, chinitsuClosed, chinitsuOpen, chinitsuHonors, chinitsuOtherPair}
 
 -- ---- DoubleRiichi
 pub double-riichi-closed : T (holds doubleRiichiClosed)
@@ -105,6 +105,10 @@ pairs-by-tsumo = quick pairsByTsumo tt
 pub pairs-of-simples : T (holds pairsOfSimples)
 unfolding holds
 pairs-of-simples = quick pairsOfSimples tt
+
+pub pairs-of-simples-tsumo : T (holds pairsOfSimplesTsumo)
+unfolding holds
+pairs-of-simples-tsumo = quick pairsOfSimplesTsumo tt
 
 pub pairs-half-flush : T (holds pairsHalfFlush)
 unfolding holds

@@ -93,6 +93,7 @@ pub closed-without-yaku : T (holds closedWithoutYaku)
 unfolding holds
 closed-without-yaku = quick closedWithoutYaku tt
 
+-- ---- Payment alone
 pub basic-win-type : T (holds basicWinType)
 unfolding holds
 basic-win-type = quick basicWinType tt

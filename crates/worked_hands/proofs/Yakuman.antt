@@ -2,7 +2,7 @@
 use lib.Dec.{T}
 use Rattle.played.specs.Row.{holds}
 use Rattle.played.proofs.Quick.{quick}
-use Rattle.worked_hands.specs.Yakuman.{tenhouDealer, tenhouNonDealer, tenhouByRon, tenhouOpen, tenhouClosedKan, chiihouNonDealer, chiihouDealer, chiihouByRon, kokushiByTsumo, kokushiTwelveKinds, kokushiSimple, kokushiOtherKinds, suuankouTsumo, suuankouClosedKan, suuankouRon, suuankouPon, daisangenPon, daisangenKan, daisangenPair, shousuushiiPair, shousuushiiOtherPair, daisuushiiPon, daisuushiiPair, tsuuiisouOpen, tsuuiisouPairs, tsuuiisouTerminals, chinroutouOpen, chinroutouHonors, chinroutouSequence, ryuuiisouClosed, ryuuiisouNoGreen, ryuuiisouFive, ryuuiisouRed, chuurenOther, chuurenWithoutTwo, chuurenOpen, chuurenKan, suuKantsuFour, suuKantsuThree, kokushiThirteen, kokushiThirteenDealer, kokushiOneWait, suuankouTankiRon, suuankouTankiTsumo, suuankouOnTriplet, junseiFive, junseiNine, daisuushiiAndTsuuiisou, withSuuankouTanki, withFourKans, withFourKansDealer, yakumanWithRiichi, yakumanWithPairs}
+use Rattle.worked_hands.specs.Yakuman.{tenhouDealer, tenhouNonDealer, tenhouByRon, tenhouOpen, tenhouClosedKan, chiihouNonDealer, chiihouDealer, chiihouByRon, kokushiByTsumo, kokushiTwelveKinds, kokushiSimple, kokushiOtherKinds, suuankouTsumo, suuankouClosedKan, suuankouRon, suuankouPon, daisangenPon, daisangenKan, daisangenPair, shousuushiiPair, shousuushiiOtherPair, daisuushiiPon, daisuushiiPair, tsuuiisouOpen, tsuuiisouPairs, tsuuiisouTerminals, chinroutouOpen, chinroutouHonors, chinroutouSequence, ryuuiisouClosed, ryuuiisouNoGreen, ryuuiisouFive, ryuuiisouRed, chuurenOther, chuurenWithoutTwo, chuurenOpen, chuurenKan, suuKantsuFour, suuKantsuThree, kokushiThirteen, kokushiThirteenDealer, kokushiOneWait, suuankouTankiRon, suuankouTankiTsumo, suuankouOnTriplet, junseiFive, junseiNine, windsAndHonors, windsConcealed, windsFourKans, windsFourKansDealer, yakumanWithRiichi, yakumanWithPairs}
 
 -- ---- Tenhou
 pub tenhou-dealer : T (holds tenhouDealer)
@@ -208,21 +208,21 @@ unfolding holds
 junsei-nine = quick junseiNine tt
 
 -- ---- Several at once add up
-pub daisuushii-and-tsuuiisou : T (holds daisuushiiAndTsuuiisou)
+pub winds-and-honors : T (holds windsAndHonors)
 unfolding holds
-daisuushii-and-tsuuiisou = quick daisuushiiAndTsuuiisou tt
+winds-and-honors = quick windsAndHonors tt
 
-pub with-suuankou-tanki : T (holds withSuuankouTanki)
+pub winds-concealed : T (holds windsConcealed)
 unfolding holds
-with-suuankou-tanki = quick withSuuankouTanki tt
+winds-concealed = quick windsConcealed tt
 
-pub with-four-kans : T (holds withFourKans)
+pub winds-four-kans : T (holds windsFourKans)
 unfolding holds
-with-four-kans = quick withFourKans tt
+winds-four-kans = quick windsFourKans tt
 
-pub with-four-kans-dealer : T (holds withFourKansDealer)
+pub winds-four-kans-dealer : T (holds windsFourKansDealer)
 unfolding holds
-with-four-kans-dealer = quick withFourKansDealer tt
+winds-four-kans-dealer = quick windsFourKansDealer tt
 
 pub yakuman-with-riichi : T (holds yakumanWithRiichi)
 unfolding holds

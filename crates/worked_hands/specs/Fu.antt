@@ -1,20 +1,20 @@
--- Fu, limits and points, by worked hands and values. The winner is seat South in the round East, if nothing else is said. These are definitions.
+-- Fu, by worked hands. The winner is seat South in the round East, if nothing else is said. These are definitions.
 use mathlib.Core.List.{[], _∷_, _++_}
 use Rattle.tile.specs.Named.{man, pin, sou, East, South, West, North, White, Green, Red, mans, pins, sous, orphanTiles}
 use Rattle.meld.specs.Named.{chi, pon, closedKan, openKan, addedKan}
-use Rattle.context.specs.Named.{byRon, byTsumo, riichi, doubleRiichi, ippatsu, lastTile, win, southWins, dealerWins, ron, tsumo}
+use Rattle.context.specs.Named.{byRon, byTsumo, riichi, southWins, dealerWins, ron, tsumo}
 use Rattle.hand.specs.Named.{hand}
-use Rattle.yaku.specs.declared.names.Yaku.the-variants.{Riichi, Ippatsu, MenzenTsumo, Tanyao, Pinfu, Iipeikou, HaiteiRaoyue, DoubleRiichi, Toitoi, Chiitoitsu, SanAnkou, Honroutou, Shousangen, Honitsu, Chinitsu, KokushiMusou, Tsuuiisou, SuuKantsu, SuuankouTanki}
+use Rattle.yaku.specs.declared.names.Yaku.the-variants.{Riichi, MenzenTsumo, Tanyao, Pinfu, Chiitoitsu, SanAnkou, KokushiMusou, Tsuuiisou, SuuKantsu, SuuankouTanki}
 use Rattle.yaku.specs.Names.{yakuhaiName}
-use Rattle.scoring.specs.declared.ScoreLevel.the-variants.{Normal, Mangan, Haneman, Baiman, Sanbaiman, Yakuman}
+use Rattle.scoring.specs.declared.ScoreLevel.the-variants.{Normal, Mangan, Yakuman}
 use Rattle.scoring.specs.declared.Payment.the-variants.{Ron, DealerTsumo, Tsumo}
-use Rattle.played.specs.Row.{dealer, nonDealer, yakuman, noYakuman, Row, valued, paid, scored}
+use Rattle.played.specs.Row.{Row, scored}
 
 -- ---- The wait: 2 fu in the middle, at an edge or on the pair, none at two sides or on a triplet. 30 for a closed ron
--- 30 and 2 for the middle of 456: 40
+-- 30 and 2 for the middle of 345: 40
 abbrev pub fuMiddle : Row
 fuMiddle =
-    scored (hand (mans 234567 ++ pins 345 ++ sous 22456)) [] (ron (sou 5))
+    scored (hand (mans 234567 ++ pins 456 ++ sous 34588)) [] (ron (sou 4))
     (Tanyao ∷ []) 1 40 Normal (Ron 1300)
 
 -- 30 and 2 for the 7 of 789: 40
@@ -57,13 +57,13 @@ fuCalledSequence =
 -- by ron the triplet counts as called: 30 and 2: 40
 abbrev pub fuTripletRon : Row
 fuTripletRon =
-    scored (hand (mans 123456 ++ pins 789 ++ sous 22555)) [] (southWins byRon (sou 5) (riichi ∷ []))
+    scored (hand (mans 234678 ++ pins 123 ++ sous 44499)) [] (southWins byRon (sou 4) (riichi ∷ []))
     (Riichi ∷ []) 1 40 Normal (Ron 1300)
 
 -- by tsumo it is concealed: 20, 2 for the tsumo and 4: 30
 abbrev pub fuTripletTsumo : Row
 fuTripletTsumo =
-    scored (hand (mans 123456 ++ pins 789 ++ sous 22555)) [] (southWins byTsumo (sou 5) (riichi ∷ []))
+    scored (hand (mans 234678 ++ pins 123 ++ sous 44499)) [] (southWins byTsumo (sou 4) (riichi ∷ []))
     (Riichi ∷ MenzenTsumo ∷ []) 2 30 Normal (Tsumo 1000 500)
 
 -- concealed, of terminals: 30 and 8: 40
@@ -93,8 +93,8 @@ fuThreeOpen =
 -- by ron, but the tile stands in a closed sequence too: three times 4 beside 30: 50
 abbrev pub fuSpared : Row
 fuSpared =
-    scored (hand (mans 222 ++ pins 55599 ++ sous 678888)) [] (ron (sou 8))
-    (SanAnkou ∷ []) 2 50 Normal (Ron 3200)
+    scored (hand (mans 222 ++ pins 55599 ++ sous 678888)) [] (southWins byRon (sou 8) (riichi ∷ []))
+    (Riichi ∷ SanAnkou ∷ []) 3 50 Normal (Ron 6400)
 
 -- ---- Kans: four times as much as a triplet
 -- open, of simples: 20 and 8: 30
@@ -212,145 +212,3 @@ abbrev pub fuOrphans : Row
 fuOrphans =
     scored (hand (man 1 ∷ orphanTiles)) [] (tsumo Red)
     (KokushiMusou ∷ []) 13 30 (Yakuman 1) (Tsumo 16000 8000)
-
--- ---- Limits: 5 han is a mangan, 6 and 7 a haneman, 8 to 10 a baiman, 11 and 12 a sanbaiman, 13 a yakuman
--- 4 han 30 fu is just below: 7,700, by the dealer 11,600
-abbrev pub limitBelowMangan : Row
-limitBelowMangan =
-    scored (hand (mans 223344 ++ pins 678 ++ sous 55567)) [] (southWins byRon (sou 7) (riichi ∷ []))
-    (Riichi ∷ Tanyao ∷ Pinfu ∷ Iipeikou ∷ []) 4 30 Normal (Ron 7700)
-
-abbrev pub limitBelowManganDealer : Row
-limitBelowManganDealer =
-    scored (hand (mans 223344 ++ pins 678 ++ sous 55567)) [] (dealerWins byRon (sou 7) (riichi ∷ []))
-    (Riichi ∷ Tanyao ∷ Pinfu ∷ Iipeikou ∷ []) 4 30 Normal (Ron 11600)
-
--- 4 han 20 fu: by tsumo the dealer pays 2,600, others 1,300
-abbrev pub limitFourTwenty : Row
-limitFourTwenty =
-    scored (hand (mans 234678 ++ pins 345 ++ sous 22567)) [] (southWins byTsumo (sou 7) (riichi ∷ []))
-    (Riichi ∷ MenzenTsumo ∷ Tanyao ∷ Pinfu ∷ []) 4 20 Normal (Tsumo 2600 1300)
-
--- 3 han 60 fu is just below too
-abbrev pub limitThreeSixty : Row
-limitThreeSixty =
-    scored (hand (mans 111 ++ pins 22678 ++ sous 333)) (closedKan (pin 5) ∷ []) (southWins byRon (pin 8) (riichi ∷ []))
-    (Riichi ∷ SanAnkou ∷ []) 3 60 Normal (Ron 7700)
-
--- 3 han 70 fu is a mangan
-abbrev pub limitThreeSeventy : Row
-limitThreeSeventy =
-    scored (hand (mans 22255 ++ sous 333678)) (closedKan (pin 9) ∷ []) (southWins byRon (sou 8) (riichi ∷ []))
-    (Riichi ∷ SanAnkou ∷ []) 3 70 Mangan (Ron 8000)
-
--- 4 han 40 fu is one
-abbrev pub limitFourForty : Row
-limitFourForty =
-    scored (hand (mans 234 ++ pins 678 ++ (Green ∷ Green ∷ Green ∷ Red ∷ Red ∷ []))) (pon White ∷ []) (ron (pin 8))
-    (yakuhaiName White ∷ yakuhaiName Green ∷ Shousangen ∷ []) 4 40 Mangan (Ron 8000)
-
--- 5 han: 8,000, by tsumo 4,000 and 2,000
-abbrev pub limitMangan : Row
-limitMangan =
-    scored (hand (mans 234678 ++ pins 345 ++ sous 22567)) [] (southWins byTsumo (sou 7) (riichi ∷ ippatsu ∷ []))
-    (Riichi ∷ Ippatsu ∷ MenzenTsumo ∷ Tanyao ∷ Pinfu ∷ []) 5 20 Mangan (Tsumo 4000 2000)
-
--- 6 han: a haneman
-abbrev pub limitHaneman : Row
-limitHaneman =
-    scored (hand (mans 234678 ++ pins 345 ++ sous 22567)) [] (southWins byTsumo (sou 7) (riichi ∷ ippatsu ∷ lastTile ∷ []))
-    (Riichi ∷ Ippatsu ∷ MenzenTsumo ∷ Tanyao ∷ Pinfu ∷ HaiteiRaoyue ∷ []) 6 20 Haneman (Tsumo 6000 3000)
-
--- 8 han: a baiman
-abbrev pub limitBaiman : Row
-limitBaiman =
-    scored (hand (mans 123345678 ++ (East ∷ East ∷ North ∷ North ∷ North ∷ []))) [] (win byTsumo (man 8) North North (riichi ∷ ippatsu ∷ []))
-    (Riichi ∷ Ippatsu ∷ MenzenTsumo ∷ yakuhaiName North ∷ yakuhaiName North ∷ Honitsu ∷ []) 8 30 Baiman (Tsumo 8000 4000)
-
--- 11 han: a sanbaiman
-abbrev pub limitSanbaiman : Row
-limitSanbaiman =
-    scored (hand (pins 12223345567999)) [] (southWins byTsumo (pin 1) (riichi ∷ doubleRiichi ∷ ippatsu ∷ lastTile ∷ []))
-    (Ippatsu ∷ MenzenTsumo ∷ HaiteiRaoyue ∷ DoubleRiichi ∷ Chinitsu ∷ []) 11 30 Sanbaiman (Tsumo 12000 6000)
-
--- 13 han of ordinary yaku are a yakuman
-abbrev pub limitCounted : Row
-limitCounted =
-    scored (hand (mans 111999 ++ (White ∷ White ∷ White ∷ Green ∷ Green ∷ Green ∷ Red ∷ Red ∷ []))) [] (ron (man 9))
-    (yakuhaiName White ∷ yakuhaiName Green ∷ Toitoi ∷ SanAnkou ∷ Honroutou ∷ Shousangen ∷ Honitsu ∷ []) 13 60 (Yakuman 1) (Ron 32000)
-
--- ---- Points: round up to 100 once, after multiplication: ron 4 times basic, the dealer 6 times; tsumo 2 times from the dealer and 1 time from
--- others
-abbrev pub han1Fu30 : Row
-han1Fu30 = valued 1 30 noYakuman Normal 240
-
-abbrev pub han1Fu30Ron : Row
-han1Fu30Ron = paid 1 30 noYakuman byRon nonDealer (Ron 1000)
-
-abbrev pub han1Fu30DealerRon : Row
-han1Fu30DealerRon = paid 1 30 noYakuman byRon dealer (Ron 1500)
-
-abbrev pub han1Fu30Tsumo : Row
-han1Fu30Tsumo = paid 1 30 noYakuman byTsumo nonDealer (Tsumo 500 300)
-
-abbrev pub han1Fu30DealerTsumo : Row
-han1Fu30DealerTsumo = paid 1 30 noYakuman byTsumo dealer (DealerTsumo 500)
-
-abbrev pub han1Fu110Ron : Row
-han1Fu110Ron = paid 1 110 noYakuman byRon nonDealer (Ron 3600)
-
-abbrev pub han2Fu20Tsumo : Row
-han2Fu20Tsumo = paid 2 20 noYakuman byTsumo nonDealer (Tsumo 700 400)
-
-abbrev pub han3Fu25Tsumo : Row
-han3Fu25Tsumo = paid 3 25 noYakuman byTsumo nonDealer (Tsumo 1600 800)
-
-abbrev pub han3Fu30Ron : Row
-han3Fu30Ron = paid 3 30 noYakuman byRon nonDealer (Ron 3900)
-
-abbrev pub han3Fu30DealerRon : Row
-han3Fu30DealerRon = paid 3 30 noYakuman byRon dealer (Ron 5800)
-
-abbrev pub han4Fu25Ron : Row
-han4Fu25Ron = paid 4 25 noYakuman byRon nonDealer (Ron 6400)
-
-abbrev pub han4Fu25DealerRon : Row
-han4Fu25DealerRon = paid 4 25 noYakuman byRon dealer (Ron 9600)
-
--- 2 han 130 fu has the basic points of a mangan and is none
-abbrev pub han2Fu130 : Row
-han2Fu130 = valued 2 130 noYakuman Normal 2000
-
--- 13 han and 26 han without a yakuman are one, with one they are two
-abbrev pub han5Fu30 : Row
-han5Fu30 = valued 5 30 noYakuman Mangan 2000
-
-abbrev pub han6Fu30 : Row
-han6Fu30 = valued 6 30 noYakuman Haneman 3000
-
-abbrev pub han7Fu30DealerRon : Row
-han7Fu30DealerRon = paid 7 30 noYakuman byRon dealer (Ron 18000)
-
-abbrev pub han8Fu30 : Row
-han8Fu30 = valued 8 30 noYakuman Baiman 4000
-
-abbrev pub han10Fu30DealerTsumo : Row
-han10Fu30DealerTsumo = paid 10 30 noYakuman byTsumo dealer (DealerTsumo 8000)
-
-abbrev pub han11Fu30 : Row
-han11Fu30 = valued 11 30 noYakuman Sanbaiman 6000
-
-abbrev pub han12Fu30Tsumo : Row
-han12Fu30Tsumo = paid 12 30 noYakuman byTsumo nonDealer (Tsumo 12000 6000)
-
-abbrev pub han13Fu30 : Row
-han13Fu30 = valued 13 30 noYakuman (Yakuman 1) 8000
-
-abbrev pub han26Fu30 : Row
-han26Fu30 = valued 26 30 noYakuman (Yakuman 1) 8000
-
-abbrev pub han26Fu30Yakuman : Row
-han26Fu30Yakuman = valued 26 30 yakuman (Yakuman 2) 16000
-
-abbrev pub han39Fu30DealerTsumo : Row
-han39Fu30DealerTsumo = paid 39 30 yakuman byTsumo dealer (DealerTsumo 48000)

@@ -2,5 +2,6 @@ pub mod OneHan
 pub mod MoreHan
 pub mod Yakuman
 pub mod Fu
-pub mod Choice
+pub mod Points
+pub mod Readings
 pub mod Refusals

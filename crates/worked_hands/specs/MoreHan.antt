@@ -53,7 +53,7 @@ toitoiClosed =
     scored (hand (mans 111 ++ pins 333 ++ sous 555777 ++ (South ∷ South ∷ []))) [] (ron (sou 7))
     (Toitoi ∷ SanAnkou ∷ []) 4 50 Mangan (Ron 8000)
 
--- one sequence spoils it
+-- not with a sequence
 abbrev pub toitoiSequence : Row
 toitoiSequence =
     yakuless (hand (pins 777 ++ sous 33678)) (pon (man 1) ∷ pon (pin 5) ∷ []) (ron (sou 8)) 30 (Ron 500)
@@ -71,12 +71,12 @@ sanshokuOpen =
     scored (hand (mans 99 ++ pins 234 ++ sous 234678)) (chi (man 2) ∷ []) (ron (sou 7))
     (SanshokuDoujun ∷ []) 1 30 Normal (Ron 1000)
 
--- 234, 234 and 345
+-- not 234, 234 and 345
 abbrev pub sanshokuShifted : Row
 sanshokuShifted =
     yakuless (hand (mans 23499 ++ pins 234 ++ sous 345678)) [] (ron (sou 7)) 40 (Ron 700)
 
--- twice in man and once in pin
+-- not twice in man and once in pin
 abbrev pub sanshokuTwoSuits : Row
 sanshokuTwoSuits =
     yakuless (hand (mans 23499 ++ pins 234 ++ sous 678)) (chi (man 2) ∷ []) (ron (sou 7)) 30 (Ron 500)
@@ -94,18 +94,18 @@ sanshokuDoukouKan =
     scored (hand (pins 99 ++ sous 333456)) (pon (man 3) ∷ openKan (pin 3) ∷ []) (ron (pin 9))
     (SanshokuDoukou ∷ []) 2 40 Normal (Ron 2600)
 
--- closed it has no more
+-- closed it has 2 han too
 abbrev pub sanshokuDoukouClosed : Row
 sanshokuDoukouClosed =
     scored (hand (mans 333 ++ pins 333 ++ sous 33345699)) [] (ron (sou 4))
     (SanshokuDoukou ∷ SanAnkou ∷ []) 4 50 Mangan (Ron 8000)
 
--- 3, 3 and 4
+-- not 3, 3 and 4
 abbrev pub sanshokuDoukouOther : Row
 sanshokuDoukouOther =
     yakuless (hand (pins 99 ++ sous 444567)) (pon (man 3) ∷ pon (pin 3) ∷ []) (ron (pin 9)) 30 (Ron 500)
 
--- in sou only the pair
+-- not where sou 3 is only the pair
 abbrev pub sanshokuDoukouPair : Row
 sanshokuDoukouPair =
     yakuless (hand (pins 123 ++ sous 33678)) (pon (man 3) ∷ pon (pin 3) ∷ []) (ron (sou 8)) 30 (Ron 500)
@@ -123,12 +123,12 @@ ittsuOpen =
     scored (hand (mans 456789 ++ pins 234 ++ sous 55)) (chi (man 1) ∷ []) (ron (pin 3))
     (Ittsu ∷ []) 1 30 Normal (Ron 1000)
 
--- 456 is of another suit
+-- not with 456 of another suit
 abbrev pub ittsuTwoSuits : Row
 ittsuTwoSuits =
     yakuless (hand (mans 123789 ++ pins 234456 ++ sous 55)) [] (ron (pin 3)) 40 (Ron 700)
 
--- 678 in place of 789
+-- not with 678 in place of 789
 abbrev pub ittsuShifted : Row
 ittsuShifted =
     yakuless (hand (mans 123456678 ++ pins 234 ++ sous 55)) [] (ron (pin 3)) 40 (Ron 700)
@@ -152,6 +152,12 @@ pairsOfSimples =
     scored (hand (mans 2244 ++ pins 3366 ++ sous 557788)) [] (ron (sou 8))
     (Tanyao ∷ Chiitoitsu ∷ []) 3 25 Normal (Ron 3200)
 
+-- Tanyao and MenzenTsumo too
+abbrev pub pairsOfSimplesTsumo : Row
+pairsOfSimplesTsumo =
+    scored (hand (mans 2244 ++ pins 3366 ++ sous 557788)) [] (tsumo (sou 8))
+    (MenzenTsumo ∷ Tanyao ∷ Chiitoitsu ∷ []) 4 25 Normal (Tsumo 3200 1600)
+
 -- Honitsu too
 abbrev pub pairsHalfFlush : Row
 pairsHalfFlush =
@@ -170,12 +176,12 @@ pairsTerminalsHonors =
     scored (hand (mans 1199 ++ pins 1199 ++ sous 11 ++ (East ∷ East ∷ South ∷ South ∷ []))) [] (ron South)
     (Chiitoitsu ∷ Honroutou ∷ []) 4 25 Normal (Ron 6400)
 
--- four of a kind are not two pairs: such a hand has no reading, which is refused with 10
+-- not with four of a kind, which are not two pairs: such a hand has no reading, which is refused with 10
 abbrev pub pairsFourOfAKind : Row
 pairsFourOfAKind =
     won (hand (mans 1111 ++ pins 3344 ++ sous 5566 ++ (Red ∷ Red ∷ []))) [] (ron Red) [] (refuses 10)
 
--- seven kinds of tile, but three of one and one of another
+-- not by seven kinds of tile with three of one and one of another
 abbrev pub pairsSevenKinds : Row
 pairsSevenKinds =
     won (hand (mans 1112 ++ pins 3344 ++ sous 5566 ++ (Red ∷ Red ∷ []))) [] (ron Red) [] (refuses 10)
@@ -199,17 +205,17 @@ chantaHonorPair =
     scored (hand (mans 123789 ++ pins 123 ++ sous 789 ++ (North ∷ North ∷ []))) [] (ron (pin 2))
     (Chanta ∷ []) 2 40 Normal (Ron 2600)
 
--- a sequence from the middle
+-- not with a sequence from the middle
 abbrev pub chantaMiddle : Row
 chantaMiddle =
     yakuless (hand (mans 123456 ++ pins 123 ++ sous 99 ++ (North ∷ North ∷ North ∷ []))) [] (ron (pin 2)) 40 (Ron 700)
 
--- a pair of simples
+-- not with a pair of simples
 abbrev pub chantaSimplePair : Row
 chantaSimplePair =
     yakuless (hand (mans 123789 ++ pins 123 ++ sous 88 ++ (North ∷ North ∷ North ∷ []))) [] (ron (pin 2)) 40 (Ron 700)
 
--- a triplet of simples
+-- not with a triplet of simples
 abbrev pub chantaSimpleTriplet : Row
 chantaSimpleTriplet =
     yakuless (hand (mans 123789 ++ pins 123 ++ sous 99)) (pon (sou 5) ∷ []) (ron (pin 2)) 30 (Ron 500)
@@ -250,17 +256,17 @@ sanAnkouSpared =
     scored (hand (mans 222 ++ pins 55599 ++ sous 678888)) [] (ron (sou 8))
     (SanAnkou ∷ []) 2 50 Normal (Ron 3200)
 
--- a called sequence with that tile does not help
+-- not where that sequence is called
 abbrev pub sanAnkouCalledSequence : Row
 sanAnkouCalledSequence =
     yakuless (hand (mans 222 ++ pins 55599 ++ sous 888)) (chi (sou 6) ∷ []) (ron (sou 8)) 30 (Ron 500)
 
--- one of the three is called
+-- not where one of the three is called
 abbrev pub sanAnkouPon : Row
 sanAnkouPon =
     yakuless (hand (pins 55599 ++ sous 456888)) (pon (man 2) ∷ []) (ron (sou 4)) 30 (Ron 500)
 
--- an open kan is called too
+-- not with an open kan, which is called too
 abbrev pub sanAnkouOpenKan : Row
 sanAnkouOpenKan =
     yakuless (hand (pins 55599 ++ sous 456888)) (openKan (man 2) ∷ []) (ron (sou 4)) 40 (Ron 700)
@@ -272,7 +278,7 @@ sanKantsuThree =
     scored (hand (pins 99 ++ sous 345)) (closedKan (man 2) ∷ openKan (pin 5) ∷ addedKan (sou 8) ∷ []) (ron (sou 4))
     (SanKantsu ∷ []) 2 60 Normal (Ron 3900)
 
--- two kans and a triplet
+-- not by two kans and a triplet
 abbrev pub sanKantsuTwo : Row
 sanKantsuTwo =
     yakuless (hand (pins 99 ++ sous 345)) (pon (man 2) ∷ openKan (pin 5) ∷ addedKan (sou 8) ∷ []) (ron (sou 4)) 40 (Ron 700)
@@ -284,13 +290,13 @@ honroutouOpen =
     scored (hand (sous 999 ++ (West ∷ West ∷ West ∷ North ∷ North ∷ []))) (pon (man 1) ∷ pon (pin 9) ∷ []) (ron North)
     (Toitoi ∷ Honroutou ∷ []) 4 50 Mangan (Ron 8000)
 
--- a sequence makes it Chanta
+-- not with a sequence: Chanta
 abbrev pub honroutouSequence : Row
 honroutouSequence =
     scored (hand (sous 123 ++ (West ∷ West ∷ West ∷ North ∷ North ∷ []))) (pon (man 1) ∷ pon (pin 9) ∷ []) (ron North)
     (Chanta ∷ []) 1 40 Normal (Ron 1300)
 
--- a triplet of simples leaves Toitoi alone
+-- not with a triplet of simples: Toitoi alone
 abbrev pub honroutouSimple : Row
 honroutouSimple =
     scored (hand (sous 888 ++ (West ∷ West ∷ West ∷ North ∷ North ∷ []))) (pon (man 1) ∷ pon (pin 9) ∷ []) (ron North)
@@ -303,13 +309,13 @@ shousangenPair =
     scored (hand (mans 234 ++ pins 678 ++ (Green ∷ Green ∷ Green ∷ Red ∷ Red ∷ []))) (pon White ∷ []) (ron (pin 8))
     (yakuhaiName White ∷ yakuhaiName Green ∷ Shousangen ∷ []) 4 40 Mangan (Ron 8000)
 
--- the pair is another one
+-- not with another pair
 abbrev pub shousangenOtherPair : Row
 shousangenOtherPair =
     scored (hand (mans 234 ++ pins 678 ++ sous 99 ++ (Green ∷ Green ∷ Green ∷ []))) (pon White ∷ []) (ron (pin 8))
     (yakuhaiName White ∷ yakuhaiName Green ∷ []) 2 40 Normal (Ron 2600)
 
--- a pair of dragons and one triplet
+-- not with one triplet and a pair of dragons
 abbrev pub shousangenOneTriplet : Row
 shousangenOneTriplet =
     scored (hand (mans 234 ++ pins 678 ++ sous 345 ++ (Red ∷ Red ∷ []))) (pon White ∷ []) (ron (pin 8))
@@ -328,12 +334,12 @@ honitsuOpen =
     scored (hand (mans 345678 ++ (East ∷ East ∷ North ∷ North ∷ North ∷ []))) (chi (man 1) ∷ []) (ron (man 8))
     (Honitsu ∷ []) 2 30 Normal (Ron 2000)
 
--- a sequence of another suit
+-- not with a sequence of another suit
 abbrev pub honitsuTwoSuits : Row
 honitsuTwoSuits =
     yakuless (hand (mans 123345 ++ pins 678 ++ (East ∷ East ∷ North ∷ North ∷ North ∷ []))) [] (ron (pin 8)) 40 (Ron 700)
 
--- a call of another suit
+-- not with a call of another suit
 abbrev pub honitsuCall : Row
 honitsuCall =
     yakuless (hand (mans 345678 ++ (East ∷ East ∷ North ∷ North ∷ North ∷ []))) (chi (pin 1) ∷ []) (ron (man 8)) 30 (Ron 500)
@@ -351,13 +357,13 @@ junchanOpen =
     scored (hand (mans 123 ++ pins 12399 ++ sous 789)) (chi (man 7) ∷ []) (ron (pin 2))
     (Junchan ∷ []) 2 30 Normal (Ron 2000)
 
--- a triplet of honors leaves Chanta
+-- not with a triplet of honors: Chanta
 abbrev pub junchanHonors : Row
 junchanHonors =
     scored (hand (mans 123 ++ pins 12399 ++ sous 789)) (pon North ∷ []) (ron (pin 2))
     (Chanta ∷ []) 1 30 Normal (Ron 1000)
 
--- a sequence from the middle leaves nothing
+-- not with a sequence from the middle
 abbrev pub junchanMiddle : Row
 junchanMiddle =
     yakuless (hand (mans 123789 ++ pins 12399 ++ sous 456)) [] (ron (pin 2)) 40 (Ron 700)
@@ -381,7 +387,7 @@ ryanpeikouFourAlike =
     ∷ [])
     (chooses 0)
 
--- three equal sequences and another are Iipeikou once
+-- not by three equal sequences and another: Iipeikou
 abbrev pub ryanpeikouThreeAlike : Row
 ryanpeikouThreeAlike =
     won (hand (mans 222333444 ++ pins 678 ++ (North ∷ North ∷ []))) [] (ron (man 3))
@@ -408,13 +414,13 @@ chinitsuOpen =
     scored (hand (pins 22345678)) (chi (pin 1) ∷ pon (pin 9) ∷ []) (ron (pin 8))
     (Chinitsu ∷ []) 5 30 Mangan (Ron 8000)
 
--- with honors it is Honitsu
+-- not with honors: Honitsu
 abbrev pub chinitsuHonors : Row
 chinitsuHonors =
     scored (hand (pins 34445678)) (chi (pin 1) ∷ pon North ∷ []) (ron (pin 8))
     (Honitsu ∷ []) 2 30 Normal (Ron 2000)
 
--- a pair of another suit
+-- not with a pair of another suit
 abbrev pub chinitsuOtherPair : Row
 chinitsuOtherPair =
     yakuless (hand (pins 345678 ++ sous 22)) (chi (pin 1) ∷ pon (pin 9) ∷ []) (ron (pin 8)) 30 (Ron 500)

@@ -12,7 +12,7 @@ use Rattle.scoring.specs.declared.Payment.the-variants.{Ron, Tsumo}
 use Rattle.played.specs.Row.{Row, scored, yakuless}
 
 -- ---- Riichi: 1 han, closed hands only
--- Riichi: a closed hand that was declared ready
+-- a closed hand that was declared ready
 abbrev pub riichiClosed : Row
 riichiClosed =
     scored (hand (mans 123456 ++ pins 789 ++ sous 22555)) [] (southWins byRon (sou 5) (riichi ∷ []))
@@ -21,8 +21,8 @@ riichiClosed =
 -- a closed kan leaves the hand closed
 abbrev pub riichiWithClosedKan : Row
 riichiWithClosedKan =
-    scored (hand (pins 234567 ++ sous 44678)) (closedKan (man 1) ∷ []) (southWins byRon (sou 8) (riichi ∷ []))
-    (Riichi ∷ []) 1 70 Normal (Ron 2300)
+    scored (hand (pins 123567 ++ sous 44678)) (closedKan (man 5) ∷ []) (southWins byRon (sou 8) (riichi ∷ []))
+    (Riichi ∷ []) 1 50 Normal (Ron 1600)
 
 -- not in a hand with a called sequence: then it has no yaku, which is refused with 11
 abbrev pub riichiOpen : Row
@@ -80,20 +80,20 @@ tanyaoClosed =
 -- open hands have it too
 abbrev pub tanyaoOpen : Row
 tanyaoOpen =
-    scored (hand (mans 678 ++ pins 345 ++ sous 22567)) (chi (man 2) ∷ []) (ron (sou 7))
+    scored (hand (mans 678 ++ sous 22567)) (chi (man 2) ∷ pon (pin 4) ∷ []) (ron (sou 7))
     (Tanyao ∷ []) 1 30 Normal (Ron 1000)
 
--- the 9 of 789 is a terminal
+-- not with the 9 of 789, a terminal
 abbrev pub tanyaoTerminal : Row
 tanyaoTerminal =
     yakuless (hand (mans 234567 ++ pins 345 ++ sous 22789)) [] (ron (sou 8)) 40 (Ron 700)
 
--- the 1 of a called 123 is one too
+-- not with the 1 of a called 123
 abbrev pub tanyaoTerminalCalled : Row
 tanyaoTerminalCalled =
     yakuless (hand (mans 678 ++ pins 345 ++ sous 22567)) (chi (man 1) ∷ []) (ron (sou 7)) 30 (Ron 500)
 
--- a pair of honors spoils it
+-- not with a pair of honors
 abbrev pub tanyaoHonorPair : Row
 tanyaoHonorPair =
     yakuless (hand (mans 234567 ++ pins 345 ++ sous 456 ++ (North ∷ North ∷ []))) [] (ron (sou 5)) 40 (Ron 700)
@@ -105,53 +105,53 @@ pinfuOtherWind =
     scored (hand (mans 123456 ++ pins 789 ++ sous 345 ++ (West ∷ West ∷ []))) [] (ron (sou 3))
     (Pinfu ∷ []) 1 30 Normal (Ron 1000)
 
--- by tsumo both count, with 20 fu
+-- by tsumo MenzenTsumo counts too, and it has 20 fu
 abbrev pub pinfuOtherWindTsumo : Row
 pinfuOtherWindTsumo =
     scored (hand (mans 123456 ++ pins 789 ++ sous 345 ++ (West ∷ West ∷ []))) [] (tsumo (sou 3))
     (MenzenTsumo ∷ Pinfu ∷ []) 2 20 Normal (Tsumo 700 400)
 
--- a pair of the seat wind
+-- not with a pair of the seat wind
 abbrev pub pinfuSeatWind : Row
 pinfuSeatWind =
     yakuless (hand (mans 123456 ++ pins 789 ++ sous 345 ++ (South ∷ South ∷ []))) [] (ron (sou 3)) 40 (Ron 700)
 
--- a pair of the round wind
+-- not with a pair of the round wind
 abbrev pub pinfuRoundWind : Row
 pinfuRoundWind =
     yakuless (hand (mans 123456 ++ pins 789 ++ sous 345 ++ (East ∷ East ∷ []))) [] (ron (sou 3)) 40 (Ron 700)
 
--- a pair of dragons
+-- not with a pair of dragons
 abbrev pub pinfuDragonPair : Row
 pinfuDragonPair =
     yakuless (hand (mans 123456 ++ pins 789 ++ sous 345 ++ (White ∷ White ∷ []))) [] (ron (sou 3)) 40 (Ron 700)
 
--- the middle of 345
+-- not won in the middle of 345
 abbrev pub pinfuMiddle : Row
 pinfuMiddle =
     yakuless (hand (mans 123456 ++ pins 789 ++ sous 345 ++ (West ∷ West ∷ []))) [] (ron (sou 4)) 40 (Ron 700)
 
--- the 7 of 789, for which 8 and 9 wait alone
+-- not won on the 7 of 789, for which 8 and 9 wait alone
 abbrev pub pinfuEdge : Row
 pinfuEdge =
     yakuless (hand (mans 123456 ++ pins 789 ++ sous 345 ++ (West ∷ West ∷ []))) [] (ron (pin 7)) 40 (Ron 700)
 
--- the 3 of 123, for which 1 and 2 wait alone
+-- not won on the 3 of 123, for which 1 and 2 wait alone
 abbrev pub pinfuLowEdge : Row
 pinfuLowEdge =
     yakuless (hand (mans 123567 ++ pins 789 ++ sous 345 ++ (West ∷ West ∷ []))) [] (ron (man 3)) 40 (Ron 700)
 
--- the pair
+-- not won on the pair
 abbrev pub pinfuPairWait : Row
 pinfuPairWait =
     yakuless (hand (mans 123456 ++ pins 789 ++ sous 345 ++ (West ∷ West ∷ []))) [] (ron West) 40 (Ron 700)
 
--- a triplet is no sequence
+-- not with a triplet
 abbrev pub pinfuTriplet : Row
 pinfuTriplet =
     yakuless (hand (mans 123456 ++ pins 789 ++ sous 22555)) [] (ron (man 6)) 40 (Ron 700)
 
--- a called sequence opens the hand
+-- not with a called sequence
 abbrev pub pinfuOpen : Row
 pinfuOpen =
     yakuless (hand (mans 456 ++ pins 789 ++ sous 345 ++ (West ∷ West ∷ []))) (chi (man 1) ∷ []) (ron (sou 3)) 30 (Ron 500)
@@ -175,7 +175,7 @@ iipeikouTwice =
     scored (hand (mans 112233 ++ pins 456 ++ sous 67899)) [] (ron (sou 7))
     (Iipeikou ∷ []) 1 40 Normal (Ron 1300)
 
--- with a closed kan
+-- a closed kan leaves the hand closed
 abbrev pub iipeikouWithClosedKan : Row
 iipeikouWithClosedKan =
     scored (hand (mans 112233 ++ sous 67899)) (closedKan (pin 5) ∷ []) (ron (sou 7))
@@ -186,7 +186,7 @@ abbrev pub iipeikouOpen : Row
 iipeikouOpen =
     yakuless (hand (mans 112233 ++ sous 67899)) (chi (pin 4) ∷ []) (ron (sou 7)) 30 (Ron 500)
 
--- equal numbers in two suits are no equal sequences
+-- not by the same numbers in two suits
 abbrev pub iipeikouTwoSuits : Row
 iipeikouTwoSuits =
     yakuless (hand (mans 123 ++ pins 123456 ++ sous 67899)) [] (ron (sou 7)) 40 (Ron 700)
@@ -296,7 +296,7 @@ yakuhaiKan =
     scored (hand (mans 234 ++ pins 567 ++ sous 67899)) (closedKan Red ∷ []) (ron (sou 8))
     (yakuhaiName Red ∷ []) 1 70 Normal (Ron 2300)
 
--- a pair of White, of Green and of Red is no triplet
+-- not for a pair of White, of Green or of Red
 abbrev pub yakuhaiWhitePair : Row
 yakuhaiWhitePair =
     yakuless (hand (pins 456 ++ sous 234678 ++ (White ∷ White ∷ []))) (chi (man 1) ∷ []) (ron (sou 8)) 30 (Ron 500)
@@ -358,7 +358,7 @@ haiteiClosed =
     scored (hand (mans 12355 ++ pins 456 ++ sous 234678)) [] (southWins byTsumo (sou 8) (lastTile ∷ []))
     (MenzenTsumo ∷ Pinfu ∷ HaiteiRaoyue ∷ []) 3 20 Normal (Tsumo 1300 700)
 
--- the tile drawn after a kan is never the last of the wall
+-- not on the tile drawn after a kan, which is never the last of the wall
 abbrev pub haiteiAfterKan : Row
 haiteiAfterKan =
     scored (hand (pins 345678 ++ sous 67899)) (openKan (man 2) ∷ []) (southWins byTsumo (sou 8) (rinshan ∷ lastTile ∷ []))
@@ -383,7 +383,7 @@ houteiAndChankan =
     scored (hand (mans 55 ++ pins 456 ++ sous 234678)) (chi (man 1) ∷ []) (southWins byRon (sou 8) (chankan ∷ lastTile ∷ []))
     (Chankan ∷ HouteiRaoyui ∷ []) 2 30 Normal (Ron 2000)
 
--- not on another discard
+-- not on an earlier discard
 abbrev pub houteiEarlier : Row
 houteiEarlier =
     yakuless (hand (mans 99 ++ pins 234567 ++ sous 345)) (pon (sou 5) ∷ []) (ron (sou 3)) 30 (Ron 500)

@@ -13,7 +13,7 @@ abbrev pub fiveCalls : Row
 fiveCalls =
     won (hand (White ∷ White ∷ [])) (chi (man 1) ∷ chi (man 1) ∷ chi (man 1) ∷ chi (man 1) ∷ chi (man 1) ∷ []) (ron White) [] (refuses 2)
 
--- before the count of a tile: 4 would be the next
+-- before 4: five of a tile are there too
 abbrev pub fiveCallsFiveTiles : Row
 fiveCallsFiveTiles =
     won (hand (White ∷ White ∷ White ∷ White ∷ White ∷ [])) (chi (man 1) ∷ chi (man 1) ∷ chi (man 1) ∷ chi (man 1) ∷ chi (man 1) ∷ []) (ron White) [] (refuses 2)
@@ -71,7 +71,7 @@ abbrev pub whiteAsRound : Row
 whiteAsRound =
     won (hand (mans 12355 ++ pins 456 ++ sous 234678)) [] (win byRon (sou 8) White South []) [] (refuses 8)
 
--- before 9
+-- before 9: the winning tile is not in the hand either
 abbrev pub seatBeforeTile : Row
 seatBeforeTile =
     won (hand (mans 12355 ++ pins 456 ++ sous 234678)) [] (win byRon (sou 9) East White []) [] (refuses 8)
@@ -105,7 +105,7 @@ abbrev pub closedWithoutYaku : Row
 closedWithoutYaku =
     yakuless (hand (mans 123456 ++ pins 789 ++ sous 22555)) [] (ron (man 6)) 40 (Ron 700)
 
--- 8 and 13 of payment
+-- ---- Payment alone: 8 for the win type, 13 for basic points above 152,000
 abbrev pub basicWinType : Row
 basicWinType = asked 152001 2 nonDealer (Refused 8)
 

@@ -67,17 +67,17 @@ kokushiByTsumo =
     scored (hand (man 1 ∷ orphanTiles)) [] (tsumo (man 9))
     (KokushiMusou ∷ []) 13 30 (Yakuman 1) (Tsumo 16000 8000)
 
--- twelve kinds, one of them three times
+-- not by twelve kinds, one of them three times: no reading
 abbrev pub kokushiTwelveKinds : Row
 kokushiTwelveKinds =
     won (hand (mans 111 ++ pins 19 ++ sous 19 ++ (East ∷ South ∷ West ∷ North ∷ White ∷ Green ∷ Red ∷ []))) [] (ron (pin 9)) [] (refuses 10)
 
--- a simple among them
+-- not with a simple among them
 abbrev pub kokushiSimple : Row
 kokushiSimple =
     won (hand (mans 112 ++ pins 19 ++ sous 19 ++ (East ∷ South ∷ West ∷ North ∷ White ∷ Green ∷ Red ∷ []))) [] (ron (pin 9)) [] (refuses 10)
 
--- thirteen kinds of tile, but not those
+-- not by thirteen other kinds of tile
 abbrev pub kokushiOtherKinds : Row
 kokushiOtherKinds =
     won (hand (mans 1123456789 ++ (East ∷ South ∷ West ∷ North ∷ []))) [] (ron (man 1)) [] (refuses 10)
@@ -95,13 +95,13 @@ suuankouClosedKan =
     scored (hand (pins 333 ++ sous 555777 ++ (South ∷ South ∷ []))) (closedKan (man 1) ∷ []) (tsumo (sou 7))
     (Suuankou ∷ []) 13 70 (Yakuman 1) (Tsumo 16000 8000)
 
--- the fourth by ron: it counts as called
+-- not with the fourth by ron, which counts as called
 abbrev pub suuankouRon : Row
 suuankouRon =
     scored (hand (mans 111 ++ pins 333 ++ sous 555777 ++ (West ∷ West ∷ []))) [] (ron (sou 7))
     (Toitoi ∷ SanAnkou ∷ []) 4 50 Mangan (Ron 8000)
 
--- one of them called
+-- not with one of them called
 abbrev pub suuankouPon : Row
 suuankouPon =
     scored (hand (pins 333 ++ sous 555777 ++ (South ∷ South ∷ []))) (pon (man 1) ∷ []) (tsumo (sou 7))
@@ -120,7 +120,7 @@ daisangenKan =
     scored (hand (mans 234 ++ pins 99 ++ (Green ∷ Green ∷ Green ∷ []))) (pon White ∷ addedKan Red ∷ []) (ron (man 4))
     (Daisangen ∷ []) 13 50 (Yakuman 1) (Ron 32000)
 
--- the third is only the pair: Shousangen
+-- not where the third is only the pair: Shousangen
 abbrev pub daisangenPair : Row
 daisangenPair =
     scored (hand (mans 234 ++ pins 678 ++ (White ∷ White ∷ White ∷ Green ∷ Green ∷ []))) (pon Red ∷ []) (ron (pin 8))
@@ -133,7 +133,7 @@ shousuushiiPair =
     scored (hand (mans 234 ++ (South ∷ South ∷ South ∷ West ∷ West ∷ West ∷ North ∷ North ∷ []))) (pon East ∷ []) (ron (man 4))
     (Shousuushii ∷ []) 13 40 (Yakuman 1) (Ron 32000)
 
--- the pair is another one
+-- not with another pair
 abbrev pub shousuushiiOtherPair : Row
 shousuushiiOtherPair =
     scored (hand (mans 234 ++ pins 99 ++ (South ∷ South ∷ South ∷ West ∷ West ∷ West ∷ []))) (pon East ∷ []) (ron (man 4))
@@ -146,7 +146,7 @@ daisuushiiPon =
     scored (hand (pins 99 ++ (West ∷ West ∷ West ∷ North ∷ North ∷ North ∷ []))) (pon East ∷ pon South ∷ []) (ron (pin 9))
     (Daisuushii ∷ []) 26 50 (Yakuman 2) (Ron 64000)
 
--- the fourth is only the pair
+-- not where the fourth is only the pair: Shousuushii
 abbrev pub daisuushiiPair : Row
 daisuushiiPair =
     scored (hand (pins 789 ++ (West ∷ West ∷ West ∷ North ∷ North ∷ []))) (pon East ∷ pon South ∷ []) (ron (pin 9))
@@ -165,7 +165,7 @@ tsuuiisouPairs =
     scored (hand (East ∷ East ∷ South ∷ South ∷ West ∷ West ∷ North ∷ North ∷ White ∷ White ∷ Green ∷ Green ∷ Red ∷ Red ∷ [])) [] (ron Red)
     (Tsuuiisou ∷ []) 13 25 (Yakuman 1) (Ron 32000)
 
--- a pair of terminals
+-- not with a pair of terminals
 abbrev pub tsuuiisouTerminals : Row
 tsuuiisouTerminals =
     scored (hand (mans 99 ++ (East ∷ East ∷ East ∷ South ∷ South ∷ South ∷ []))) (pon White ∷ pon Green ∷ []) (ron (man 9))
@@ -178,13 +178,13 @@ chinroutouOpen =
     scored (hand (pins 11199 ++ sous 999)) (pon (man 1) ∷ pon (man 9) ∷ []) (ron (pin 9))
     (Chinroutou ∷ []) 13 50 (Yakuman 1) (Ron 32000)
 
--- a pair of honors
+-- not with a pair of honors
 abbrev pub chinroutouHonors : Row
 chinroutouHonors =
     scored (hand (pins 111 ++ sous 999 ++ (North ∷ North ∷ []))) (pon (man 1) ∷ pon (man 9) ∷ []) (ron North)
     (Toitoi ∷ Honroutou ∷ []) 4 50 Mangan (Ron 8000)
 
--- a sequence
+-- not with a sequence
 abbrev pub chinroutouSequence : Row
 chinroutouSequence =
     scored (hand (pins 12399 ++ sous 999)) (pon (man 1) ∷ pon (man 9) ∷ []) (ron (pin 9))
@@ -203,13 +203,13 @@ ryuuiisouNoGreen =
     scored (hand (sous 33344466688)) (pon (sou 2) ∷ []) (ron (sou 8))
     (Ryuuiisou ∷ []) 13 40 (Yakuman 1) (Ron 32000)
 
--- sou 5 is not green
+-- not with sou 5
 abbrev pub ryuuiisouFive : Row
 ryuuiisouFive =
     scored (hand (sous 223344555888 ++ (Green ∷ Green ∷ []))) [] (ron (sou 8))
     (Iipeikou ∷ Honitsu ∷ []) 4 40 Mangan (Ron 8000)
 
--- Red is not green
+-- not with Red
 abbrev pub ryuuiisouRed : Row
 ryuuiisouRed =
     scored (hand (sous 223344666888 ++ (Red ∷ Red ∷ []))) [] (ron (sou 8))
@@ -222,19 +222,19 @@ chuurenOther =
     scored (hand (mans 11123455678999)) [] (ron (man 1))
     (ChuurenPoutou ∷ []) 13 50 (Yakuman 1) (Ron 32000)
 
--- without a 2 it is Chinitsu
+-- not without a 2: Chinitsu
 abbrev pub chuurenWithoutTwo : Row
 chuurenWithoutTwo =
     scored (hand (mans 11134555678999)) [] (ron (man 5))
     (Chinitsu ∷ []) 6 50 Haneman (Ron 12000)
 
--- a called triplet opens it
+-- not with a called triplet
 abbrev pub chuurenOpen : Row
 chuurenOpen =
     scored (hand (mans 23455678999)) (pon (man 1) ∷ []) (ron (man 5))
     (Chinitsu ∷ []) 5 40 Mangan (Ron 8000)
 
--- never with a closed kan either
+-- nor with a closed kan
 abbrev pub chuurenKan : Row
 chuurenKan =
     scored (hand (mans 23455678999)) (closedKan (man 1) ∷ []) (ron (man 5))
@@ -247,25 +247,26 @@ suuKantsuFour =
     scored (hand (sous 99)) (closedKan (man 2) ∷ openKan (pin 5) ∷ addedKan (sou 8) ∷ openKan (pin 1) ∷ []) (ron (sou 9))
     (SuuKantsu ∷ []) 13 70 (Yakuman 1) (Ron 32000)
 
--- three kans and a triplet
+-- not by three kans and a triplet
 abbrev pub suuKantsuThree : Row
 suuKantsuThree =
     scored (hand (sous 99)) (closedKan (man 2) ∷ openKan (pin 5) ∷ addedKan (sou 8) ∷ pon (pin 1) ∷ []) (ron (sou 9))
     (Toitoi ∷ SanKantsu ∷ []) 4 60 Mangan (Ron 8000)
 
 -- ---- Kokushi13Wait: thirteen orphans won on the tile that is there twice, counted twice
--- by ron on the second man 1, and by the dealer's tsumo
+-- by ron on the second sou 9
 abbrev pub kokushiThirteen : Row
 kokushiThirteen =
-    scored (hand (man 1 ∷ orphanTiles)) [] (ron (man 1))
+    scored (hand (mans 19 ++ pins 19 ++ sous 199 ++ (East ∷ South ∷ West ∷ North ∷ White ∷ Green ∷ Red ∷ []))) [] (ron (sou 9))
     (Kokushi13Wait ∷ []) 26 30 (Yakuman 2) (Ron 64000)
 
+-- by the dealer's tsumo on the second man 1
 abbrev pub kokushiThirteenDealer : Row
 kokushiThirteenDealer =
     scored (hand (man 1 ∷ orphanTiles)) [] (dealerWins byTsumo (man 1) [])
     (Kokushi13Wait ∷ []) 26 30 (Yakuman 2) (DealerTsumo 32000)
 
--- on another tile it is KokushiMusou
+-- not on another tile: KokushiMusou
 abbrev pub kokushiOneWait : Row
 kokushiOneWait =
     scored (hand (man 1 ∷ orphanTiles)) [] (ron Red)
@@ -284,7 +285,7 @@ suuankouTankiTsumo =
     scored (hand (mans 111 ++ pins 333 ++ sous 555777 ++ (South ∷ South ∷ []))) [] (tsumo South)
     (SuuankouTanki ∷ []) 26 50 (Yakuman 2) (Tsumo 32000 16000)
 
--- by tsumo on a triplet it is Suuankou
+-- not by tsumo on a triplet: Suuankou
 abbrev pub suuankouOnTriplet : Row
 suuankouOnTriplet =
     scored (hand (mans 111 ++ pins 333 ++ sous 555777 ++ (South ∷ South ∷ []))) [] (tsumo (man 1))
@@ -297,7 +298,7 @@ junseiFive =
     scored (hand (mans 11123455678999)) [] (ron (man 5))
     (JunseiChuurenPoutou ∷ []) 26 50 (Yakuman 2) (Ron 64000)
 
--- the third 9 or the fourth: there are three 9 before the win, so the 9 is not too many
+-- not on a 9, while it is the 5 that is too many
 abbrev pub junseiNine : Row
 junseiNine =
     scored (hand (mans 11123455678999)) [] (ron (man 9))
@@ -305,25 +306,25 @@ junseiNine =
 
 -- ---- Several at once add up
 -- winds and honors
-abbrev pub daisuushiiAndTsuuiisou : Row
-daisuushiiAndTsuuiisou =
+abbrev pub windsAndHonors : Row
+windsAndHonors =
     scored (hand (West ∷ West ∷ West ∷ North ∷ North ∷ North ∷ White ∷ White ∷ [])) (pon East ∷ pon South ∷ []) (ron White)
     (Daisuushii ∷ Tsuuiisou ∷ []) 39 50 (Yakuman 3) (Ron 96000)
 
 -- concealed and won on the pair
-abbrev pub withSuuankouTanki : Row
-withSuuankouTanki =
+abbrev pub windsConcealed : Row
+windsConcealed =
     scored (hand (East ∷ East ∷ East ∷ South ∷ South ∷ South ∷ West ∷ West ∷ West ∷ North ∷ North ∷ North ∷ White ∷ White ∷ [])) [] (ron White)
     (Daisuushii ∷ Tsuuiisou ∷ SuuankouTanki ∷ []) 65 70 (Yakuman 5) (Ron 160000)
 
 -- as four closed kans, for another seat and for the dealer
-abbrev pub withFourKans : Row
-withFourKans =
+abbrev pub windsFourKans : Row
+windsFourKans =
     scored (hand (White ∷ White ∷ [])) (closedKan East ∷ closedKan South ∷ closedKan West ∷ closedKan North ∷ []) (ron White)
     (Daisuushii ∷ Tsuuiisou ∷ SuuKantsu ∷ SuuankouTanki ∷ []) 78 170 (Yakuman 6) (Ron 192000)
 
-abbrev pub withFourKansDealer : Row
-withFourKansDealer =
+abbrev pub windsFourKansDealer : Row
+windsFourKansDealer =
     scored (hand (White ∷ White ∷ [])) (closedKan East ∷ closedKan South ∷ closedKan West ∷ closedKan North ∷ []) (dealerWins byRon White [])
     (Daisuushii ∷ Tsuuiisou ∷ SuuKantsu ∷ SuuankouTanki ∷ []) 78 170 (Yakuman 6) (Ron 288000)
 

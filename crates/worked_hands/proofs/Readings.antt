@@ -1,17 +1,13 @@
--- The worked hands of specs/Choice.antt hold: each row is computed from the definitions. Assumes nothing.
+-- The worked hands of specs/Readings.antt hold: each row is computed from the definitions. Assumes nothing.
 use lib.Dec.{T}
 use Rattle.played.specs.Row.{holds}
 use Rattle.played.proofs.Quick.{quick}
-use Rattle.worked_hands.specs.Choice.{choiceTriplets, choiceThreeAlike, choicePairsDealer, choiceMoreHan, choiceMoreFu, choiceEarlier, choiceCounted, choiceYakuman, choiceWithYaku, choiceOrder, fourAsTripletAndSequence, fourAsPair, fourAsKan, callsFour, callsNoPairs, waitsTwoSides, waitsMiddle, waitsHighEdge, waitsLowEdge, waitsTriplet, waitsPair, waitsSeveral, waitsTwice, waitsCalled, waitsSevenPairs, waitsOrphansPair, waitsOrphansOther}
+use Rattle.worked_hands.specs.Readings.{choiceTriplets, choicePairsDealer, choiceMoreHan, choiceMoreFu, choiceEarlier, choiceCounted, choiceYakuman, choiceWithYaku, choiceOrder, fourAsTripletAndSequence, fourAsPair, fourAsKan, callsFour, callsNoPairs, waitsTwoSides, waitsMiddle, waitsHighEdge, waitsLowEdge, waitsTriplet, waitsPair, waitsSeveral, waitsTwice, waitsCalled, waitsSevenPairs, waitsOrphansPair, waitsOrphansOther}
 
 -- ---- The reading that pays most is chosen; then one with more han, then with more fu, then the earlier
 pub choice-triplets : T (holds choiceTriplets)
 unfolding holds
 choice-triplets = quick choiceTriplets tt
-
-pub choice-three-alike : T (holds choiceThreeAlike)
-unfolding holds
-choice-three-alike = quick choiceThreeAlike tt
 
 pub choice-pairs-dealer : T (holds choicePairsDealer)
 unfolding holds

@@ -21,15 +21,6 @@ choiceTriplets =
     ∷ [])
     (chooses 1)
 
--- three equal sequences are Iipeikou once; three triplets pay more
-abbrev pub choiceThreeAlike : Row
-choiceThreeAlike =
-    won (hand (mans 222333444 ++ pins 678 ++ sous 99)) [] (ron (sou 9))
-    (worth (Iipeikou ∷ []) 1 40 Normal (Ron 1300)
-    ∷ worth (SanAnkou ∷ []) 2 50 Normal (Ron 3200)
-    ∷ [])
-    (chooses 1)
-
 -- seven pairs come first in the list; the sequences pay more, by the dealer too
 abbrev pub choicePairsDealer : Row
 choicePairsDealer =
@@ -59,7 +50,7 @@ choiceMoreFu =
     ∷ [])
     (chooses 3)
 
--- of readings alike in all that the earlier one
+-- of readings alike in all of that the earlier one
 abbrev pub choiceEarlier : Row
 choiceEarlier =
     won (hand (mans 22334455667788)) [] (ron (man 8))
