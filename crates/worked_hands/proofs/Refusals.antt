@@ -2,7 +2,7 @@
 use lib.Dec.{T}
 use Rattle.played.specs.Row.{holds}
 use Rattle.played.proofs.Quick.{quick}
-use Rattle.worked_hands.specs.Refusals.{fiveCalls, fiveCallsFiveTiles, sequenceFromEight, sequenceOfHonors, fiveInHand, fiveWithCalls, fiveWithKan, fifteenTiles, elevenTiles, kanFourPlaces, noSuchWinType, whiteAsSeat, whiteAsRound, seatBeforeTile, tileNotInHand, tileInCallOnly, tileAbove33, noReading, oneTileAway, closedWithoutYaku, basicWinType, basicAbove}
+use Rattle.worked_hands.specs.Refusals.{fiveCalls, fiveCallsFiveTiles, sequenceFromEight, sequenceOfHonors, fiveInHand, fiveWithCalls, fiveWithKan, fifteenTiles, elevenTiles, kanFourPlaces, noSuchWinType, whiteAsSeat, whiteAsRound, seatBeforeTile, tileNotInHand, tileInCallOnly, tileAbove33, noReading, oneTileAway, closedWithoutYaku, basicWinType}
 
 -- ---- 2 more than four calls
 pub five-calls : T (holds fiveCalls)
@@ -97,7 +97,3 @@ closed-without-yaku = quick closedWithoutYaku tt
 pub basic-win-type : T (holds basicWinType)
 unfolding holds
 basic-win-type = quick basicWinType tt
-
-pub basic-above : T (holds basicAbove)
-unfolding holds
-basic-above = quick basicAbove tt

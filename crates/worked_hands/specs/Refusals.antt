@@ -2,11 +2,11 @@
 use mathlib.Core.List.{[], _∷_, _++_}
 use Rattle.tile.specs.Named.{man, sou, East, South, White, mans, pins, sous}
 use Rattle.meld.specs.Named.{chi, pon, closedKan}
-use Rattle.context.specs.Named.{byRon, byTsumo, riichi, win, southWins, ron}
+use Rattle.context.specs.Named.{byRon, riichi, win, southWins, ron}
 use Rattle.hand.specs.Named.{hand}
 use Rattle.scoring.specs.declared.Payment.the-variants.{Ron}
 use Rattle.scoring.specs.declared.PaymentAnswer.the-variants.{Refused}
-use Rattle.played.specs.Row.{dealer, nonDealer, Row, won, asked, refuses, yakuless}
+use Rattle.played.specs.Row.{nonDealer, Row, won, asked, refuses, yakuless}
 
 -- ---- 2 more than four calls
 abbrev pub fiveCalls : Row
@@ -103,11 +103,8 @@ oneTileAway =
 -- ---- 11 no reading has a yaku: by number it is answered with 0 han, and the number after it is refused with 12
 abbrev pub closedWithoutYaku : Row
 closedWithoutYaku =
-    yakuless (hand (mans 123456 ++ pins 789 ++ sous 22555)) [] (ron (man 6)) 40 (Ron 700)
+    yakuless (hand (mans 123456 ++ pins 789 ++ sous 22555)) [] (ron (man 1)) 40 (Ron 700)
 
--- ---- Payment alone: 8 for the win type, 13 for basic points above 152,000
+-- ---- Payment alone: 8 for the win type, before 13 for basic points above 152,000
 abbrev pub basicWinType : Row
 basicWinType = asked 152001 2 nonDealer (Refused 8)
-
-abbrev pub basicAbove : Row
-basicAbove = asked 152001 byTsumo dealer (Refused 13)
