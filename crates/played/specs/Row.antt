@@ -11,8 +11,10 @@ use Rattle.hand.specs.Readings.{meldLists, standardsAt, sevenPairs, thirteenOrp
 use Rattle.hand.specs.Records.{recordOf}
 use Rattle.wait.specs.Wait.{pinfu, waits}
 use Rattle.tile_yaku.specs.Tiles.{tanyao, honroutou, tsuuiisou, chinroutou, ryuuiisou, honitsu, chinitsu, nineGates, pureWait, tileYaku}
-use Rattle.meld_yaku.specs.Melds.{toitoi, kans, yakuhai, dragons, winds, sanAnkou, ittsu, sanshokuDoujun, sanshokuDoukou, peikou, chanta, junchan, shousangen}
-use Rattle.meld_yaku.specs.Yakuman.{suuankou, daisangen, shousuushii, daisuushii, suuKantsu}
+use Rattle.set_yaku.specs.Sets.{toitoi, kans, sanAnkou, sanshokuDoukou, suuankou, suuKantsu}
+use Rattle.honor_yaku.specs.Honors.{yakuhai, dragons, winds, shousangen, daisangen, shousuushii, daisuushii}
+use Rattle.sequence_yaku.specs.Sequences.{ittsu, sanshokuDoujun, peikou}
+use Rattle.end_yaku.specs.Ends.{chanta, junchan}
 use Rattle.yaku.specs.declared.names.Yaku.{Yaku}
 use Rattle.yaku.specs.Names.{isYakumanName, place, names}
 use Rattle.yaku.specs.Tally.{oneHan, moreHan, isYakuman, ordinary, tallies}
