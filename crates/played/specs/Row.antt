@@ -102,7 +102,7 @@ same [] (y ∷ ys) = false
 same (x ∷ xs) [] = false
 same (x ∷ xs) (y ∷ ys) = eqb x y && same xs ys
 
--- a settlement (who pays what, Payment in the code), an answer of `payment`, a level and a yes or no, as numbers
+-- a settlement (who pays what, Payment in the code), an answer of `payment` and a level, as numbers
 abbrev pub settled : Payment → List ℕ
 settled (Ron n) = 0 ∷ n ∷ []
 settled (DealerTsumo n) = 1 ∷ n ∷ []
