@@ -1,15 +1,15 @@
 -- Bounds that the code's proofs use: the han of a Normal level, the shifted fu, the fu of a triplet or kan. Assumes nothing.
 use mathlib.Core.Path.{_≡_, refl, sym, subst}
-use mathlib.Core.Bool.{Bool, true, false, _&&_, _||_, cond}
-use Prim.Native.Nat.{ℕ, _+_, _*_, _/_, _^_, _%_, _<_, _≤_, max}
+use mathlib.Core.Bool.{Bool, true, false, _||_, cond}
+use Prim.Native.Nat.{ℕ, _+_, _*_, _^_, _%_, _<_, _≤_}
 use native.Mathlib.Omega.{arith}
 use native.Mathlib.Nat.{mul-le-mul, mod-eq-of-lt}
-use lib.Dec.{T, eqb, leb, leb→le}
+use lib.Dec.{T, leb, leb→le}
 use borrow.Author.Tests.{leb-false}
 use Rattle.lists.proofs.Finite.{at}
 use Rattle.scoring.specs.declared.ScoreLevel.{ScoreLevel}
 use Rattle.scoring.specs.declared.ScoreLevel.the-variants.{Normal, Mangan, Haneman, Baiman, Sanbaiman, Yakuman}
-use Rattle.scoring.specs.Level.{level}
+use Rattle.scoring.specs.Level.{reachesYakuman, reachesSanbaiman, reachesBaiman, reachesHaneman, reachesMangan, highest, yakumanCount, level}
 
 -- ---- han where the level is Normal
 abbrev isNormal : ScoreLevel → Bool
@@ -24,25 +24,24 @@ or-no : (a b : Bool) → (a || b) ≡ false → a ≡ false
 or-no true b e = e
 or-no false b e = refl
 
--- a chain of tests that ends at Normal has passed none
-passed-none :
-    (k : ℕ) (y a b c d m : Bool)
-    → T (isNormal (cond y (Yakuman k) (cond a (Yakuman 1) (cond b Sanbaiman (cond c Baiman (cond d Haneman (cond m Mangan Normal)))))))
-    → m ≡ false
-passed-none k true a b c d m t = absurd t
-passed-none k false true b c d m t = absurd t
-passed-none k false false true c d m t = absurd t
-passed-none k false false false true d m t = absurd t
-passed-none k false false false false true m t = absurd t
-passed-none k false false false false false true t = absurd t
-passed-none k false false false false false false t = refl
+-- where Normal is the highest level, Mangan is not reached
+highest-normal : (a b c d m : Bool) → T (isNormal (highest a b c d m)) → m ≡ false
+highest-normal true b c d m t = absurd t
+highest-normal false true c d m t = absurd t
+highest-normal false false true d m t = absurd t
+highest-normal false false false true m t = absurd t
+highest-normal false false false false true t = absurd t
+highest-normal false false false false false t = refl
+
+no-mangan : (y : Bool) (k : ℕ) (a b c d m : Bool) → T (isNormal (cond y (Yakuman k) (highest a b c d m))) → m ≡ false
+no-mangan true k a b c d m t = absurd t
+no-mangan false k a b c d m t = highest-normal a b c d m t
 
 pub normal-below-5 : (han fu : ℕ) (yakuman : Bool) → level han fu yakuman ≡ Normal → han ≤ 4
 unfolding level
 normal-below-5 han fu yakuman e =
-    let high = eqb han 4 && leb 40 fu || eqb han 3 && leb 70 fu in
-    let none = passed-none (max (han / 13) 1) yakuman (leb 13 han) (leb 11 han) (leb 8 han) (leb 6 han) (leb 5 han || high) (subst (λ (l : ScoreLevel). T (isNormal l)) (sym e) tt) in
-    let h = leb-false 5 han (or-no (leb 5 han) high none) in
+    let none = no-mangan yakuman (yakumanCount han) (reachesYakuman han) (reachesSanbaiman han) (reachesBaiman han) (reachesHaneman han) (reachesMangan han fu) (subst (λ (l : ScoreLevel). T (isNormal l)) (sym e) tt) in
+    let h = leb-false 5 han (or-no _ _ none) in
     omega arith
 
 -- ---- basic points of at most 4 han

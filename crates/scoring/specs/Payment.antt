@@ -30,3 +30,8 @@ paymentAnswer basic dealer winType =
     cond (ltb 1 winType) (Refused 8)
     (cond (ltb 152000 basic) (Refused 13)
     (Paid (payment (eqb winType 1) dealer basic)))
+
+-- a refusal's number, 0 where it is paid
+abbrev pub refusalOf : PaymentAnswer → ℕ
+refusalOf (Refused n) = n
+refusalOf (Paid p) = 0

@@ -8,7 +8,7 @@ ghost use Rattle.structure.specs.Structure.{readingOf};
 ghost use Rattle.wait.specs.Wait.{closedRun, edge, middle};
 ghost use Rattle.wait.specs.Concealed.{spared};
 ghost use Rattle.scoring.specs.Fu.{meldFu, pairFu, waitFu, baseFu, roundUpTo10, atLeast30, fu};
-ghost use Rattle.scoring.specs.Level.{level, basicPoints};
+ghost use Rattle.scoring.specs.Level.{reachesMangan, yakumanCount, level, basicPoints};
 ghost use Rattle.scoring.specs.Payment.{roundUpTo100, payment, paymentAnswer, totalAt};
 
 // Score limit levels. A yakuman carries how many times it counts.
@@ -39,7 +39,7 @@ pub enum Payment {
 
 // How many yakuman the han of yakuman make: one for each 13, at least one.
 fn yakuman_count(han: u8) -> u8
-    ensures { λ r. ⌜ r ≡ max (han / 13) 1 ⌝ }
+    ensures { λ r. ⌜ r ≡ yakumanCount han ⌝ }
 {
     let n = han / 13;
     if n < 1 { 1 } else { n }
@@ -47,7 +47,7 @@ fn yakuman_count(han: u8) -> u8
 
 // Do han and fu reach mangan: 5 han, 4 han with 40 fu, 3 han with 70 fu?
 fn reaches_mangan(han: u8, fu: u8) -> bool
-    ensures { λ r. ⌜ r ≡ (leb 5 han || (eqb han 4 && leb 40 fu || eqb han 3 && leb 70 fu)) ⌝ }
+    ensures { λ r. ⌜ r ≡ reachesMangan han fu ⌝ }
 {
     (5 <= han) | (((han == 4) & (40 <= fu)) | ((han == 3) & (70 <= fu)))
 }
