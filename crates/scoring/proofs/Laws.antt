@@ -4,9 +4,8 @@ use mathlib.Core.Bool.{Bool, true, false, cond}
 use mathlib.Core.List.{List}
 use Prim.Native.Nat.{ℕ, _+_, _-_, _*_, _%_, _^_, _<_, _≤_, max}
 use native.Mathlib.Omega.{arith}
-use lib.Dec.{eqb, lit≤, lit<}
+use lib.Dec.{lit≤, lit<}
 use lib.ListN.{length}
-use borrow.Author.Tests.{le-ltb}
 use Rattle.lists.specs.Fold.{sum}
 use Rattle.lists.proofs.Finite.{cond-le}
 use Rattle.lists.proofs.Sums.{sum-le}
@@ -20,10 +19,9 @@ use Rattle.structure.proofs.Short.{Short}
 use Rattle.wait.specs.Wait.{pinfu}
 use Rattle.wait.specs.Concealed.{concealed, spared}
 use Rattle.wait.proofs.Waits.{weight-le}
-use Rattle.scoring.specs.declared.PaymentAnswer.the-variants.{Paid}
 use Rattle.scoring.specs.Fu.{setFu, meldFu, pairFu, closeWait, waitFu, winFu, baseFu, roundUpTo10, pinfuFu, standardFu, fu}
 use Rattle.scoring.specs.Level.{reachesYakuman, reachesSanbaiman, reachesBaiman, reachesHaneman, reachesMangan, highest, yakumanCount, pointsAt, basicPoints}
-use Rattle.scoring.specs.Payment.{roundUpTo100, payment, paymentAnswer, totalAt}
+use Rattle.scoring.specs.Payment.{roundUpTo100, payment, totalAt}
 
 -- ---- rounding: the least multiple of 100 that is not below n
 pub round-up-above : (n : ℕ) → n ≤ roundUpTo100 n
@@ -67,14 +65,6 @@ basic-le han fu true h = omega arith
 basic-le han fu false h =
     let k = highest-le (fu * 2 ^ (han + 2)) (reachesYakuman han) (reachesSanbaiman han) (reachesBaiman han) (reachesHaneman han) (reachesMangan han fu) in
     omega arith
-
--- so the payment of a byte of han and any fu is never refused
-pub every-score-is-paid :
-    (han fu : ℕ) (yakuman dealer : Bool) (winType : ℕ) → han ≤ 255 → winType ≤ 1
-    → paymentAnswer (basicPoints han fu yakuman) dealer winType ≡ Paid (payment (eqb winType 1) dealer (basicPoints han fu yakuman))
-unfolding paymentAnswer
-every-score-is-paid han fu yakuman dealer winType h t =
-    simp (le-ltb 1 winType t, le-ltb 152000 (basicPoints han fu yakuman) (basic-le han fu yakuman h))
 
 -- ---- fu
 setFu-le : (outer kan hidden : Bool) → setFu outer kan hidden ≤ 32

@@ -41,6 +41,15 @@ level han fu yakuman =
     cond yakuman (Yakuman (yakumanCount han))
     (highest (reachesYakuman han) (reachesSanbaiman han) (reachesBaiman han) (reachesHaneman han) (reachesMangan han fu))
 
+-- the place of a level among the levels, from Normal up
+abbrev pub place : ScoreLevel → ℕ
+place Normal = 0
+place Mangan = 1
+place Haneman = 2
+place Baiman = 3
+place Sanbaiman = 4
+place (Yakuman k) = 4 + k
+
 -- ---- the basic points
 -- the basic points of a level; at Normal n, at most 2,000
 abbrev pub pointsAt : ScoreLevel → ℕ → ℕ

@@ -1,3 +1,4 @@
 pub mod Fu
 pub mod Level
 pub mod Payment
+pub mod Settled
