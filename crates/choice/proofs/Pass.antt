@@ -13,7 +13,7 @@ use Rattle.records.specs.Buffer.{byteAt, readingAt, readingsIn}
 use Rattle.reading_score.specs.declared.ScoringResult.{ScoringResult}
 use Rattle.reading_score.specs.Score.{rank}
 use Rattle.choice.specs.declared.ScoreAnswer.{ScoreAnswer}
-use Rattle.choice.specs.Choice.{refused, scored, greatest, none, chosen, first, chooseBy, answerOf, choice}
+use Rattle.choice.specs.Choice.{scored, noReading, noYaku, greatest, none, chosen, first, chooseBy, answerOf, choice}
 
 -- the answer of a pass over the scores, counted from i, where b is the best rank so far and c the answer so far
 unfoldable pub pass : (ScoringResult → ℕ) → ℕ → ScoreAnswer → ℕ → List ScoringResult → ScoreAnswer
@@ -55,11 +55,11 @@ pass-is f b c i (x ∷ xs) = go (decLe (f x) b) (decLe g b) (decLe g (f x)) (pas
         let m : max (f x) g ≡ g = omega arith in
         rw (lt-ltb b (f x) k, u, lt-ltb (f x) g l, m, lt-ltb b g n, ne-eqb (f x) g (λ e. r (omega arith)))
 
-pub pass-chooses : (f : ScoringResult → ℕ) (xs : List ScoringResult) → pass f 0 (refused 11) 0 xs ≡ answerOf (chooseBy f xs)
+pub pass-chooses : (f : ScoringResult → ℕ) (xs : List ScoringResult) → pass f 0 noYaku 0 xs ≡ answerOf (chooseBy f xs)
 unfolding chooseBy
-pass-chooses f xs = pass-is f 0 (refused 11) 0 xs ∙ go (greatest (map f xs))
+pass-chooses f xs = pass-is f 0 noYaku 0 xs ∙ go (greatest (map f xs))
   where
-    go : (g : ℕ) → cond (ltb 0 g) (answerOf (first f g 0 xs)) (refused 11) ≡ answerOf (cond (eqb g 0) none (first f g 0 xs))
+    go : (g : ℕ) → cond (ltb 0 g) (answerOf (first f g 0 xs)) noYaku ≡ answerOf (cond (eqb g 0) none (first f g 0 xs))
     go zero = refl
     go (suc g) = let z : 0 < suc g = omega arith in rw (lt-ltb 0 (suc g) z, eqb·suc-zero g)
 
@@ -105,12 +105,12 @@ module _ (g : Reading → ScoringResult) (b : List ℕ) (n : ℕ) where
   unfolding Rest pass
   rest-end best found k i h = let e : n - k ≡ 0 = omega arith in rw e
 
-  pub rest-all : Rest 0 (refused 11) 0 0 ≡ answerOf (chooseBy rank (map g (readingsIn b n 0)))
+  pub rest-all : Rest 0 noYaku 0 0 ≡ answerOf (chooseBy rank (map g (readingsIn b n 0)))
   unfolding Rest
   rest-all = let e : n - 0 ≡ n = omega arith in rw e (pass-chooses rank (map g (readingsIn b n 0)))
 
 -- ---- the answer: 10 without a reading, else by the choice
-pub choice-none : (g : Reading → ScoringResult) (b : List ℕ) (n : ℕ) → n ≡ 0 → refused 10 ≡ choice (map g (readingsIn b n 0))
+pub choice-none : (g : Reading → ScoringResult) (b : List ℕ) (n : ℕ) → n ≡ 0 → noReading ≡ choice (map g (readingsIn b n 0))
 unfolding choice
 choice-none g b n e = rw e
 

@@ -31,6 +31,13 @@ refused n = record { number = n; reading = 0; score = noScore }
 abbrev pub scored : ℕ → ScoringResult → ScoreAnswer
 scored i x = record { number = 0; reading = i; score = x }
 
+-- where there is no reading, and where no reading has a yaku
+abbrev pub noReading : ScoreAnswer
+noReading = refused 10
+
+abbrev pub noYaku : ScoreAnswer
+noYaku = refused 11
+
 -- ---- the choice: the first of the scores with the greatest rank
 -- the greatest of a list of numbers, 0 of none
 abbrev pub greatest : List ℕ → ℕ
@@ -51,14 +58,12 @@ first f b i (x ∷ xs) = cond (eqb (f x) b) (chosen i x) (first f b (suc i) xs)
 unfoldable pub chooseBy : (ScoringResult → ℕ) → List ScoringResult → Choice
 chooseBy f xs = cond (eqb (greatest (map f xs)) 0) none (first f (greatest (map f xs)) 0 xs)
 
--- 11 where no reading has a yaku
 abbrev pub answerOf : Choice → ScoreAnswer
-answerOf none = refused 11
+answerOf none = noYaku
 answerOf (chosen i x) = scored i x
 
--- 10 where there is no reading
 unfoldable pub choice : List ScoringResult → ScoreAnswer
-choice [] = refused 10
+choice [] = noReading
 choice (x ∷ xs) = answerOf (chooseBy rank (x ∷ xs))
 
 -- ---- the score at the number n, counted from 0; 12 where there are not more than n

@@ -6,14 +6,14 @@ use Prim.Native.Nat.{_-_, _*_, _≤_}
 use native.Mathlib.Omega.{arith}
 use borrow.Author.Needs.{needs}
 use Rattle.reading_score.specs.Score.{scoreOf}
-use Rattle.choice.specs.Choice.{refused}
+use Rattle.choice.specs.Choice.{noYaku}
 use Rattle.choice.proofs.Pass.{Rest, turn-take, turn-skip, rest-end, rest-all, choice-none, choice-some}
 use Rattle.choice.proofs.choose.Statement.{statement}
 use Rattle.choice.proofs.choose.Tie as tie
 
 abbrev Inv-loop : tie.InvT-loop
 Inv-loop b n s w opened best₀ found₀ at₀ i₀ best found at i =
-    (i ≤ n) × ((at ≤ i * 255) × (Rest (scoreOf w opened s) b n best found i at ≡ Rest (scoreOf w opened s) b n 0 (refused 11) 0 0))
+    (i ≤ n) × ((at ≤ i * 255) × (Rest (scoreOf w opened s) b n best found i at ≡ Rest (scoreOf w opened s) b n 0 noYaku 0 0))
 
 abbrev μ-loop : tie.MeasureT-loop
 μ-loop b n s w opened best₀ found₀ at₀ i₀ best found at i = n - i

@@ -1,0 +1,62 @@
+-- Which of two scores ranks higher, by examples. Assumes nothing.
+use mathlib.Core.Path.{_≡_, refl}
+use mathlib.Core.Bool.{Bool, true, false, not}
+use mathlib.Core.List.{[], _∷_}
+use Prim.Native.Nat.{ℕ}
+use lib.Dec.{T, ltb}
+use Rattle.tile.specs.Named.{man}
+use Rattle.context.specs.Named.{ron}
+use Rattle.scoring.specs.Level.{basicPoints}
+use Rattle.scoring.specs.Payment.{payment}
+use Rattle.reading_score.specs.declared.ScoringResult.{ScoringResult}
+use Rattle.reading_score.specs.Score.{result, rank}
+
+-- a score by ron with a yaku, of so many han and fu, counted or of a yakuman
+abbrev counted : ℕ → ℕ → ScoringResult
+counted han fu = result (ron (man 1)) (1 ∷ []) han fu false
+
+abbrev ofYakuman : ℕ → ℕ → ScoringResult
+ofYakuman han fu = result (ron (man 1)) (1 ∷ []) han fu true
+
+-- the first ranks above the second
+abbrev Above : ScoringResult → ScoringResult → Type 0
+Above x y = T (ltb (rank y) (rank x))
+
+-- ---- the greater total first, whatever the han: 3 han 50 fu pay 6,400, 4 han 20 fu 5,200
+pub total-before-han : Above (counted 3 50) (counted 4 20)
+unfolding result payment basicPoints rank
+total-before-han = tt
+
+-- and whatever the fu: 2 han 30 fu pay 2,000, 1 han 50 fu 1,600
+pub total-before-fu : Above (counted 2 30) (counted 1 50)
+unfolding result payment basicPoints rank
+total-before-fu = tt
+
+-- ---- of equal totals a yakuman before none: both pay 32,000
+pub yakuman-before-han : Above (ofYakuman 13 30) (counted 20 50)
+unfolding result payment basicPoints rank
+yakuman-before-han = tt
+
+-- ---- then more han: 4 han 25 fu and 3 han 50 fu both pay 6,400
+pub han-before-fu : Above (counted 4 25) (counted 3 50)
+unfolding result payment basicPoints rank
+han-before-fu = tt
+
+-- ---- then more fu: 5 han are Mangan with 20 and with 30
+pub fu-last : Above (counted 5 30) (counted 5 20)
+unfolding result payment basicPoints rank
+fu-last = tt
+
+-- and nothing else tells them apart
+pub same-score-same-rank : T (not (ltb (rank (counted 5 30)) (rank (counted 5 30))))
+unfolding result payment basicPoints rank
+same-score-same-rank = tt
+
+-- ---- without a yaku the rank is 0, whatever is paid; with one, even the least is above it
+pub no-yaku-no-rank : rank (result (ron (man 1)) (0 ∷ 0 ∷ []) 5 30 false) ≡ 0
+unfolding result payment basicPoints rank
+no-yaku-no-rank = refl
+
+pub least-above-none : Above (counted 1 30) (result (ron (man 1)) (0 ∷ 0 ∷ []) 5 30 false)
+unfolding result payment basicPoints rank
+least-above-none = tt
