@@ -232,6 +232,25 @@ pub three-sequences : fu (ron (sou 8)) false (standard (sou 8) (run (man 2) ∷ 
 unfolding fu standardFu pinfu
 three-sequences = refl
 
+-- a called triplet of White, won from both sides by ron: 20 + 4, and by tsumo 22 + 4
+pub called-dragons-ron : fu (ron (sou 8)) true (standard (man 5) (pon White ∷ run (pin 4) ∷ run (sou 2) ∷ run (sou 6) ∷ [])) ≡ 30
+unfolding fu standardFu pinfu
+called-dragons-ron = refl
+
+pub called-dragons-tsumo : fu (tsumo (sou 8)) true (standard (man 5) (pon White ∷ run (pin 4) ∷ run (sou 2) ∷ run (sou 6) ∷ [])) ≡ 30
+unfolding fu standardFu pinfu
+called-dragons-tsumo = refl
+
+-- three called triplets and one completed by ron, of simples, simples, terminals and winds: 20 + 2 + 2 + 4 + 4
+pub all-triplets-ron : fu (ron (sou 3)) true (standard (man 5) (pon (man 2) ∷ pon (pin 9) ∷ triplet (sou 3) ∷ pon North ∷ [])) ≡ 40
+unfolding fu standardFu pinfu
+all-triplets-ron = refl
+
+-- a concealed kan of terminals, won by tsumo on the pair: 22 + 32 + 2
+pub concealed-kan-tsumo : fu (tsumo (man 5)) false (standard (man 5) (closedKan (man 1) ∷ run (pin 4) ∷ run (sou 2) ∷ run (sou 6) ∷ [])) ≡ 60
+unfolding fu standardFu pinfu
+concealed-kan-tsumo = refl
+
 -- the dealer in the round East with four concealed kans of terminals and honors and a pair of East, by ron: 30 + 128 + 4 + 2
 pub most-fu : fu (dealerWins byRon East []) false (standard East (closedKan (man 1) ∷ closedKan (pin 9) ∷ closedKan White ∷ closedKan Red ∷ [])) ≡ 170
 unfolding fu standardFu pinfu
