@@ -1,11 +1,12 @@
--- Which of two scores ranks higher, by examples. Assumes nothing.
+-- Which of two scores ranks higher, and who pays, by examples. Assumes nothing.
 use mathlib.Core.Path.{_≡_, refl}
 use mathlib.Core.Bool.{Bool, true, false, not}
 use mathlib.Core.List.{[], _∷_}
 use Prim.Native.Nat.{ℕ}
 use lib.Dec.{T, ltb}
-use Rattle.tile.specs.Named.{man}
-use Rattle.context.specs.Named.{ron}
+use Rattle.tile.specs.Named.{man, East, South}
+use Rattle.context.specs.Named.{win, dealerWins, ron, tsumo, byRon, byTsumo}
+use Rattle.scoring.specs.declared.Payment.the-variants.{Ron, DealerTsumo, Tsumo}
 use Rattle.scoring.specs.Level.{basicPoints}
 use Rattle.scoring.specs.Payment.{payment}
 use Rattle.reading_score.specs.declared.ScoringResult.{ScoringResult}
@@ -60,3 +61,29 @@ no-yaku-no-rank = refl
 pub least-above-none : Above (counted 1 30) (result (ron (man 1)) (0 ∷ 0 ∷ []) 5 30 false)
 unfolding result payment basicPoints rank
 least-above-none = tt
+
+-- ---- who pays: 3 han 30 fu of the seat South, and of the dealer, by ron and by tsumo
+pub south-by-ron : result (ron (man 1)) (1 ∷ []) 3 30 false .payment ≡ Ron 3900
+unfolding result payment basicPoints
+south-by-ron = refl
+
+pub dealer-by-ron : result (dealerWins byRon (man 1) []) (1 ∷ []) 3 30 false .payment ≡ Ron 5800
+unfolding result payment basicPoints
+dealer-by-ron = refl
+
+pub south-by-tsumo : result (tsumo (man 1)) (1 ∷ []) 3 30 false .payment ≡ Tsumo 2000 1000
+unfolding result payment basicPoints
+south-by-tsumo = refl
+
+pub dealer-by-tsumo : result (dealerWins byTsumo (man 1) []) (1 ∷ []) 3 30 false .payment ≡ DealerTsumo 2000
+unfolding result payment basicPoints
+dealer-by-tsumo = refl
+
+-- in the round South the dealer sits East all the same, and the seat South is no dealer
+pub south-round-east-seat : result (win byRon (man 1) South East []) (1 ∷ []) 3 30 false .payment ≡ Ron 5800
+unfolding result payment basicPoints
+south-round-east-seat = refl
+
+pub south-round-south-seat : result (win byRon (man 1) South South []) (1 ∷ []) 3 30 false .payment ≡ Ron 3900
+unfolding result payment basicPoints
+south-round-south-seat = refl

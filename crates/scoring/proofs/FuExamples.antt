@@ -156,11 +156,11 @@ open-tsumo = refl
 pub ten-stays : roundUpTo10 30 ≡ 30
 ten-stays = refl
 
-pub two-over : roundUpTo10 32 ≡ 40
-two-over = refl
-
 pub one-over : roundUpTo10 31 ≡ 40
 one-over = refl
+
+pub two-over : roundUpTo10 32 ≡ 40
+two-over = refl
 
 pub eight-over : roundUpTo10 38 ≡ 40
 eight-over = refl

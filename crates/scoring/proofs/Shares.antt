@@ -3,7 +3,7 @@ use mathlib.Core.Path.{_≡_, refl, sym, _∙_}
 use mathlib.Core.Logic.{inl, inr, ⊎-elim, _↔_}
 use mathlib.Core.Bool.{Bool, true, false, cond}
 use mathlib.Core.List.{[], _∷_}
-use Prim.Native.Nat.{ℕ, _+_, _-_, _*_, _<_, _≤_}
+use Prim.Native.Nat.{ℕ, _+_, _-_, _*_, _/_, _<_, _≤_}
 use native.Mathlib.Omega.{arith}
 use native.Mathlib.Decide.{decLe}
 use native.Mathlib.Nat.{mul-le-mul-right}
@@ -14,12 +14,14 @@ use Rattle.scoring.specs.declared.PaymentAnswer.the-variants.{Paid}
 use Rattle.scoring.specs.Level.{basicPoints}
 use Rattle.scoring.specs.Payment.{roundUpTo100, payment, totalAt, paymentAnswer, refusalOf}
 use Rattle.scoring.specs.Settled.{Pays, Settled, ron, dealer-ron, tsumo, dealer-tsumo}
-use Rattle.scoring.proofs.Laws.{basic-le}
+use Rattle.scoring.proofs.Laws.{round-up-above, round-up-multiple, round-up-least, basic-le}
 
 -- ---- what each pays
 -- an amount rounded up is the least number of hundreds that is enough for what is owed
 rounded : (owed n : ℕ) → owed ≡ n → Pays owed (roundUpTo100 n)
-rounded owed n e = record { enough = omega arith; hundreds = omega arith; least = λ k h l. omega arith }
+rounded owed n e =
+    let above = round-up-above n in
+    record { enough = omega arith; hundreds = round-up-multiple n; least = λ k h l. let below = round-up-least n (k / 100) (omega arith) in omega arith }
 
 pub settled : (basic : ℕ) (byTsumo dealer : Bool) → Settled basic byTsumo dealer (payment byTsumo dealer basic)
 unfolding payment
