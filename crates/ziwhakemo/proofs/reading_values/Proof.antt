@@ -1,6 +1,6 @@
 -- `ziwhakemo::reading_values` meets its contract: it hands on what `win::score_reading` answers. Assumes nothing.
 use mathlib.Core.Path.{ap, _∙_}
-use Rattle.ziwhakemo.specs.Answers.{scoreValues}
+use Rattle.answers.specs.Answers.{scoreValues}
 use borrow.Author.Needs.{needs}
 use Rattle.ziwhakemo.proofs.reading_values.Statement.{statement}
 use Rattle.ziwhakemo.proofs.reading_values.Tie as tie

@@ -8,10 +8,10 @@ use Rattle.lent.proofs.gather.Symbol as g-def
 use Rattle.lent.proofs.gather.Symbol.{name as #g}
 use Rattle.lent.proofs.gather.Met as g-thm
 use Rattle.win.specs.Win.{nameWaits}
-use Rattle.ziwhakemo.specs.Answers.{waitsValues}
+use Rattle.answers.specs.Answers.{waitsValues}
 use Rattle.ziwhakemo.proofs.Numbered.{Handed, numbered}
-use Rattle.ziwhakemo.proofs.WaitsValues as R
-use Rattle.ziwhakemo.proofs.WaitsValues.Laws as R′
+use Rattle.answers.proofs.WaitsValues as R
+use Rattle.answers.proofs.WaitsValues.Laws as R′
 use Rattle.ziwhakemo.proofs.waits_values.Symbol as h-def
 use Rattle.ziwhakemo.proofs.waits_values.Symbol.{name as #h}
 use Rattle.ziwhakemo.proofs.waits_values.Met as h-thm

@@ -1,6 +1,6 @@
 -- `ziwhakemo::ziwhakemo_score_level` meets its contract: it hands on what `scoring::determine_score_level` answers. Assumes nothing.
 use mathlib.Core.Path.{ap, _∙_}
-use Rattle.ziwhakemo.specs.Answers.{levelAnswer}
+use Rattle.answers.specs.Answers.{levelAnswer}
 use borrow.Author.Needs.{needs}
 use Rattle.ziwhakemo.proofs.ziwhakemo_score_level.Statement.{statement}
 use Rattle.ziwhakemo.proofs.ziwhakemo_score_level.Tie as tie

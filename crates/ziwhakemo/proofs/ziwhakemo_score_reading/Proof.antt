@@ -8,10 +8,10 @@ use Rattle.lent.proofs.gather.Symbol as g-def
 use Rattle.lent.proofs.gather.Symbol.{name as #g}
 use Rattle.lent.proofs.gather.Met as g-thm
 use Rattle.win.specs.Win.{scoreReading}
-use Rattle.ziwhakemo.specs.Answers.{scoreValues}
+use Rattle.answers.specs.Answers.{scoreValues}
 use Rattle.ziwhakemo.proofs.Numbered.{Handed, numbered}
-use Rattle.ziwhakemo.proofs.ScoreValues as R
-use Rattle.ziwhakemo.proofs.ScoreValues.Laws as R′
+use Rattle.answers.proofs.ScoreValues as R
+use Rattle.answers.proofs.ScoreValues.Laws as R′
 use Rattle.ziwhakemo.proofs.reading_values.Symbol as h-def
 use Rattle.ziwhakemo.proofs.reading_values.Symbol.{name as #h}
 use Rattle.ziwhakemo.proofs.reading_values.Met as h-thm

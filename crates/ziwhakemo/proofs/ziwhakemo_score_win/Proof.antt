@@ -43,8 +43,8 @@ use Rattle.lent.proofs.Walk.{finish, framed}
 use Rattle.lent.proofs.gather.Symbol as g-def
 use Rattle.lent.proofs.gather.Symbol.{name as #g}
 use Rattle.lent.proofs.gather.Met as g-thm
-use Rattle.ziwhakemo.proofs.ScoreValues as R
-use Rattle.ziwhakemo.proofs.ScoreValues.Laws as R′
+use Rattle.answers.proofs.ScoreValues as R
+use Rattle.answers.proofs.ScoreValues.Laws as R′
 use Rattle.ziwhakemo.proofs.win_values as h
 use Rattle.ziwhakemo.proofs.win_values.Symbol as h-def
 use Rattle.ziwhakemo.proofs.win_values.Symbol.{name as #h}

@@ -1,7 +1,7 @@
--- `ziwhakemo::score_values` meets its contract. Assumes nothing.
+-- `answers::score_values` meets its contract. Assumes nothing.
 use borrow.Author.Needs.{needs}
-use Rattle.ziwhakemo.proofs.score_values.Statement.{statement}
-use Rattle.ziwhakemo.proofs.score_values.Tie as tie
+use Rattle.answers.proofs.score_values.Statement.{statement}
+use Rattle.answers.proofs.score_values.Tie as tie
 
 level-of-requires : tie.Need-level-of-requires
 level-of-requires c κs = search needs

@@ -1,7 +1,7 @@
--- `ziwhakemo::values_of` meets its contract. Assumes nothing.
+-- `answers::values_of` meets its contract. Assumes nothing.
 use borrow.Author.Needs.{needs}
-use Rattle.ziwhakemo.proofs.values_of.Statement.{statement}
-use Rattle.ziwhakemo.proofs.values_of.Tie as tie
+use Rattle.answers.proofs.values_of.Statement.{statement}
+use Rattle.answers.proofs.values_of.Tie as tie
 
 total-requires : tie.Need-total-requires
 total-requires c κs = search needs

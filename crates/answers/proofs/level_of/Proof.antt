@@ -1,7 +1,7 @@
--- `ziwhakemo::level_of` meets its contract. Assumes nothing.
+-- `answers::level_of` meets its contract. Assumes nothing.
 use borrow.Author.Needs.{needs}
-use Rattle.ziwhakemo.proofs.level_of.Statement.{statement}
-use Rattle.ziwhakemo.proofs.level_of.Tie as tie
+use Rattle.answers.proofs.level_of.Statement.{statement}
+use Rattle.answers.proofs.level_of.Tie as tie
 
 enum-told : tie.Need-enum-told
 enum-told c = search needs

@@ -10,11 +10,11 @@ use Rattle.scoring.specs.declared.PaymentAnswer.the-variants.{Refused, Paid}
 use Rattle.scoring.specs.Payment.{totalAt}
 use Rattle.choice.specs.declared.ScoreAnswer.{ScoreAnswer}
 use Rattle.win.specs.declared.WaitsAnswer.{WaitsAnswer}
-use Rattle.ziwhakemo.specs.declared.ListingAnswer.{ListingAnswer}
-use Rattle.ziwhakemo.specs.declared.LevelAnswer.{LevelAnswer}
-use Rattle.ziwhakemo.specs.declared.PaymentValues.{PaymentValues}
-use Rattle.ziwhakemo.specs.declared.ScoreValues.{ScoreValues}
-use Rattle.ziwhakemo.specs.declared.WaitsValues.{WaitsValues}
+use Rattle.answers.specs.declared.ListingAnswer.{ListingAnswer}
+use Rattle.answers.specs.declared.LevelAnswer.{LevelAnswer}
+use Rattle.answers.specs.declared.PaymentValues.{PaymentValues}
+use Rattle.answers.specs.declared.ScoreValues.{ScoreValues}
+use Rattle.answers.specs.declared.WaitsValues.{WaitsValues}
 
 -- the refusal's number, or 0 with how many readings and how many bytes were written
 abbrev pub listingAnswer : Listing → ListingAnswer

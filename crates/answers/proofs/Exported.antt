@@ -1,0 +1,229 @@
+-- The numbers that are answered: who pays what and the total, level and basic points, and what stands beside a refusal. Assumes nothing.
+use mathlib.Core.Path.{_≡_, refl, sym, ap, subst, _∙_}
+use mathlib.Core.Bool.{Bool, true, false, _&&_, not, cond}
+use mathlib.Core.List.{List, [], _∷_}
+use Prim.Native.Nat.{ℕ, zero, suc, _+_, _*_}
+use native.Mathlib.Decide.{ℕ-discrete}
+use native.Mathlib.Omega.{arith}
+use lib.Dec.{eqb, leb, ltb}
+use lib.ListN.{length, replicate}
+use borrow.Author.Tests.{eqb-false}
+use Rattle.context.specs.declared.GameContext.{GameContext}
+use Rattle.context.specs.Context.{isDealer, isTsumo}
+use Rattle.hand.specs.Reading.{Reading}
+use Rattle.checks.specs.declared.Calls.{Calls}
+use Rattle.checks.specs.Checks.{handCheck}
+use Rattle.unit.specs.declared.Listing.{Listing}
+use Rattle.unit.specs.declared.Listing.the-variants.{Refused as RefusedListing, Listed}
+use Rattle.unit.specs.Listing.{handReadings, handRecords, listing}
+use Rattle.scoring.specs.declared.Payment.{Payment}
+use Rattle.scoring.specs.declared.Payment.the-variants.{Ron, DealerTsumo, Tsumo}
+use Rattle.scoring.specs.declared.PaymentAnswer.{PaymentAnswer}
+use Rattle.scoring.specs.declared.PaymentAnswer.the-variants.{Refused, Paid}
+use Rattle.scoring.specs.Level.{level, basicPoints}
+use Rattle.scoring.specs.Payment.{roundUpTo100, payment, paymentAnswer}
+use Rattle.records.specs.Pick.{pickAt}
+use Rattle.reading_score.proofs.Ranks.{Priced, score-priced}
+use Rattle.choice.specs.declared.ScoreAnswer.{ScoreAnswer}
+use Rattle.choice.specs.Choice.{refused, scored}
+use Rattle.win.specs.declared.WaitsAnswer.{WaitsAnswer}
+use Rattle.win.specs.Win.{isOpened, tilesTogether, winCheck, scoreIn, scores, scoreWin, scoreReading, refusedWaits, namedWaits, nameWaits}
+use Rattle.win.proofs.Answers.{win-refused, reading-refused, waits-refused, win-choice, reading-picked, waits-picked}
+use Rattle.win_promises.proofs.Outcomes.{Outcome, without-score, without-yaku, with-score, outcome}
+use Rattle.win_promises.proofs.Winning.{chosen-has-yaku}
+use Rattle.answers.specs.declared.PaymentValues.{PaymentValues}
+use Rattle.answers.specs.declared.ScoreValues.{ScoreValues}
+use Rattle.answers.specs.Answers.{listingAnswer, levelAnswer, paid, paymentValues, scoreValues, waitsValues}
+
+-- ---- who pays what, for these basic points: by ron the discarder pays 4 × basic, to the dealer 6 ×, and nobody else pays; by tsumo each
+-- other player pays a dealer 2 × basic, and of another winner the dealer pays 2 × and each other player 1 ×; each amount is rounded up
+-- to 100. The total is what they pay together: other players than the dealer pay two winners' shares, to the dealer three.
+pub record Settled (tsumo dealer : Bool) (basic discarder theDealer other total : ℕ) : Type 0 where
+  pub from-discarder : discarder ≡ cond tsumo 0 (cond dealer (roundUpTo100 (basic * 6)) (roundUpTo100 (basic * 4)))
+  pub from-dealer : theDealer ≡ cond tsumo (cond dealer 0 (roundUpTo100 (basic * 2))) 0
+  pub from-others : other ≡ cond tsumo (cond dealer (roundUpTo100 (basic * 2)) (roundUpTo100 basic)) 0
+  pub together : total ≡ discarder + theDealer + other * cond dealer 3 2
+
+-- the amounts and the total of a payment that is given
+abbrev SettledBy : Bool → Bool → ℕ → PaymentValues → Type 0
+SettledBy tsumo dealer basic v = Settled tsumo dealer basic (v .«from_discarder») (v .«from_dealer») (v .«from_non_dealer») (v .total)
+
+paid-settled : (tsumo dealer : Bool) (basic : ℕ) → SettledBy tsumo dealer basic (paid (payment tsumo dealer basic))
+unfolding payment
+paid-settled false false basic = record { from-discarder = refl; from-dealer = refl; from-others = refl; together = omega arith }
+paid-settled false true basic = record { from-discarder = refl; from-dealer = refl; from-others = refl; together = omega arith }
+paid-settled true false basic = record { from-discarder = refl; from-dealer = refl; from-others = refl; together = omega arith }
+paid-settled true true basic = record { from-discarder = refl; from-dealer = refl; from-others = refl; together = omega arith }
+
+-- ---- a payment for any numbers
+module _ (basic : ℕ) (dealer : Bool) (winType : ℕ) where
+  -- its number: 8 for a win type that is neither ron nor tsumo, 13 for basic points above 152,000, 0 where it is given
+  pub payment-number :
+      paymentValues (paymentAnswer basic dealer winType) .number ≡ cond (ltb 1 winType) 8 (cond (ltb 152000 basic) 13 0)
+  unfolding paymentAnswer payment
+  payment-number = go (ltb 1 winType) (ltb 152000 basic) (eqb winType 1) dealer
+    where
+      go : (a b tsumo dealer : Bool) → paymentValues (cond a (Refused 8) (cond b (Refused 13) (Paid (payment tsumo dealer basic)))) .number ≡ cond a 8 (cond b 13 0)
+      go true b tsumo dealer = refl
+      go false true tsumo dealer = refl
+      go false false false dealer = refl
+      go false false true false = refl
+      go false false true true = refl
+
+  -- where it is not refused, its amounts and its total are those of the settlement
+  pub payment-settled :
+      paymentValues (paymentAnswer basic dealer winType) .number ≡ 0
+      → SettledBy (eqb winType 1) dealer basic (paymentValues (paymentAnswer basic dealer winType))
+  unfolding paymentAnswer
+  payment-settled = go (ltb 1 winType) (ltb 152000 basic)
+    where
+      go : (a b : Bool) → let v = paymentValues (cond a (Refused 8) (cond b (Refused 13) (Paid (payment (eqb winType 1) dealer basic)))) in v .number ≡ 0 → SettledBy (eqb winType 1) dealer basic v
+      go true b e = absurd (omega arith)
+      go false true e = absurd (omega arith)
+      go false false e = paid-settled (eqb winType 1) dealer basic
+
+-- ---- a score that is answered: level and basic points are those of its han and fu, and its amounts and total those of the settlement
+pub record Worth (tsumo dealer : Bool) (v : ScoreValues) : Type 0 where
+  pub level-is : v .level ≡ levelAnswer (level (v .han) (v .fu) (v .«is_yakuman»)) .level
+  pub count-is : v .«yakuman_count» ≡ levelAnswer (level (v .han) (v .fu) (v .«is_yakuman»)) .count
+  pub basic-points-are : v .«basic_points» ≡ basicPoints (v .han) (v .fu) (v .«is_yakuman»)
+  pub settled : Settled tsumo dealer (v .«basic_points») (v .«from_discarder») (v .«from_dealer») (v .«from_non_dealer») (v .total)
+
+worth : (tsumo dealer : Bool) (a : ScoreAnswer) → Priced tsumo dealer (a .score) → Worth tsumo dealer (scoreValues a)
+worth tsumo dealer a p =
+    record {
+      level-is = ap (λ l. levelAnswer l .level) (p .level-is);
+      count-is = ap (λ l. levelAnswer l .count) (p .level-is);
+      basic-points-are = p .basic-points-are;
+      settled = subst (λ (q : Payment). SettledBy tsumo dealer (a .score .«basic_points») (paid q)) (sym (p .payment-is)) (paid-settled tsumo dealer (a .score .«basic_points»));
+    }
+
+-- ---- what stands beside a refusal's number: 0 in every other place
+abbrev pub refusal : ℕ → ScoreValues
+refusal n =
+    record {
+      number = n;
+      reading = 0;
+      tallies = replicate 47 0;
+      han = 0;
+      fu = 0;
+      «is_yakuman» = false;
+      level = 0;
+      «yakuman_count» = 0;
+      «basic_points» = 0;
+      «from_non_dealer» = 0;
+      «from_dealer» = 0;
+      «from_discarder» = 0;
+      total = 0;
+    }
+
+-- an answer is a refusal, or a reading's score
+data Either (P : ScoreAnswer → Type 0) (a : ScoreAnswer) : Type 0 where
+  is-refused : (n : ℕ) → (n ≡ 0 → ⊥) → a ≡ refused n → Either P a
+  is-scored : a .number ≡ 0 → P a → Either P a
+
+either-scored : {P : ScoreAnswer → Type 0} {a : ScoreAnswer} → Either P a → scoreValues a .number ≡ 0 → P a
+either-scored (is-refused n f q) e = absurd (f (sym (ap (λ (b : ScoreAnswer). b .number) q) ∙ e))
+either-scored (is-scored e p) e′ = p
+
+either-refused : {P : ScoreAnswer → Type 0} {a : ScoreAnswer} → Either P a → (scoreValues a .number ≡ 0 → ⊥) → scoreValues a ≡ refusal (scoreValues a .number)
+either-refused (is-refused n f q) g = subst (λ (b : ScoreAnswer). scoreValues b ≡ refusal (scoreValues b .number)) (sym q) refl
+either-refused (is-scored e p) g = absurd (g e)
+
+-- named waits, or none of the six
+abbrev None : WaitsAnswer → Type 0
+None a = (waitsValues a .number ≡ 0 → ⊥) → waitsValues a .waits ≡ replicate 6 0
+
+module _ (cs : List ℕ) (k : Calls) (w : GameContext) where
+  abbrev Scored : ScoreAnswer → Type 0
+  Scored a = Priced (isTsumo w) (isDealer w) (a .score)
+
+  priced : (r : Reading) → Priced (isTsumo w) (isDealer w) (scoreIn cs k w r)
+  unfolding scoreIn
+  priced r = score-priced w (isOpened k) (tilesTogether cs k w) r
+
+  of-win : Either Scored (scoreWin cs k w)
+  of-win = go (ℕ-discrete (winCheck cs k w) 0)
+    where
+      chosen : winCheck cs k w ≡ 0 → Outcome (scores cs k w) → Either Scored (scoreWin cs k w)
+      chosen p (without-score f a) = is-refused 10 (λ z. omega arith) (win-choice cs k w p ∙ a)
+      chosen p (without-yaku f g a) = is-refused 11 (λ z. omega arith) (win-choice cs k w p ∙ a)
+      chosen p (with-score i x c a) =
+          let e = ap (λ (b : ScoreAnswer). b .number) (win-choice cs k w p ∙ a) in
+          let r = chosen-has-yaku cs k w p e in
+          is-scored e (subst (Priced (isTsumo w) (isDealer w)) (sym (r .score)) (priced (r .reading)))
+
+      go : Dec (winCheck cs k w ≡ 0) → Either Scored (scoreWin cs k w)
+      go (yes p) = chosen p (outcome (scores cs k w))
+      go (no f) = is-refused (winCheck cs k w) f (sym (win-refused cs k w (winCheck cs k w) refl f))
+
+  module _ (n : ℕ) where
+    of-reading : Either Scored (scoreReading cs k w n)
+    of-reading = go (ℕ-discrete (winCheck cs k w) 0)
+      where
+        picked : (l : List Reading) (m : ℕ) → Either Scored (pickAt (refused 12) (λ r. scored n (scoreIn cs k w r)) l m)
+        picked [] m = is-refused 12 (λ z. omega arith) refl
+        picked (r ∷ l) zero = is-scored refl (priced r)
+        picked (r ∷ l) (suc m) = picked l m
+
+        go : Dec (winCheck cs k w ≡ 0) → Either Scored (scoreReading cs k w n)
+        go (yes p) = subst (Either Scored) (sym (reading-picked cs k w p n)) (picked (handReadings cs k) n)
+        go (no f) = is-refused (winCheck cs k w) f (sym (reading-refused cs k w (winCheck cs k w) refl f n))
+
+    -- a reading by its number: where it is not refused, its worth; refused, the number and 0 in every other place
+    pub reading-worth : scoreValues (scoreReading cs k w n) .number ≡ 0 → Worth (isTsumo w) (isDealer w) (scoreValues (scoreReading cs k w n))
+    reading-worth e = worth (isTsumo w) (isDealer w) (scoreReading cs k w n) (either-scored of-reading e)
+
+    pub reading-refusal :
+        (scoreValues (scoreReading cs k w n) .number ≡ 0 → ⊥) → scoreValues (scoreReading cs k w n) ≡ refusal (scoreValues (scoreReading cs k w n) .number)
+    reading-refusal = either-refused of-reading
+
+    -- the waits of a reading: refused, the number and six times 0
+    pub waits-refusal : None (nameWaits cs k w n)
+    waits-refusal = go (ℕ-discrete (winCheck cs k w) 0)
+      where
+        picked : (f : Reading → List ℕ) (l : List Reading) (m : ℕ) → None (pickAt (refusedWaits 12) (λ r. namedWaits (f r)) l m)
+        picked f [] m g = refl
+        picked f (r ∷ l) zero g = absurd (g refl)
+        picked f (r ∷ l) (suc m) g = picked f l m g
+
+        go : Dec (winCheck cs k w ≡ 0) → None (nameWaits cs k w n)
+        go (yes p) = subst None (sym (waits-picked cs k w p n)) (picked _ (handReadings cs k) n)
+        go (no f) = subst None (waits-refused cs k w (winCheck cs k w) refl f n) (λ g. refl)
+
+  -- a win: where it is not refused, its worth; refused, the number and 0 in every other place
+  pub win-worth : scoreValues (scoreWin cs k w) .number ≡ 0 → Worth (isTsumo w) (isDealer w) (scoreValues (scoreWin cs k w))
+  win-worth e = worth (isTsumo w) (isDealer w) (scoreWin cs k w) (either-scored of-win e)
+
+  pub win-refusal : (scoreValues (scoreWin cs k w) .number ≡ 0 → ⊥) → scoreValues (scoreWin cs k w) ≡ refusal (scoreValues (scoreWin cs k w) .number)
+  win-refusal = either-refused of-win
+
+-- a payment that is refused: the number, and 0 in every other place
+pub payment-refusal :
+    (a : PaymentAnswer) → (paymentValues a .number ≡ 0 → ⊥)
+    → paymentValues a ≡ record { number = paymentValues a .number; «from_non_dealer» = 0; «from_dealer» = 0; «from_discarder» = 0; total = 0 }
+payment-refusal (Refused n) f = refl
+payment-refusal (Paid (Ron n)) f = absurd (f refl)
+payment-refusal (Paid (DealerTsumo n)) f = absurd (f refl)
+payment-refusal (Paid (Tsumo d n)) f = absurd (f refl)
+
+-- ---- a listing: accepted, how many readings the hand has and how many bytes their records; refused, the number and 0 in both places
+module _ (cs : List ℕ) (k : Calls) (room : ℕ) where
+  abbrev Counted : Listing → Type 0
+  Counted a = listingAnswer a .number ≡ 0 → (listingAnswer a .readings ≡ length (handReadings cs k)) × (listingAnswer a .bytes ≡ length (handRecords cs k))
+
+  pub listing-counts : Counted (listing cs k room)
+  unfolding listing
+  listing-counts = checked (eqb (handCheck cs k) 0) (eqb-false (handCheck cs k) 0)
+    where
+      fits : (b : Bool) → Counted (cond b (Listed (length (handReadings cs k)) (length (handRecords cs k))) (RefusedListing 7))
+      fits true e = (refl, refl)
+      fits false e = absurd (omega arith)
+
+      checked : (b : Bool) → (b ≡ false → handCheck cs k ≡ 0 → ⊥) → Counted (cond b (cond (leb (length (handRecords cs k)) room) (Listed (length (handReadings cs k)) (length (handRecords cs k))) (RefusedListing 7)) (RefusedListing (handCheck cs k)))
+      checked true f e = fits (leb (length (handRecords cs k)) room) e
+      checked false f e = absurd (f refl e)
+
+pub listing-refusal : (a : Listing) → (listingAnswer a .number ≡ 0 → ⊥) → listingAnswer a ≡ record { number = listingAnswer a .number; readings = 0; bytes = 0 }
+listing-refusal (RefusedListing n) f = refl
+listing-refusal (Listed readings bytes) f = absurd (f refl)
