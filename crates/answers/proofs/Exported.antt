@@ -36,8 +36,8 @@ use Rattle.answers.specs.declared.ScoreValues.{ScoreValues}
 use Rattle.answers.specs.Answers.{listingAnswer, levelAnswer, paid, paymentValues, scoreValues, waitsValues}
 
 -- ---- who pays what, for these basic points: by ron the discarder pays 4 × basic, to the dealer 6 ×, and nobody else pays; by tsumo each
--- other player pays a dealer 2 × basic, and of another winner the dealer pays 2 × and each other player 1 ×; each amount is rounded up
--- to 100. The total is what they pay together: other players than the dealer pay two winners' shares, to the dealer three.
+-- other player pays the dealer 2 × basic, and to another winner the dealer pays 2 × and each other player 1 ×; each amount is rounded up
+-- to 100. The total is what they pay together; of the other players there are three where the dealer wins, else two.
 pub record Settled (tsumo dealer : Bool) (basic discarder theDealer other total : ℕ) : Type 0 where
   pub from-discarder : discarder ≡ cond tsumo 0 (cond dealer (roundUpTo100 (basic * 6)) (roundUpTo100 (basic * 4)))
   pub from-dealer : theDealer ≡ cond tsumo (cond dealer 0 (roundUpTo100 (basic * 2))) 0
@@ -48,7 +48,7 @@ pub record Settled (tsumo dealer : Bool) (basic discarder theDealer other total 
 abbrev SettledBy : Bool → Bool → ℕ → PaymentValues → Type 0
 SettledBy tsumo dealer basic v = Settled tsumo dealer basic (v .«from_discarder») (v .«from_dealer») (v .«from_non_dealer») (v .total)
 
-paid-settled : (tsumo dealer : Bool) (basic : ℕ) → SettledBy tsumo dealer basic (paid (payment tsumo dealer basic))
+pub paid-settled : (tsumo dealer : Bool) (basic : ℕ) → SettledBy tsumo dealer basic (paid (payment tsumo dealer basic))
 unfolding payment
 paid-settled false false basic = record { from-discarder = refl; from-dealer = refl; from-others = refl; together = omega arith }
 paid-settled false true basic = record { from-discarder = refl; from-dealer = refl; from-others = refl; together = omega arith }
