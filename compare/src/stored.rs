@@ -50,9 +50,13 @@ impl<D, X> Part<D, X> {
     }
 }
 
-/// Runs a program that makes a sample of these parts, writes it into the file that its only word
-/// names, and prints the tally. `add_one` deals one of a part, adds its record to the sample and to
-/// the tally if it fits, and says whether it was added.
+/// Of so many records one is written into the second file.
+const FEW: usize = 16;
+
+/// Runs a program that makes a sample of these parts, writes it into the file that its first word
+/// names, and the first of each sixteen records into the one that its second word names, if there is
+/// one, and prints the tally. `add_one` deals one of a part, adds its record to the sample and to the
+/// tally if it fits, and says whether it was added.
 pub fn write<const RECORD: usize, D, X, T: Display>(
     program: &str,
     seed: u64,
@@ -60,9 +64,11 @@ pub fn write<const RECORD: usize, D, X, T: Display>(
     mut tally: T,
     add_one: fn(&Part<D, X>, &mut Rng, &mut T, &mut Sample<RECORD>) -> bool,
 ) -> ExitCode {
-    arguments::run(&format!("usage: {program} FILE"), |words| {
-        let [path] = words else {
-            return None;
+    arguments::run(&format!("usage: {program} FILE [FEW]"), |words| {
+        let (path, few) = match words {
+            [path] => (path, None),
+            [path, few] => (path, Some(few)),
+            _ => return None,
         };
         let mut sample = Sample {
             seen: HashSet::new(),
@@ -78,6 +84,12 @@ pub fn write<const RECORD: usize, D, X, T: Display>(
             println!("  {:5}  {}", part.records, part.title);
         }
         fs::write(path, &sample.bytes).expect("the file can be written");
+        if let Some(few) = few {
+            let records = sample.bytes.chunks(RECORD).step_by(FEW);
+            let bytes = records.collect::<Vec<_>>().concat();
+            fs::write(few, &bytes).expect("the file can be written");
+            println!("{} bytes in {few}", bytes.len());
+        }
         print!("{} bytes in {path}\n{tally}", sample.bytes.len());
         Some(ExitCode::SUCCESS)
     })

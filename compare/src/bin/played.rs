@@ -423,10 +423,10 @@ fn is_claimed(row: &Row, specs: &str, proofs: &str) -> bool {
 }
 
 fn main() -> ExitCode {
-    arguments::run("usage: played FILE", |words| {
-        let [path] = words else {
+    arguments::run("usage: played FILE..", |words| {
+        if words.is_empty() {
             return None;
-        };
+        }
         let mut bytes = Vec::new();
         let mut seen = HashSet::new();
         let mut differ = 0;
@@ -452,7 +452,9 @@ fn main() -> ExitCode {
         if differ > 0 {
             return Some(ExitCode::FAILURE);
         }
-        fs::write(path, &bytes).expect("the file can be written");
+        for path in words {
+            fs::write(path, &bytes).expect("the file can be written");
+        }
         Some(ExitCode::SUCCESS)
     })
 }

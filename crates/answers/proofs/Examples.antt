@@ -1,13 +1,17 @@
 -- The numbers of the levels, and levels and payments of worked scores, as they are answered. Assumes nothing.
 use mathlib.Core.Path.{_≡_, refl}
 use mathlib.Core.Bool.{true, false}
+use mathlib.Core.List.{[]}
 use Prim.Native.Nat.{ℕ}
 use Rattle.scoring.specs.declared.ScoreLevel.the-variants.{Normal, Mangan, Haneman, Baiman, Sanbaiman, Yakuman}
+use Rattle.scoring.specs.declared.Payment.the-variants.{Tsumo}
 use Rattle.scoring.specs.Level.{level}
 use Rattle.scoring.specs.Payment.{payment, paymentAnswer}
+use Rattle.reading_score.specs.declared.ScoringResult.{ScoringResult}
+use Rattle.choice.specs.Choice.{scored}
 use Rattle.answers.specs.declared.LevelAnswer.{LevelAnswer}
 use Rattle.answers.specs.declared.PaymentValues.{PaymentValues}
-use Rattle.answers.specs.Answers.{levelAnswer, paymentValues}
+use Rattle.answers.specs.Answers.{levelAnswer, paymentValues, scoreValues}
 
 abbrev leveled : ℕ → ℕ → LevelAnswer
 leveled l n = record { level = l; count = n }
@@ -151,7 +155,29 @@ pub pays-mangan-dealer-tsumo : paymentValues (paymentAnswer 2000 true 1) ≡ pay
 unfolding paymentAnswer payment
 pays-mangan-dealer-tsumo = refl
 
--- a win type that is neither ron nor tsumo is refused with 8, basic points above 152,000 with 13
+-- ---- the same in a score: 4 han 30 fu by tsumo, 3,900 from the dealer and 2,000 from each of two others
+abbrev fourHan : ScoringResult
+fourHan =
+    record {
+      tallies = [];
+      han = 4;
+      fu = 30;
+      «is_yakuman» = false;
+      «score_level» = Normal;
+      «basic_points» = 1920;
+      payment = Tsumo 3900 2000;
+    }
+
+pub score-total : scoreValues (scored 0 fourHan) .total ≡ 7900
+score-total = refl
+
+pub score-from-dealer : scoreValues (scored 0 fourHan) .«from_dealer» ≡ 3900
+score-from-dealer = refl
+
+pub score-from-others : scoreValues (scored 0 fourHan) .«from_non_dealer» ≡ 2000
+score-from-others = refl
+
+-- ---- refused: a win type that is neither ron nor tsumo with 8, basic points above 152,000 with 13
 pub pays-no-such-type : paymentValues (paymentAnswer 2000 false 2) .number ≡ 8
 unfolding paymentAnswer
 pays-no-such-type = refl
