@@ -21,7 +21,7 @@ use Rattle.end_yaku.specs.Ends.{chanta, junchan}
 use Rattle.yaku.specs.Tally.{oneHan, moreHan, isYakuman, ordinary, tallies}
 use Rattle.yaku.specs.Names.{names}
 use Rattle.yaku.specs.Han.{hanOf, han}
-use Rattle.scoring.specs.Fu.{standardFu, fu}
+use Rattle.fu.specs.Fu.{standardFu, fu}
 use Rattle.scoring.specs.Level.{level, basicPoints}
 use Rattle.scoring.specs.Payment.{payment}
 use Rattle.renamed.specs.Renamed.{renCounts}

@@ -25,7 +25,7 @@ use Rattle.scoring.specs.declared.Payment.{Payment}
 use Rattle.scoring.specs.declared.Payment.the-variants.{Ron, DealerTsumo, Tsumo}
 use Rattle.scoring.specs.declared.PaymentAnswer.{PaymentAnswer}
 use Rattle.scoring.specs.declared.PaymentAnswer.the-variants.{Refused, Paid}
-use Rattle.scoring.specs.Fu.{standardFu, fu}
+use Rattle.fu.specs.Fu.{standardFu, fu}
 use Rattle.scoring.specs.Level.{level, basicPoints}
 use Rattle.scoring.specs.Payment.{payment, paymentAnswer}
 use Rattle.checks.specs.Checks.{check, handCheck}

@@ -63,7 +63,7 @@ pub extern "C" fn probe_reading(
         tallies: tallies,
         waits: wait::detect_wait_types(hand, tile::Tile(win.winning_tile)),
         han: found.han,
-        fu: scoring::calculate_fu(hand, win, opened),
+        fu: fu::calculate_fu(hand, win, opened),
         is_yakuman: found.is_yakuman,
     }
 }

@@ -17,7 +17,7 @@ use Rattle.structure.proofs.Short.{Short}
 use Rattle.yaku.proofs.Laws.{han-small}
 use Rattle.scoring.specs.Level.{level, basicPoints}
 use Rattle.scoring.specs.Payment.{payment, totalAt}
-use Rattle.scoring.proofs.Laws.{fu-small}
+use Rattle.fu.proofs.Bounds.{fu-small}
 use Rattle.reading_score.specs.declared.ScoringResult.{ScoringResult}
 use Rattle.reading_score.specs.Score.{result, scoreOf, hasYaku, yakumanFirst, inDigits, rank}
 use Rattle.reading_score.specs.Preferred.{Preferred, by-total, by-yakuman, by-han, by-fu}

@@ -11,7 +11,7 @@ use Rattle.hand.specs.Reading.{Reading}
 use Rattle.tile_yaku.specs.declared.TileYaku.{TileYaku}
 use Rattle.yaku.specs.Tally.{tallies, isYakuman}
 use Rattle.yaku.specs.Han.{han}
-use Rattle.scoring.specs.Fu.{fu}
+use Rattle.fu.specs.Fu.{fu}
 use Rattle.scoring.specs.Level.{level, basicPoints}
 use Rattle.scoring.specs.Payment.{payment, totalAt}
 use Rattle.reading_score.specs.declared.ScoringResult.{ScoringResult}

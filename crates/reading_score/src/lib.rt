@@ -27,7 +27,7 @@ pub fn calculate_score(
     let tallies = yaku.tallies;
     let han = yaku.han;
     let yakuman = yaku.is_yakuman;
-    let fu = scoring::calculate_fu(h, w, opened);
+    let fu = fu::calculate_fu(h, w, opened);
     let basic = scoring::calculate_basic_points(han, fu, yakuman);
     ScoringResult {
         tallies: tallies,

@@ -21,7 +21,7 @@ use Rattle.hand.specs.Reading.{Reading, pairs, orphans, standard}
 use Rattle.renamed.specs.Renamed.{renReading}
 use Rattle.renamed.proofs.Records.{isReading}
 use Rattle.wait.specs.Concealed.{spared}
-use Rattle.scoring.specs.Fu.{meldFu, waitFu, baseFu, roundUpTo10, atLeast30, standardFu, fu}
+use Rattle.fu.specs.Fu.{meldFu, waitFu, baseFu, roundUpTo10, atLeast30, standardFu, fu}
 use Rattle.renamed_scores.proofs.Moved.{sorted-moved}
 use Rattle.wait.proofs.Renamed.{ren-edge, ren-middle}
 use Rattle.renamed_scores.proofs.Waits.{ren-weight, ren-spared, ren-concealed, pinfu-renamed}

@@ -15,7 +15,7 @@ use Rattle.yaku.specs.Tally.{isYakuman}
 use Rattle.yaku.specs.Han.{han}
 use Rattle.scoring.specs.declared.ScoreLevel.{ScoreLevel}
 use Rattle.scoring.specs.declared.Payment.{Payment}
-use Rattle.scoring.specs.Fu.{fu}
+use Rattle.fu.specs.Fu.{fu}
 use Rattle.scoring.specs.Level.{level, basicPoints}
 use Rattle.scoring.specs.Payment.{payment}
 use Rattle.renamed_scores.proofs.Waits.{ren-isDealer, waits-renamed}

@@ -58,7 +58,7 @@ fn replay(rec: &[u8], t: stored::Tally) -> stored::Tally
     let found = yaku::detect_yaku_with_context(hand, tiles, win, opened);
     let tallies = found.tallies;
     let waits = wait::detect_wait_types(hand, tile::Tile(win.winning_tile));
-    let fu = scoring::calculate_fu(hand, win, opened);
+    let fu = fu::calculate_fu(hand, win, opened);
     let agrees = stored::same_tallies(rec, 64, tallies)
         & stored::same_waits(rec, 111, waits)
         & stored::same_numbers(rec, 117, found.han, fu, found.is_yakuman);

@@ -1,4 +1,4 @@
--- Bounds that the code's proofs use: the han of a Normal level, the shifted fu, the fu of a triplet or kan. Assumes nothing.
+-- Bounds that the code's proofs use: the han of a Normal level, the shifted fu. Assumes nothing.
 use mathlib.Core.Path.{_≡_, refl, sym, subst}
 use mathlib.Core.Bool.{Bool, true, false, _||_, cond}
 use Prim.Native.Nat.{ℕ, _+_, _*_, _^_, _%_, _<_, _≤_}
@@ -55,8 +55,3 @@ shift-fits fu han l h =
     let q : fu ≤ 255 = omega arith in
     let m = mul-le-mul q p in
     mod-eq-of-lt (omega arith)
-
--- ---- fu
--- the products of a triplet's or a kan's fu are bytes
-pub set-fits : (base kan closed : ℕ) → base ≤ 4 → kan ≤ 4 → closed ≤ 2 → (kan * closed ≤ 8) × (base * (kan * closed) ≤ 32)
-set-fits base kan closed b k c = let inner = mul-le-mul k c in (inner, mul-le-mul b inner)

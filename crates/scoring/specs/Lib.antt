@@ -1,4 +1,3 @@
-pub mod Fu
 pub mod Level
 pub mod Payment
 pub mod Settled

@@ -3,9 +3,9 @@ use mathlib.Core.Path.{_≡_}
 use lib.ListN.{length}
 use borrow.Author.Needs.{needs}
 use Rattle.structure.proofs.Four.{sum-four}
-use Rattle.scoring.specs.Fu.{meldFu}
-use Rattle.scoring.proofs.melds_fu.Statement.{statement}
-use Rattle.scoring.proofs.melds_fu.Tie as tie
+use Rattle.fu.specs.Fu.{meldFu}
+use Rattle.fu.proofs.melds_fu.Statement.{statement}
+use Rattle.fu.proofs.melds_fu.Tie as tie
 
 array-copy-out-meld-fu-with-context : tie.Need-array-copy-out-meld-fu-with-context
 array-copy-out-meld-fu-with-context c = search needs

@@ -4,8 +4,8 @@ use lib.ListN.{length}
 use borrow.Author.Needs.{needs}
 use Rattle.wait.specs.Wait.{closedRun, edge}
 use Rattle.structure.proofs.Four.{any-four}
-use Rattle.scoring.proofs.any_penchan.Statement.{statement}
-use Rattle.scoring.proofs.any_penchan.Tie as tie
+use Rattle.fu.proofs.any_penchan.Statement.{statement}
+use Rattle.fu.proofs.any_penchan.Tie as tie
 
 array-copy-out-is-penchan : tie.Need-array-copy-out-is-penchan
 array-copy-out-is-penchan c = search needs

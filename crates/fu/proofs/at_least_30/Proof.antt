@@ -1,7 +1,7 @@
 -- `at_least_30` meets its contract: the higher of a number and 30. Assumes nothing.
 use native.Mathlib.Omega.{arith}
-use Rattle.scoring.proofs.at_least_30.Statement.{statement}
-use Rattle.scoring.proofs.at_least_30.Tie as tie
+use Rattle.fu.proofs.at_least_30.Statement.{statement}
+use Rattle.fu.proofs.at_least_30.Tie as tie
 
 returns : tie.Need-returns
 returns c = omega (arith, c .if1 .taken)

@@ -20,7 +20,7 @@ use Rattle.context.specs.Context.{isTsumo}
 use Rattle.hand.specs.Reading.{Reading, pairs, orphans, standard}
 use Rattle.wait.specs.Wait.{pinfu}
 use Rattle.wait.specs.Concealed.{concealed, spared}
-use Rattle.scoring.specs.Fu.{setFu, meldFu, pairFu, waitFu, winFu, baseFu, roundUpTo10, atLeast30, pinfuFu, standardFu, fu}
+use Rattle.fu.specs.Fu.{setFu, meldFu, pairFu, waitFu, winFu, baseFu, roundUpTo10, atLeast30, pinfuFu, standardFu, fu}
 
 -- ---- a meld
 -- a triplet or a kan, concealed or not: the figures of simples, and of terminals and honors

@@ -1,7 +1,7 @@
 -- Rounded fu, and at least 30 in an open hand. Assumes nothing.
 use borrow.Author.Needs.{needs}
-use Rattle.scoring.proofs.rounded_fu.Statement.{statement}
-use Rattle.scoring.proofs.rounded_fu.Tie as tie
+use Rattle.fu.proofs.rounded_fu.Statement.{statement}
+use Rattle.fu.proofs.rounded_fu.Tie as tie
 
 add-up : tie.Need-add-up
 add-up c = search needs

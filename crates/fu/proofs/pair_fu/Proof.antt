@@ -1,7 +1,7 @@
 -- The fu of a pair, by how often it counts. Assumes nothing.
 use borrow.Author.Needs.{needs}
-use Rattle.scoring.proofs.pair_fu.Statement.{statement}
-use Rattle.scoring.proofs.pair_fu.Tie as tie
+use Rattle.fu.proofs.pair_fu.Statement.{statement}
+use Rattle.fu.proofs.pair_fu.Tie as tie
 
 weight-requires : tie.Need-weight-requires
 weight-requires c κs = search needs

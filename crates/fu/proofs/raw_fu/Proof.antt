@@ -1,7 +1,7 @@
 -- The fu of a pair and four melds: the sum of its parts. Assumes nothing.
 use borrow.Author.Needs.{needs}
-use Rattle.scoring.proofs.raw_fu.Statement.{statement}
-use Rattle.scoring.proofs.raw_fu.Tie as tie
+use Rattle.fu.proofs.raw_fu.Statement.{statement}
+use Rattle.fu.proofs.raw_fu.Tie as tie
 
 winning-tile-in-closed-sequence-requires : tie.Need-winning-tile-in-closed-sequence-requires
 winning-tile-in-closed-sequence-requires c κs = search needs

@@ -1,7 +1,7 @@
 -- The fu of the wait. Assumes nothing.
 use borrow.Author.Needs.{needs}
-use Rattle.scoring.proofs.wait_fu.Statement.{statement}
-use Rattle.scoring.proofs.wait_fu.Tie as tie
+use Rattle.fu.proofs.wait_fu.Statement.{statement}
+use Rattle.fu.proofs.wait_fu.Tie as tie
 
 any-penchan-requires : tie.Need-any-penchan-requires
 any-penchan-requires c κs = search needs

@@ -8,7 +8,7 @@ use Rattle.context.specs.Named.{win, dealerWins, ron, tsumo, byRon, byTsumo}
 use Rattle.hand.specs.Reading.{pairs, orphans, standard}
 use Rattle.wait.specs.Wait.{pinfu}
 use Rattle.wait.specs.Concealed.{spared}
-use Rattle.scoring.specs.Fu.{meldFu, pairFu, waitFu, baseFu, roundUpTo10, atLeast30, standardFu, fu}
+use Rattle.fu.specs.Fu.{meldFu, pairFu, waitFu, baseFu, roundUpTo10, atLeast30, standardFu, fu}
 
 -- ---- melds. The win is on man 9, which none of them has, unless said
 -- a sequence has none, called or not

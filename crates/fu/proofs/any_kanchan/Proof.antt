@@ -4,8 +4,8 @@ use lib.ListN.{length}
 use borrow.Author.Needs.{needs}
 use Rattle.wait.specs.Wait.{closedRun, middle}
 use Rattle.structure.proofs.Four.{any-four}
-use Rattle.scoring.proofs.any_kanchan.Statement.{statement}
-use Rattle.scoring.proofs.any_kanchan.Tie as tie
+use Rattle.fu.proofs.any_kanchan.Statement.{statement}
+use Rattle.fu.proofs.any_kanchan.Tie as tie
 
 array-copy-out-is-kanchan : tie.Need-array-copy-out-is-kanchan
 array-copy-out-is-kanchan c = search needs

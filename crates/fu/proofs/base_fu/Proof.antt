@@ -1,7 +1,7 @@
 -- The fu that every hand has. Assumes nothing.
 use borrow.Author.Needs.{needs}
-use Rattle.scoring.proofs.base_fu.Statement.{statement}
-use Rattle.scoring.proofs.base_fu.Tie as tie
+use Rattle.fu.proofs.base_fu.Statement.{statement}
+use Rattle.fu.proofs.base_fu.Tie as tie
 
 is-tsumo-requires : tie.Need-is-tsumo-requires
 is-tsumo-requires c κs = search needs

@@ -1,9 +1,9 @@
 -- The fu of a meld: the products are at most 32. Assumes nothing.
 use native.Mathlib.Omega.{arith}
 use borrow.Author.Needs.{needs}
-use Rattle.scoring.proofs.Bounds.{set-fits}
-use Rattle.scoring.proofs.meld_fu_with_context.Statement.{statement}
-use Rattle.scoring.proofs.meld_fu_with_context.Tie as tie
+use Rattle.fu.proofs.Bounds.{set-fits}
+use Rattle.fu.proofs.meld_fu_with_context.Statement.{statement}
+use Rattle.fu.proofs.meld_fu_with_context.Tie as tie
 
 is-sequence-requires : tie.Need-is-sequence-requires
 is-sequence-requires c κs = search needs

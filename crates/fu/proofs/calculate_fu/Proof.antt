@@ -1,9 +1,9 @@
 -- The fu of a reading, by its kind. Assumes nothing.
 use mathlib.Core.Path.{sym, _∙_}
 use borrow.Author.Needs.{needs}
-use Rattle.scoring.specs.Fu.{standardFu, fu}
-use Rattle.scoring.proofs.calculate_fu.Statement.{statement}
-use Rattle.scoring.proofs.calculate_fu.Tie as tie
+use Rattle.fu.specs.Fu.{standardFu, fu}
+use Rattle.fu.proofs.calculate_fu.Statement.{statement}
+use Rattle.fu.proofs.calculate_fu.Tie as tie
 
 enum-known-s : tie.Need-enum-known-s
 enum-known-s c = search needs
