@@ -3,7 +3,7 @@ use mathlib.Core.Bool.{_||_}
 use mathlib.Core.List.{List}
 use Prim.Native.Nat.{ℕ}
 use lib.Dec.{T}
-use Rattle.lists.specs.Fold.{all, any}
+use Rattle.lists.specs.Fold.{any}
 use Rattle.lists.proofs.Finite.{and-left, and-right, and-both, or-elim, or-left, or-right}
 use Rattle.lists.proofs.Members.{all-mem, all-intro}
 use Rattle.tile.specs.Tile.{isHonor, isTerminal, isTerminalOrHonor}

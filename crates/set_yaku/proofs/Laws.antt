@@ -2,9 +2,9 @@
 use mathlib.Core.Path.{_≡_}
 use mathlib.Core.Bool.{Bool, true, false, _&&_, not}
 use mathlib.Core.List.{List, [], _∷_}
-use Prim.Native.Nat.{ℕ, suc, _+_, _≤_}
+use Prim.Native.Nat.{suc, _+_, _≤_}
 use native.Mathlib.Omega.{arith}
-use lib.Dec.{T, eqb, leb, ltb, eqb→eq, leb→le, ltb→lt}
+use lib.Dec.{T, eqb, leb, eqb→eq, leb→le, ltb→lt}
 use lib.ListN.{length}
 use Rattle.lists.specs.Fold.{all, any, count, one}
 use Rattle.lists.proofs.Finite.{and-left, and-right, and-both, or-elim, or-left, or-right, ¬T→false}
