@@ -365,8 +365,8 @@ pub ryanpeikou-open : counts Ryanpeikou (ron (sou 8)) called [] (standard (pin 5
 unfolding counts
 ryanpeikou-open = refl
 
--- of seven pairs neither counts: 2233m 44p 556688s are pairs there
-pub ryanpeikou-seven-pairs : counts Ryanpeikou (ron (sou 8)) closed [] sevenPairs ≡ 0
+-- the same tiles read as seven pairs have neither
+pub ryanpeikou-seven-pairs : counts Ryanpeikou (ron (sou 8)) closed [] (pairs (man 2 ∷ man 3 ∷ man 4 ∷ pin 5 ∷ sou 6 ∷ sou 7 ∷ sou 8 ∷ [])) ≡ 0
 unfolding counts
 ryanpeikou-seven-pairs = refl
 
@@ -639,7 +639,7 @@ pub han-open-honitsu : hanIn (ron (sou 8)) called (Honitsu ∷ []) (standard (so
 unfolding hanIn
 han-open-honitsu = refl
 
--- the same sequence in three suits, called and closed
+-- the same sequence in three suits, called
 pub han-sanshoku-called : hanIn (ron (sou 8)) called [] (standard (pin 5) (chi (man 2) ∷ run (pin 2) ∷ run (sou 2) ∷ run (sou 6) ∷ [])) ≡ 1
 unfolding hanIn
 han-sanshoku-called = refl
@@ -649,7 +649,7 @@ pub han-sanshoku-closed : hanIn (ron (sou 8)) closed [] (standard (pin 5) (run (
 unfolding hanIn
 han-sanshoku-closed = refl
 
--- 123456789m called and closed
+-- 123456789m, called
 pub han-ittsu-called : hanIn (ron (sou 8)) called [] (standard (pin 5) (chi (man 1) ∷ run (man 4) ∷ run (man 7) ∷ run (sou 6) ∷ [])) ≡ 1
 unfolding hanIn
 han-ittsu-called = refl
@@ -659,12 +659,12 @@ pub han-ittsu-closed : hanIn (ron (sou 8)) closed [] (standard (pin 5) (run (man
 unfolding hanIn
 han-ittsu-closed = refl
 
--- Chanta called, without honors Junchan
+-- Chanta, called
 pub han-chanta-called : hanIn (ron (pin 9)) called [] (standard (pin 9) (chi (man 1) ∷ run (man 7) ∷ run (sou 7) ∷ pon West ∷ [])) ≡ 1
 unfolding hanIn
 han-chanta-called = refl
 
--- one more for terminals only
+-- Junchan, called: one more
 pub han-junchan-called : hanIn (ron (pin 9)) called [] (standard (pin 9) (chi (man 1) ∷ run (man 7) ∷ run (sou 7) ∷ pon (pin 1) ∷ [])) ≡ 2
 unfolding hanIn
 han-junchan-called = refl
