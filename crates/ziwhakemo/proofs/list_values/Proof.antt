@@ -17,7 +17,7 @@ same-length c = search needs
 returns : tie.Need-returns
 returns c =
     let l = c .before .before .before .list-readings .ensures in
-    (c .listing-of .ensures ∙ ap listingAnswer (l .0), cc (l .1))
+    (c .listing-of .ensures ∙ ap listingAnswer (l .0), rw (l .1))
 
 pub list-values-spec : {M : Type 1} → statement M
 list-values-spec =
