@@ -1,6 +1,6 @@
 -- The sorts of melds: which exclude each other, how many tiles a meld of each sort holds, and how melds ascend. Assumes nothing.
 use mathlib.Core.Path.{_≡_}
-use mathlib.Core.Bool.{Bool, _&&_, _||_, not, cond, Bool·beq}
+use mathlib.Core.Bool.{Bool, _&&_, _||_, not, Bool·beq}
 use Prim.Native.Nat.{ℕ, _+_, _<_}
 use native.Mathlib.Omega.{arith}
 use lib.Dec.{T, eqb, leb, eqb→eq}
@@ -32,8 +32,8 @@ pub call-or-hand : (m : Meld) → T (isMeld m) → isCall m ≡ not (isHandMeld 
 call-or-hand = same isCall (λ m. not (isHandMeld m)) tt
 
 -- a kan holds four tiles, every other meld three
-pub meld-size : (m : Meld) → T (isMeld m) → sum (uses m) tiles ≡ cond (isKan m) 4 3
-meld-size m v = eqb→eq _ _ (melds-at (λ m. eqb (sum (uses m) tiles) (cond (isKan m) 4 3)) tt m v)
+pub meld-size : (m : Meld) → T (isMeld m) → sum (uses m) tiles ≡ 3 + one (isKan m)
+meld-size m v = eqb→eq _ _ (melds-at (λ m. eqb (sum (uses m) tiles) (3 + one (isKan m))) tt m v)
 
 -- a sequence holds one each of three numbers in a row of one suit
 abbrev inRow : Meld → ℕ → Bool

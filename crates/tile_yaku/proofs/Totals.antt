@@ -17,7 +17,7 @@ use Rattle.tile.specs.Tile.{isTerminal, tiles}
 use Rattle.tile.proofs.Tiles.{tile-lt}
 use Rattle.meld.specs.declared.Meld.{Meld}
 use Rattle.meld.specs.Meld.{isMeld, isKan, uses}
-use Rattle.meld.proofs.Melds.{allMelds, melds-at}
+use Rattle.meld.proofs.Sorts.{meld-size}
 use Rattle.hand.specs.Reading.{AdmitsPairs}
 use Rattle.tile_yaku.specs.Tiles.{chinroutou, nineGates, suits, gate}
 use Rattle.tile_yaku.proofs.Rules.{only-each}
@@ -43,13 +43,7 @@ pub nine-gates-fourteen : (c : ℕ → ℕ) → T (nineGates c) → sum c tiles 
 unfolding nineGates
 nine-gates-fourteen c g = eqb→eq (sum c tiles) 14 (and-right (any (λ s. all (gate c s) tiles) suits) _ g)
 
--- ---- melds: three tiles, a kan four
-meld-size-test : T (allMelds (λ m. eqb (sum (uses m) tiles) (3 + one (isKan m))))
-meld-size-test = tt
-
-pub meld-size : (m : Meld) → T (isMeld m) → sum (uses m) tiles ≡ 3 + one (isKan m)
-meld-size m v = eqb→eq _ _ (melds-at (λ m. eqb (sum (uses m) tiles) (3 + one (isKan m))) meld-size-test m v)
-
+-- ---- the tiles of melds
 melds-size : (k : List Meld) → T (all isMeld k) → sum (λ m. sum (uses m) tiles) k ≡ 3 * length k + count isKan k
 melds-size [] v = refl
 melds-size (m ∷ k) v =

@@ -2,33 +2,32 @@
 -- Yakuhai that counts more than twice. Assumes nothing.
 use mathlib.Core.Path.{_≡_, refl, sym, ap, subst, _∙_}
 use mathlib.Core.Bool.{Bool, true, false, _&&_, _||_, not}
-use mathlib.Core.List.{List, [], _∷_, _++_, List·Memᴰ, List·Memᴰ·head, List·Memᴰ·tail}
-use Prim.Native.Nat.{ℕ, suc, _+_, _*_, _<_, _≤_}
+use mathlib.Core.List.{List, [], _∷_, _++_, List·Memᴰ}
+use Prim.Native.Nat.{ℕ, _+_, _*_, _<_, _≤_}
 use native.Mathlib.Nat.{mul-le-mul}
 use native.Mathlib.Omega.{arith}
-use lib.Dec.{T, eqb, leb, ltb, eqb→eq, eqb-refl, leb→le, ltb→lt, lit≤}
+use lib.Dec.{T, eqb, leb, ltb, leb→le, ltb→lt, lit≤}
 use lib.ListN.{length}
 use borrow.Author.Tests.{le-leb, ne-eqb}
 use Rattle.lists.specs.Fold.{all, any, count, one, sum}
-use Rattle.lists.proofs.Counted.{times-once}
-use Rattle.lists.proofs.Finite.{and-left, and-right, one-le, or-elim, or-left, or-skip, true→T, T→true, ¬T→false}
-use Rattle.lists.proofs.Kept.{ascending-nodup}
-use Rattle.lists.proofs.Members.{all-append, all-mem}
+use Rattle.lists.proofs.Finite.{and-left, and-right, one-le, or-elim, or-left, true→T, T→true, ¬T→false}
+use Rattle.lists.proofs.Members.{all-append}
 use Rattle.lists.proofs.Permuted.{map-perm, total-perm}
-use Rattle.lists.proofs.Sums.{sum-append, sum-exchange, sum-plus}
-use Rattle.tile.specs.Tile.{isDragon, isTerminal, isWind, tiles}
+use Rattle.lists.proofs.Sums.{sum-append}
+use Rattle.tile.specs.Tile.{isDragon, isWind, tiles}
 use Rattle.tile.specs.Named.{East, South, West, North, White, Green, Red}
-use Rattle.tile.proofs.Tiles.{tile-lt}
 use Rattle.meld.specs.declared.Meld.{Meld}
-use Rattle.meld.specs.Meld.{isCall, isKan, isMeld, isOpen, isTripletOrKan, setSize, uses}
-use Rattle.meld.proofs.Melds.{allMelds, closed-melds, melds-at, sorted-perm}
+use Rattle.meld.specs.Meld.{isCall, isConcealed, isKan, isMeld, isOpen, isTripletOrKan, setSize, uses}
+use Rattle.meld.proofs.Melds.{closed-melds, sorted-perm}
+use Rattle.meld.proofs.Sorts.{call-is}
 use Rattle.meld.proofs.Renamed.{not-sequence}
 use Rattle.context.specs.declared.GameContext.{GameContext}
 use Rattle.hand.specs.Counts.{held}
 use Rattle.hand.specs.Reading.{Reading, pairs, orphans, standard, Admits, AdmitsPairs, AdmitsStandard}
 use Rattle.wait.specs.Wait.{weight}
 use Rattle.tile_yaku.specs.declared.TileYaku.{TileYaku}
-use Rattle.tile_yaku.specs.Tiles.{chinroutou, gate, nineGates, suits, tileYaku}
+use Rattle.tile_yaku.specs.Tiles.{chinroutou, nineGates, tileYaku}
+use Rattle.tile_yaku.proofs.Totals.{nine-gates-no-kan, pairs-not-chinroutou}
 use Rattle.honor_yaku.specs.Honors.{yakuhai}
 use Rattle.meld_yaku.specs.Melds.{setOf}
 use Rattle.yaku.specs.declared.names.Yaku.the-variants.{Chinroutou, ChuurenPoutou, JunseiChuurenPoutou}
@@ -45,32 +44,13 @@ use Rattle.unit.proofs.Listed.{melds-called}
 use Rattle.win.specs.Win.{winCheck, isOpened, tilesTogether, scoreIn}
 use Rattle.win.proofs.Passed.{checked}
 
--- ---- the tiles of melds: three each, four of a kan
-size-test : T (allMelds (λ m. eqb (sum (uses m) tiles) (3 + one (isKan m))))
-size-test = tt
-
-meld-sizes : (l : List Meld) → T (all isMeld l) → sum (λ m. sum (uses m) tiles) l ≡ 3 * length l + count isKan l
-meld-sizes [] v = refl
-meld-sizes (m ∷ l) v =
-    grow (sum (uses m) tiles) (sum (λ m. sum (uses m) tiles) l) (one (isKan m)) (count isKan l) (length l)
-    (eqb→eq (sum (uses m) tiles) (3 + one (isKan m))
-    (melds-at (λ m. eqb (sum (uses m) tiles) (3 + one (isKan m))) size-test m (and-left (isMeld m) (all isMeld l) v)))
-    (meld-sizes l (and-right (isMeld m) (all isMeld l) v))
-  where
-    grow : (a b c d n : ℕ) → a ≡ 3 + c → b ≡ 3 * n + d → a + b ≡ 3 * suc n + (c + d)
-    grow a b c d n e f = omega arith
-
-together-sum : (cs : List ℕ) (l : List Meld) → T (all isMeld l) → sum (together cs l) tiles ≡ sum (held cs) tiles + (3 * length l + count isKan l)
-together-sum cs l v =
-    sum-plus (held cs) (λ t. sum (λ m. uses m t) l) tiles
-    ∙ ap (λ (n : ℕ). sum (held cs) tiles + n) (sum-exchange uses l tiles ∙ meld-sizes l v)
-
 -- ---- a call is open or a kan
-call-test : T (allMelds (λ m. not (isCall m) || (isOpen m || isKan m)))
-call-test = tt
-
 open-or-kan : (m : Meld) → T (isCall m) → T (isOpen m || isKan m)
-open-or-kan m v = or-skip (isCall m) _ v (melds-at (λ m. not (isCall m) || (isOpen m || isKan m)) call-test m (and-left (isMeld m) _ v))
+open-or-kan m v = weaker (isOpen m) (isKan m) (isConcealed m) (subst T (call-is m (and-left (isMeld m) _ v)) v)
+  where
+    weaker : (a b c : Bool) → T (a || (b && c)) → T (a || b)
+    weaker true b c t = tt
+    weaker false b c t = and-left b c t
 
 -- so calls without an open one and without a kan are none
 no-calls : (l : List Meld) → T (all isCall l) → any isOpen l ≡ false → count isKan l ≡ 0 → l ≡ []
@@ -80,24 +60,6 @@ no-calls (m ∷ l) v e z =
     (or-elim (isOpen m) (isKan m) (open-or-kan m (and-left (isCall m) (all isCall l) v))
     (λ o. subst T e (or-left (isOpen m) (any isOpen l) o))
     (λ o. let one-kan : one (isKan m) ≡ 1 = ap one (T→true (isKan m) o) in omega arith))
-
--- ---- terminals alone are few: six tiles, of which pairs take two each
-sum-at-most : (f g : ℕ → ℕ) (l : List ℕ) → ((t : ℕ) → List·Memᴰ t l → f t ≤ g t) → sum f l ≤ sum g l
-sum-at-most f g [] h = lit≤ tt
-sum-at-most f g (t ∷ l) h =
-    let first = h t (List·Memᴰ·head refl) in
-    let rest = sum-at-most f g l (λ u i. h u (List·Memᴰ·tail i)) in
-    omega arith
-
-few-terminals : (c : ℕ → ℕ) → ((t : ℕ) → t < 34 → c t ≤ 2) → T (chinroutou c) → sum c tiles ≤ 12
-unfolding chinroutou
-few-terminals c two o = sum-at-most c (λ t. 2 * one (isTerminal t)) tiles at-tile
-  where
-    at-tile : (t : ℕ) → List·Memᴰ t tiles → c t ≤ 2 * one (isTerminal t)
-    at-tile t i =
-        or-elim (eqb (c t) 0) (isTerminal t) (all-mem (λ t. eqb (c t) 0 || isTerminal t) {l = tiles} o i)
-        (λ z. let e = eqb→eq (c t) 0 z in omega arith)
-        (λ z. let e : one (isTerminal t) ≡ 1 = ap one (T→true (isTerminal t) z) in let h = two t (tile-lt i) in omega arith)
 
 -- ---- a triplet or kan takes three of its tile, and winds and dragons are apart
 three-at-least : (b : Bool) → 3 ≤ setSize b
@@ -147,21 +109,7 @@ honors = East ∷ South ∷ West ∷ North ∷ White ∷ Green ∷ Red ∷ []
 abbrev pub atMostTwice : List ℕ → Bool
 atMostTwice ts = all (λ t. leb (tallied (yakuhaiName t) ts) 2) honors
 
--- ---- the sums of a whole hand
-fourteen : {s : ℕ} (h n c k : ℕ) → h + 3 * c ≡ 14 → n ≡ c → s ≡ h + (3 * n + k) → s ≡ 14 + k
-fourteen h n c k e f g = omega arith
-
-none-left : (k : ℕ) → 14 + k ≡ 14 → k ≡ 0
-none-left k e = omega arith
-
-too-many : (k : ℕ) → 14 + k ≤ 12 → ⊥
-too-many k h = omega arith
-
--- ---- nine gates are 14 tiles, asked of a closed hand only
-gates-sum : (c : ℕ → ℕ) → T (nineGates c) → sum c tiles ≡ 14
-unfolding nineGates
-gates-sum c g = eqb→eq (sum c tiles) 14 (and-right (any (λ s. all (gate c s) tiles) suits) (eqb (sum c tiles) 14) g)
-
+-- ---- nine gates are asked of a closed hand only
 gates-asked :
     (w : GameContext) (opened : Bool) (s : TileYaku) (r : Reading) → (not opened && s .«nine_gates») ≡ false
     → (tallied ChuurenPoutou (tallies w opened s r) ≡ 0) × (tallied JunseiChuurenPoutou (tallies w opened s r) ≡ 0)
@@ -186,15 +134,10 @@ module _ (cs : List ℕ) (k : Calls) (w : GameContext) (four : length (k .melds)
   hand-passes : handCheck cs k ≡ 0
   hand-passes = checked cs k w passes .hand
 
-  -- hand and calls hold 14 tiles and one more for each kan
-  whole-sum : sum (together cs (called k)) tiles ≡ 14 + count isKan (called k)
-  whole-sum =
-      let h = passed cs k hand-passes in
-      fourteen (sum (held cs) tiles) (length (called k)) (k .count) (count isKan (called k)) (h .tiles) (called-length k (h .few) four)
-      (together-sum cs (called k) (melds-called cs k hand-passes))
-
   gates-no-kan : T (nineGates (together cs (called k))) → count isKan (called k) ≡ 0
-  gates-no-kan g = none-left (count isKan (called k)) (sym whole-sum ∙ gates-sum (together cs (called k)) g)
+  gates-no-kan =
+      let h = passed cs k hand-passes in
+      nine-gates-no-kan (held cs) (called k) (melds-called cs k hand-passes) (subst (λ (n : ℕ). sum (held cs) tiles + 3 * n ≡ 14) (sym (called-length k (h .few) four)) (h .tiles))
 
   -- nine gates never stand beside a call, not even a closed kan
   no-gates : (called k ≡ [] → ⊥) → (not (isOpened k) && nineGates (together cs (called k))) ≡ false
@@ -211,13 +154,15 @@ module _ (cs : List ℕ) (k : Calls) (w : GameContext) (four : length (k .melds)
   -- ---- terminals alone are never seven pairs
   no-chinroutou : (ps : List ℕ) → AdmitsPairs (held cs) (called k) ps → chinroutou (together cs (called k)) ≡ false
   no-chinroutou ps a =
-      ¬T→false (chinroutou (together cs (called k)))
-      (λ o. too-many (count isKan (called k)) (subst (λ (n : ℕ). n ≤ 12) whole-sum (few-terminals (together cs (called k)) two o)))
-    where
-      two : (t : ℕ) → t < 34 → together cs (called k) t ≤ 2
-      two t i =
-          let once : count (eqb t) ps ≤ 1 = times-once eqb eqb→eq eqb-refl t ps (ascending-nodup ps (a .ascending)) in
-          rw (a .uncalled) (omega (arith, a .exact t i))
+      let all : AdmitsPairs (together cs (called k)) (called k) ps =
+      record {
+        uncalled = a .uncalled;
+        seven = a .seven;
+        ascending = a .ascending;
+        tiles = a .tiles;
+        exact = λ t i. rw (a .uncalled) (omega (arith, a .exact t i));
+      } in
+      pairs-not-chinroutou all
 
   pub no-pairs-of-terminals : (ps : List ℕ) → List·Memᴰ (pairs ps) (handReadings cs k) → tallied Chinroutou (scoreIn cs k w (pairs ps) .tallies) ≡ 0
   unfolding scoreIn scoreOf result tileYaku ordinary oneHan moreHan
