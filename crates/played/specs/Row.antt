@@ -121,8 +121,8 @@ leveled Sanbaiman = 4 ∷ []
 leveled (Yakuman n) = 5 ∷ n ∷ []
 
 -- how often each yaku is named, in the order of the tallies
-abbrev pub tallied : List Yaku → List ℕ
-tallied ys = map (λ n. count (λ y. eqb (place y) (place n)) ys) names
+abbrev pub talliesOf : List Yaku → List ℕ
+talliesOf ys = map (λ n. count (λ y. eqb (place y) (place n)) ys) names
 
 -- how often each wait is named, in the order of the tallies
 abbrev pub waitPlace : Wait → ℕ
@@ -141,7 +141,7 @@ waited ws = map (λ n. count (λ x. eqb (waitPlace x) n) ws) (0 ∷ 1 ∷ 2 ∷ 
 abbrev pub isWorth : Worth → ScoringResult → Bool
 isWorth v x =
     every
-    (same (x .tallies) (tallied (v .yakuNames))
+    (same (x .tallies) (talliesOf (v .yakuNames))
     ∷ eqb (one (x .«is_yakuman»)) (one (any isYakumanName (v .yakuNames)))
     ∷ eqb (x .han) (v .hanCount)
     ∷ eqb (x .fu) (v .fuCount)

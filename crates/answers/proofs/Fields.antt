@@ -1,0 +1,55 @@
+-- The fields of a reading's answer, each by itself: its number, tallies, han as they add up, fu, and its waits. Assumes nothing.
+use mathlib.Core.Path.{_≡_, refl, sym, ap, subst}
+use mathlib.Core.Bool.{Bool}
+use mathlib.Core.List.{List}
+use Prim.Native.Nat.{ℕ}
+use Rattle.context.specs.declared.GameContext.{GameContext}
+use Rattle.hand.specs.Reading.{Reading}
+use Rattle.wait.specs.Wait.{waits}
+use Rattle.tile_yaku.specs.declared.TileYaku.{TileYaku}
+use Rattle.yaku.specs.Tally.{tallies, isYakuman}
+use Rattle.yaku.specs.Han.{hanOf, dot, han}
+use Rattle.fu.specs.Fu.{fu}
+use Rattle.checks.specs.declared.Calls.{Calls}
+use Rattle.unit.specs.Listing.{handReadings}
+use Rattle.reading_score.specs.Score.{result, scoreOf}
+use Rattle.choice.specs.declared.ScoreAnswer.{ScoreAnswer}
+use Rattle.choice.specs.Choice.{scored}
+use Rattle.choice.specs.Standing.{StandsAt}
+use Rattle.win.specs.declared.WaitsAnswer.{WaitsAnswer}
+use Rattle.win.specs.Win.{winCheck, isOpened, tilesTogether, scoreIn, scoreWin, scoreReading, nameWaits}
+use Rattle.win.proofs.Answers.{scored-at, named-at}
+use Rattle.win_promises.proofs.Winning.{same-by-number}
+use Rattle.answers.specs.declared.ScoreValues.{ScoreValues}
+use Rattle.answers.specs.Answers.{scoreValues, waitsValues}
+
+-- the values of the reading r, which has the number n
+pub record ValuesOf (w : GameContext) (opened : Bool) (s : TileYaku) (r : Reading) (n : ℕ) (v : ScoreValues) : Type 0 where
+  pub reading-is : v .reading ≡ n
+  pub tallies-are : v .tallies ≡ tallies w opened s r
+  -- each tally as often as it counts, times the han of its yaku, closed or open as the hand is
+  pub han-adds-up : v .han ≡ dot (hanOf opened) (v .tallies)
+  pub fu-is : v .fu ≡ fu w opened r
+  pub yakuman-is : v .«is_yakuman» ≡ isYakuman w opened s r
+
+values-of : (w : GameContext) (opened : Bool) (s : TileYaku) (r : Reading) (n : ℕ) → ValuesOf w opened s r n (scoreValues (scored n (scoreOf w opened s r)))
+unfolding scoreOf result han
+values-of w opened s r n = record { reading-is = refl; tallies-are = refl; han-adds-up = refl; fu-is = refl; yakuman-is = refl }
+
+module _ (cs : List ℕ) (k : Calls) (w : GameContext) (passes : winCheck cs k w ≡ 0) where
+  -- by its number, of the reading r that stands at the number n
+  module _ (n : ℕ) (r : Reading) (stands : StandsAt r n (handReadings cs k)) where
+    pub reading-values : ValuesOf w (isOpened k) (tilesTogether cs k w) r n (scoreValues (scoreReading cs k w n))
+    unfolding scoreIn
+    reading-values =
+        subst (λ (a : ScoreAnswer). ValuesOf w (isOpened k) (tilesTogether cs k w) r n (scoreValues a)) (sym (scored-at cs k w passes n r stands))
+        (values-of w (isOpened k) (tilesTogether cs k w) r n)
+
+    pub waits-values : waitsValues (nameWaits cs k w n) .waits ≡ waits (w .«winning_tile») r
+    waits-values = ap (λ (a : WaitsAnswer). waitsValues a .waits) (named-at cs k w passes n r stands)
+
+  -- a win that is scored answers what its chosen reading answers by its number
+  pub win-values :
+      scoreValues (scoreWin cs k w) .number ≡ 0
+      → scoreValues (scoreReading cs k w (scoreValues (scoreWin cs k w) .reading)) ≡ scoreValues (scoreWin cs k w)
+  win-values e = ap scoreValues (same-by-number cs k w passes e)
