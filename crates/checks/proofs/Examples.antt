@@ -16,7 +16,7 @@ calling ms = record { count = length ms; melds = ms }
 abbrev refuses : List ℕ → List Meld → ℕ
 refuses ts ms = handCheck (hand ts) (calling ms)
 
--- 14 tiles, 11 of them, and the pair
+-- 11 tiles, and with man 123 14
 abbrev eleven : List ℕ
 eleven = mans 55 ++ (pins 456 ++ sous 234678)
 

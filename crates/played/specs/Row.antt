@@ -124,7 +124,7 @@ leveled (Yakuman n) = 5 ∷ n ∷ []
 abbrev pub talliesOf : List Yaku → List ℕ
 talliesOf ys = map (λ n. count (λ y. eqb (place y) (place n)) ys) names
 
--- how often each wait is named, in the order of the tallies
+-- the place of a wait among the tallies
 abbrev pub waitPlace : Wait → ℕ
 waitPlace Ryanmen = 0
 waitPlace Kanchan = 1
@@ -133,6 +133,7 @@ waitPlace Shanpon = 3
 waitPlace Tanki = 4
 waitPlace Kokushi13 = 5
 
+-- how often each wait is named, in the order of the tallies
 abbrev pub waited : List Wait → List ℕ
 waited ws = map (λ n. count (λ x. eqb (waitPlace x) n) ws) (0 ∷ 1 ∷ 2 ∷ 3 ∷ 4 ∷ 5 ∷ [])
 

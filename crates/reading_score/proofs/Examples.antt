@@ -48,10 +48,10 @@ pub fu-last : Above (counted 5 30) (counted 5 20)
 unfolding result payment basicPoints rank
 fu-last = tt
 
--- and nothing else tells them apart
-pub same-score-same-rank : T (not (ltb (rank (counted 5 30)) (rank (counted 5 30))))
+-- and nothing else tells them apart: not which yaku it is
+pub same-score-same-rank : rank (result (ron (man 1)) (1 ∷ 0 ∷ []) 5 30 false) ≡ rank (result (ron (man 1)) (0 ∷ 1 ∷ []) 5 30 false)
 unfolding result payment basicPoints rank
-same-score-same-rank = tt
+same-score-same-rank = refl
 
 -- ---- without a yaku the rank is 0, whatever is paid; with one, even the least is above it
 pub no-yaku-no-rank : rank (result (ron (man 1)) (0 ∷ 0 ∷ []) 5 30 false) ≡ 0

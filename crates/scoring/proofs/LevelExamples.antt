@@ -55,7 +55,7 @@ pub four-han-25-fu : Worth 4 25 Normal 1600
 unfolding basicPoints
 four-han-25-fu = (refl, refl)
 
--- no yaku, no level
+-- 0 han has the level Normal and is priced all the same
 pub no-han-30-fu : Worth 0 30 Normal 120
 unfolding basicPoints
 no-han-30-fu = (refl, refl)

@@ -14,11 +14,11 @@ unfolding peikou
 peikou-one = refl
 
 -- 789 789 of sou, apart
-pub peikou-apart : peikou (run (sou 7) ∷ run (man 2) ∷ triplet (sou 7) ∷ run (sou 7) ∷ []) ≡ 1
+pub peikou-apart : peikou (run (sou 7) ∷ run (man 2) ∷ triplet (pin 7) ∷ run (sou 7) ∷ []) ≡ 1
 unfolding peikou
 peikou-apart = refl
 
--- not 234 of man and 234 of pin, not 234 and 345, not a sequence and a triplet from the same tile, not two triplets
+-- not 234 of man and 234 of pin, not 234 and 345, not a sequence and a triplet from the same tile, not two triplets (which no hand has of one tile)
 pub peikou-not-suits : peikou (run (man 2) ∷ run (pin 2) ∷ run (sou 2) ∷ triplet East ∷ []) ≡ 0
 unfolding peikou
 peikou-not-suits = refl

@@ -43,7 +43,7 @@ suuKantsu-not-three = tt
 
 -- ---- SanAnkou
 -- 222 man, 555 pin and a closed kan of East, ron on 3 sou
-pub sanAnkou-three : T (sanAnkou (ron (sou 3)) (triplet (man 2) ∷ triplet (pin 5) ∷ closedKan East ∷ chi (sou 2) ∷ []))
+pub sanAnkou-three : T (sanAnkou (ron (sou 3)) (triplet (man 2) ∷ triplet (pin 5) ∷ closedKan East ∷ run (sou 2) ∷ []))
 unfolding sanAnkou
 sanAnkou-three = tt
 
@@ -112,7 +112,7 @@ pub doukou-three-suits : T (sanshokuDoukou (triplet (man 5) ∷ pon (pin 5) ∷ 
 unfolding sanshokuDoukou
 doukou-three-suits = tt
 
--- 999 and 111 too
+-- 999 too
 pub doukou-terminals : T (sanshokuDoukou (triplet (man 9) ∷ triplet (pin 9) ∷ triplet (sou 9) ∷ pon (sou 1) ∷ []))
 unfolding sanshokuDoukou
 doukou-terminals = tt

@@ -77,7 +77,7 @@ simple-tiles = tt
 pub terminal-or-honor-tiles : T (areJust isTerminalOrHonor orphanTiles)
 terminal-or-honor-tiles = tt
 
--- ---- Green: sou 2, 3, 4, 6, 8 and Green; not sou 5 or 7, of which a part is red, and not man or pin
+-- ---- Green: sou 2, 3, 4, 6, 8 and Green; not sou 1, 5, 7 or 9, of which a part is red, and not man or pin
 pub green-tiles : T (areJust isGreen (Green ∷ sous 23468))
 green-tiles = tt
 

@@ -2,7 +2,7 @@
 use lib.Dec.{T}
 use Rattle.played.specs.Row.{holds}
 use Rattle.played.proofs.Quick.{quick}
-use Rattle.worked_hands.specs.Fu.{fuMiddle, fuEdge, fuPair, fuPairOrSides, fuSides, fuMiddleOpen, fuCalledSequence, fuTripletRon, fuTripletTsumo, fuTripletTerminals, fuTripletHonors, fuTwoOpen, fuThreeOpen, fuSpared, fuOpenKan, fuAddedKan, fuClosedKan, fuClosedKanTerminals, fuClosedKanTsumo, fuTwoKans, fuKansAndTriplet, fuMost, fuPairTwice, fuPairOnce, fuPairSeat, fuPairDragons, fuPairOtherWind, fuPinfuTsumo, fuOpenRon, fuOpenTsumo, fuTsumoMiddle, fuSevenPairs, fuOrphans}
+use Rattle.worked_hands.specs.Fu.{fuMiddle, fuEdge, fuPair, fuPairOrSides, fuSides, fuMiddleOpen, fuCalledSequence, fuTripletRon, fuTripletTsumo, fuTripletTerminals, fuTripletHonors, fuTwoOpen, fuThreeOpen, fuSpared, fuOpenKan, fuAddedKan, fuClosedKan, fuClosedKanTerminals, fuClosedKanTsumo, fuTwoKans, fuKansAndTriplet, fuMost, fuPairTwice, fuPairOnce, fuPairNone, fuPairSeat, fuPairRound, fuPairDragons, fuPairOtherWind, fuPinfuTsumo, fuOpenRon, fuOpenTsumo, fuTsumoMiddle, fuSevenPairs, fuOrphans}
 
 -- ---- The wait
 pub fu-middle : T (holds fuMiddle)
@@ -104,9 +104,17 @@ pub fu-pair-once : T (holds fuPairOnce)
 unfolding holds
 fu-pair-once = quick fuPairOnce tt
 
+pub fu-pair-none : T (holds fuPairNone)
+unfolding holds
+fu-pair-none = quick fuPairNone tt
+
 pub fu-pair-seat : T (holds fuPairSeat)
 unfolding holds
 fu-pair-seat = quick fuPairSeat tt
+
+pub fu-pair-round : T (holds fuPairRound)
+unfolding holds
+fu-pair-round = quick fuPairRound tt
 
 pub fu-pair-dragons : T (holds fuPairDragons)
 unfolding holds

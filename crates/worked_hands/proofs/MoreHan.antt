@@ -2,7 +2,7 @@
 use lib.Dec.{T}
 use Rattle.played.specs.Row.{holds}
 use Rattle.played.proofs.Quick.{quick}
-use Rattle.worked_hands.specs.MoreHan.{doubleRiichiClosed, doubleRiichiIppatsu, doubleRiichiWithoutRiichi, doubleRiichiOpen, toitoiOpen, toitoiWithKans, toitoiClosed, toitoiSequence, sanshokuClosed, sanshokuOpen, sanshokuShifted, sanshokuTwoSuits, sanshokuDoukouOpen, sanshokuDoukouKan, sanshokuDoukouClosed, sanshokuDoukouOther, sanshokuDoukouPair, ittsuClosed, ittsuOpen, ittsuTwoSuits, ittsuShifted, pairsByRon, pairsByTsumo, pairsOfSimples, pairsOfSimplesTsumo, pairsHalfFlush, pairsFullFlush, pairsTerminalsHonors, pairsFourOfAKind, pairsSevenKinds, chantaClosed, chantaOpen, chantaHonorPair, chantaMiddle, chantaSimplePair, chantaSimpleTriplet, sanAnkouClosed, sanAnkouOpen, sanAnkouKan, sanAnkouTsumo, sanAnkouRonTriplet, sanAnkouSpared, sanAnkouCalledSequence, sanAnkouPon, sanAnkouOpenKan, sanKantsuThree, sanKantsuTwo, honroutouOpen, honroutouSequence, honroutouSimple, shousangenPair, shousangenOtherPair, shousangenOneTriplet, honitsuClosed, honitsuOpen, honitsuTwoSuits, honitsuCall, junchanClosed, junchanOpen, junchanHonors, junchanMiddle, ryanpeikouClosed, ryanpeikouFourAlike, ryanpeikouThreeAlike, ryanpeikouOpen, chinitsuClosed, chinitsuOpen, chinitsuHonors, chinitsuOtherPair}
+use Rattle.worked_hands.specs.MoreHan.{doubleRiichiClosed, doubleRiichiIppatsu, doubleRiichiWithoutRiichi, doubleRiichiOpen, toitoiOpen, toitoiWithKans, toitoiClosed, toitoiSequence, sanshokuClosed, sanshokuOpen, sanshokuShifted, sanshokuTwoSuits, sanshokuDoukouOpen, sanshokuDoukouKan, sanshokuDoukouClosed, sanshokuDoukouOther, sanshokuDoukouPair, ittsuClosed, ittsuOpen, ittsuTwoSuits, ittsuShifted, pairsByRon, pairsByTsumo, pairsOfSimples, pairsOfSimplesTsumo, pairsHalfFlush, pairsFullFlush, pairsTerminalsHonors, pairsFourOfAKind, pairsSevenKinds, chantaClosed, chantaOpen, chantaHonorPair, chantaMiddle, chantaSimplePair, chantaSimpleTriplet, sanAnkouClosed, sanAnkouOpen, sanAnkouKan, sanAnkouTsumo, sanAnkouRonTriplet, sanAnkouSpared, sanAnkouCalledSequence, sanAnkouPon, sanAnkouOpenKan, sanAnkouAddedKan, sanKantsuThree, sanKantsuTwo, honroutouOpen, honroutouSequence, honroutouSimple, shousangenPair, shousangenOtherPair, shousangenOneTriplet, honitsuClosed, honitsuOpen, honitsuTwoSuits, honitsuCall, junchanClosed, junchanOpen, junchanHonors, junchanMiddle, ryanpeikouClosed, ryanpeikouFourAlike, ryanpeikouThreeAlike, ryanpeikouOpen, chinitsuClosed, chinitsuOpen, chinitsuHonors, chinitsuOtherPair}
 
 -- ---- DoubleRiichi
 pub double-riichi-closed : T (holds doubleRiichiClosed)
@@ -191,6 +191,10 @@ san-ankou-pon = quick sanAnkouPon tt
 pub san-ankou-open-kan : T (holds sanAnkouOpenKan)
 unfolding holds
 san-ankou-open-kan = quick sanAnkouOpenKan tt
+
+pub san-ankou-added-kan : T (holds sanAnkouAddedKan)
+unfolding holds
+san-ankou-added-kan = quick sanAnkouAddedKan tt
 
 -- ---- SanKantsu
 pub san-kantsu-three : T (holds sanKantsuThree)

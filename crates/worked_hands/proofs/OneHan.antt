@@ -2,7 +2,7 @@
 use lib.Dec.{T}
 use Rattle.played.specs.Row.{holds}
 use Rattle.played.proofs.Quick.{quick}
-use Rattle.worked_hands.specs.OneHan.{riichiClosed, riichiWithClosedKan, riichiOpen, riichiNotDeclared, ippatsuAfterRiichi, ippatsuWithoutRiichi, ippatsuAfterKan, tsumoClosed, tsumoWithClosedKan, tsumoOpen, tanyaoClosed, tanyaoOpen, tanyaoTerminal, tanyaoTerminalCalled, tanyaoHonorPair, pinfuOtherWind, pinfuOtherWindTsumo, pinfuSeatWind, pinfuRoundWind, pinfuDragonPair, pinfuMiddle, pinfuEdge, pinfuLowEdge, pinfuPairWait, pinfuTriplet, pinfuOpen, pinfuEdgeOrSides, pinfuPairOrSides, iipeikouTwice, iipeikouWithClosedKan, iipeikouOpen, iipeikouTwoSuits, yakuhaiRoundEast, yakuhaiEastElsewhere, yakuhaiSeatSouth, yakuhaiSouthElsewhere, yakuhaiSeatWest, yakuhaiWestElsewhere, yakuhaiSeatNorth, yakuhaiRoundNorth, yakuhaiNorthElsewhere, yakuhaiEastTwice, yakuhaiSouthTwice, yakuhaiWestTwice, yakuhaiNorthTwice, yakuhaiWhite, yakuhaiGreen, yakuhaiRed, yakuhaiClosedTriplet, yakuhaiKan, yakuhaiWhitePair, yakuhaiGreenPair, yakuhaiRedPair, rinshanClosed, rinshanOpen, rinshanByRon, chankanAlone, chankanClosed, chankanByTsumo, haiteiAlone, haiteiClosed, haiteiAfterKan, houteiAlone, houteiClosed, houteiAndChankan, houteiEarlier}
+use Rattle.worked_hands.specs.OneHan.{riichiClosed, riichiWithClosedKan, riichiOpen, riichiNotDeclared, ippatsuAfterRiichi, ippatsuWithoutRiichi, ippatsuAfterKan, tsumoClosed, tsumoWithClosedKan, tsumoOpen, tanyaoClosed, tanyaoOpen, tanyaoTerminal, tanyaoTerminalCalled, tanyaoHonorPair, pinfuOtherWind, pinfuOtherWindTsumo, pinfuSeatWind, pinfuRoundWind, pinfuDragonPair, pinfuMiddle, pinfuEdge, pinfuLowEdge, pinfuPairWait, pinfuTriplet, pinfuOpen, pinfuEdgeOrSides, pinfuPairOrSides, iipeikouTwice, iipeikouWithClosedKan, iipeikouOpen, iipeikouTwoSuits, yakuhaiRoundEast, yakuhaiEastElsewhere, yakuhaiSeatSouth, yakuhaiRoundSouth, yakuhaiSouthElsewhere, yakuhaiSeatWest, yakuhaiRoundWest, yakuhaiWestElsewhere, yakuhaiSeatNorth, yakuhaiRoundNorth, yakuhaiNorthElsewhere, yakuhaiEastTwice, yakuhaiSouthTwice, yakuhaiWestTwice, yakuhaiNorthTwice, yakuhaiWhite, yakuhaiGreen, yakuhaiRed, yakuhaiClosedTriplet, yakuhaiKan, yakuhaiWhitePair, yakuhaiGreenPair, yakuhaiRedPair, rinshanClosed, rinshanOpen, rinshanByRon, chankanAlone, chankanClosed, chankanByTsumo, haiteiAlone, haiteiClosed, haiteiAfterKan, houteiAlone, houteiClosed, houteiAndChankan, houteiEarlier}
 
 -- ---- Riichi
 pub riichi-closed : T (holds riichiClosed)
@@ -151,6 +151,10 @@ pub yakuhai-seat-south : T (holds yakuhaiSeatSouth)
 unfolding holds
 yakuhai-seat-south = quick yakuhaiSeatSouth tt
 
+pub yakuhai-round-south : T (holds yakuhaiRoundSouth)
+unfolding holds
+yakuhai-round-south = quick yakuhaiRoundSouth tt
+
 pub yakuhai-south-elsewhere : T (holds yakuhaiSouthElsewhere)
 unfolding holds
 yakuhai-south-elsewhere = quick yakuhaiSouthElsewhere tt
@@ -158,6 +162,10 @@ yakuhai-south-elsewhere = quick yakuhaiSouthElsewhere tt
 pub yakuhai-seat-west : T (holds yakuhaiSeatWest)
 unfolding holds
 yakuhai-seat-west = quick yakuhaiSeatWest tt
+
+pub yakuhai-round-west : T (holds yakuhaiRoundWest)
+unfolding holds
+yakuhai-round-west = quick yakuhaiRoundWest tt
 
 pub yakuhai-west-elsewhere : T (holds yakuhaiWestElsewhere)
 unfolding holds

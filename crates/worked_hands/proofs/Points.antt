@@ -2,7 +2,7 @@
 use lib.Dec.{T}
 use Rattle.played.specs.Row.{holds}
 use Rattle.played.proofs.Quick.{quick}
-use Rattle.worked_hands.specs.Points.{limitBelowMangan, limitBelowManganDealer, limitFourTwenty, limitThreeSixty, limitThreeSeventy, limitFourForty, limitMangan, limitHaneman, limitBaiman, limitSanbaiman, limitCounted, dealerRon, dealerTsumo, dealerMangan, han1Fu30, han1Fu30Ron, han1Fu30DealerRon, han1Fu30Tsumo, han1Fu30DealerTsumo, han1Fu110Ron, han2Fu20Tsumo, han3Fu25Tsumo, han3Fu30Ron, han3Fu30DealerRon, han4Fu25Ron, han4Fu25DealerRon, han2Fu130, han5Fu30, han6Fu30, han7Fu30DealerRon, han8Fu30, han10Fu30DealerTsumo, han11Fu30, han12Fu30Tsumo, han13Fu30, han26Fu30, han26Fu30Yakuman, han39Fu30DealerTsumo}
+use Rattle.worked_hands.specs.Points.{limitBelowMangan, limitBelowManganDealer, limitFourTwenty, limitThreeSixty, limitThreeSeventy, limitFourForty, limitMangan, limitHaneman, limitBaiman, limitSanbaiman, limitCounted, dealerRon, dealerTsumo, dealerMangan, han1Fu30, han1Fu30Ron, han1Fu30DealerRon, han1Fu30Tsumo, han1Fu30DealerTsumo, han1Fu110Ron, han2Fu20Tsumo, han3Fu25Tsumo, han3Fu30Ron, han3Fu30DealerRon, han4Fu25Ron, han4Fu25DealerRon, han2Fu130, han5Fu30, han6Fu30, han7Fu30DealerRon, han8Fu30, han10Fu30DealerTsumo, han11Fu30, han12Fu30Tsumo, han13Fu30, han26Fu30, han26Fu30Yakuman, han39Fu30DealerTsumo, han5Fu30Yakuman, han25Fu30Yakuman, han255Fu255Yakuman, han255Fu255, han0Fu0}
 
 -- ---- Limits
 pub limit-below-mangan : T (holds limitBelowMangan)
@@ -158,3 +158,23 @@ han26-fu30-yakuman = quick han26Fu30Yakuman tt
 pub han39-fu30-dealer-tsumo : T (holds han39Fu30DealerTsumo)
 unfolding holds
 han39-fu30-dealer-tsumo = quick han39Fu30DealerTsumo tt
+
+pub han5-fu30-yakuman : T (holds han5Fu30Yakuman)
+unfolding holds
+han5-fu30-yakuman = quick han5Fu30Yakuman tt
+
+pub han25-fu30-yakuman : T (holds han25Fu30Yakuman)
+unfolding holds
+han25-fu30-yakuman = quick han25Fu30Yakuman tt
+
+pub han255-fu255-yakuman : T (holds han255Fu255Yakuman)
+unfolding holds
+han255-fu255-yakuman = quick han255Fu255Yakuman tt
+
+pub han255-fu255 : T (holds han255Fu255)
+unfolding holds
+han255-fu255 = quick han255Fu255 tt
+
+pub han0-fu0 : T (holds han0Fu0)
+unfolding holds
+han0-fu0 = quick han0Fu0 tt

@@ -2,7 +2,7 @@
 use lib.Dec.{T}
 use Rattle.played.specs.Row.{holds}
 use Rattle.played.proofs.Quick.{quick}
-use Rattle.worked_hands.specs.Readings.{choiceTriplets, choicePairsDealer, choiceMoreHan, choiceMoreFu, choiceEarlier, choiceCounted, choiceYakuman, choiceWithYaku, choiceOrder, fourAsTripletAndSequence, fourAsPair, fourAsKan, callsFour, callsNoPairs, waitsTwoSides, waitsMiddle, waitsHighEdge, waitsLowEdge, waitsTriplet, waitsPair, waitsSeveral, waitsTwice, waitsCalled, waitsSevenPairs, waitsOrphansPair, waitsOrphansOther}
+use Rattle.worked_hands.specs.Readings.{choiceTriplets, choicePairsDealer, choiceMoreHan, choiceMoreFu, choiceEarlier, choiceCounted, choiceYakuman, choiceYakumanOrNone, choiceWithYaku, choiceOrder, fourAsTripletAndSequence, fourAsPair, fourAsKan, callsFour, callsNoPairs, callsNoOrphans, waitsTwoSides, waitsMiddle, waitsHighEdge, waitsLowEdge, waitsTriplet, waitsPair, waitsSeveral, waitsTwice, waitsOfTwoReadings, waitsCalled, waitsCalledTriplet, waitsSevenPairs, waitsOrphansPair, waitsOrphansOther}
 
 -- ---- The reading that pays most is chosen; then one with more han, then with more fu, then the earlier
 pub choice-triplets : T (holds choiceTriplets)
@@ -33,6 +33,10 @@ pub choice-yakuman : T (holds choiceYakuman)
 unfolding holds
 choice-yakuman = quick choiceYakuman tt
 
+pub choice-yakuman-or-none : T (holds choiceYakumanOrNone)
+unfolding holds
+choice-yakuman-or-none = quick choiceYakumanOrNone tt
+
 pub choice-with-yaku : T (holds choiceWithYaku)
 unfolding holds
 choice-with-yaku = quick choiceWithYaku tt
@@ -62,6 +66,10 @@ calls-four = quick callsFour tt
 pub calls-no-pairs : T (holds callsNoPairs)
 unfolding holds
 calls-no-pairs = quick callsNoPairs tt
+
+pub calls-no-orphans : T (holds callsNoOrphans)
+unfolding holds
+calls-no-orphans = quick callsNoOrphans tt
 
 -- ---- Waits
 pub waits-two-sides : T (holds waitsTwoSides)
@@ -96,9 +104,17 @@ pub waits-twice : T (holds waitsTwice)
 unfolding holds
 waits-twice = quick waitsTwice tt
 
+pub waits-of-two-readings : T (holds waitsOfTwoReadings)
+unfolding holds
+waits-of-two-readings = quick waitsOfTwoReadings tt
+
 pub waits-called : T (holds waitsCalled)
 unfolding holds
 waits-called = quick waitsCalled tt
+
+pub waits-called-triplet : T (holds waitsCalledTriplet)
+unfolding holds
+waits-called-triplet = quick waitsCalledTriplet tt
 
 pub waits-seven-pairs : T (holds waitsSevenPairs)
 unfolding holds

@@ -2,7 +2,7 @@
 use lib.Dec.{T}
 use Rattle.played.specs.Row.{holds}
 use Rattle.played.proofs.Quick.{quick}
-use Rattle.worked_hands.specs.Refusals.{fiveCalls, fiveCallsFiveTiles, sequenceFromEight, sequenceOfHonors, fiveInHand, fiveWithCalls, fiveWithKan, fifteenTiles, elevenTiles, kanFourPlaces, noSuchWinType, whiteAsSeat, whiteAsRound, seatBeforeTile, tileNotInHand, tileInCallOnly, tileAbove33, noReading, oneTileAway, closedWithoutYaku, basicWinType}
+use Rattle.worked_hands.specs.Refusals.{fiveCalls, fiveCallsFiveTiles, sequenceFromEight, sequenceOfHonors, fiveInHand, fiveWithCalls, fiveWithKan, fifteenTiles, elevenTiles, kanThreePlaces, noSuchWinType, whiteAsSeat, whiteAsRound, seatBeforeTile, tileNotInHand, tileInCallOnly, tileAbove33, noReading, oneTileAway, closedWithoutYaku, basicWinType}
 
 -- ---- 2 more than four calls
 pub five-calls : T (holds fiveCalls)
@@ -45,9 +45,9 @@ pub eleven-tiles : T (holds elevenTiles)
 unfolding holds
 eleven-tiles = quick elevenTiles tt
 
-pub kan-four-places : T (holds kanFourPlaces)
+pub kan-three-places : T (holds kanThreePlaces)
 unfolding holds
-kan-four-places = quick kanFourPlaces tt
+kan-three-places = quick kanThreePlaces tt
 
 -- ---- 8 a win type or a wind out of range
 pub no-such-win-type : T (holds noSuchWinType)

@@ -2,7 +2,7 @@
 use lib.Dec.{T}
 use Rattle.played.specs.Row.{holds}
 use Rattle.played.proofs.Quick.{quick}
-use Rattle.worked_hands.specs.Yakuman.{tenhouDealer, tenhouNonDealer, tenhouByRon, tenhouOpen, tenhouClosedKan, chiihouNonDealer, chiihouDealer, chiihouByRon, kokushiByTsumo, kokushiTwelveKinds, kokushiSimple, kokushiOtherKinds, suuankouTsumo, suuankouClosedKan, suuankouRon, suuankouPon, daisangenPon, daisangenKan, daisangenPair, shousuushiiPair, shousuushiiOtherPair, daisuushiiPon, daisuushiiPair, tsuuiisouOpen, tsuuiisouPairs, tsuuiisouTerminals, chinroutouOpen, chinroutouHonors, chinroutouSequence, ryuuiisouClosed, ryuuiisouNoGreen, ryuuiisouFive, ryuuiisouRed, chuurenOther, chuurenWithoutTwo, chuurenOpen, chuurenKan, suuKantsuFour, suuKantsuThree, kokushiThirteen, kokushiThirteenDealer, kokushiOneWait, suuankouTankiRon, suuankouTankiTsumo, suuankouOnTriplet, junseiFive, junseiNine, windsAndHonors, windsConcealed, windsFourKans, windsFourKansDealer, yakumanWithRiichi, yakumanWithPairs}
+use Rattle.worked_hands.specs.Yakuman.{tenhouDealer, tenhouNonDealer, tenhouByRon, tenhouOpen, tenhouClosedKan, chiihouNonDealer, chiihouDealer, chiihouByRon, chiihouOpen, kokushiByTsumo, kokushiTwelveKinds, kokushiSimple, kokushiOtherKinds, suuankouTsumo, suuankouClosedKan, suuankouRon, suuankouPon, daisangenPon, daisangenKan, daisangenPair, shousuushiiPair, shousuushiiOtherPair, daisuushiiPon, daisuushiiPair, tsuuiisouOpen, tsuuiisouPairs, tsuuiisouTerminals, chinroutouOpen, chinroutouHonors, chinroutouSequence, ryuuiisouClosed, ryuuiisouNoGreen, ryuuiisouFive, ryuuiisouRed, chuurenOther, chuurenWithoutTwo, chuurenOpen, chuurenKan, suuKantsuFour, suuKantsuThree, kokushiThirteen, kokushiThirteenDealer, kokushiOneWait, suuankouTankiRon, suuankouTankiTsumo, suuankouOnTriplet, junseiFive, junseiNine, windsAndHonors, windsConcealed, windsFourKans, windsFourKansDealer, yakumanWithRiichi, yakumanWithPairs}
 
 -- ---- Tenhou
 pub tenhou-dealer : T (holds tenhouDealer)
@@ -37,6 +37,10 @@ chiihou-dealer = quick chiihouDealer tt
 pub chiihou-by-ron : T (holds chiihouByRon)
 unfolding holds
 chiihou-by-ron = quick chiihouByRon tt
+
+pub chiihou-open : T (holds chiihouOpen)
+unfolding holds
+chiihou-open = quick chiihouOpen tt
 
 -- ---- KokushiMusou
 pub kokushi-by-tsumo : T (holds kokushiByTsumo)

@@ -2,7 +2,7 @@
 use mathlib.Core.List.{[], _∷_, _++_}
 use Rattle.tile.specs.Named.{man, pin, sou, East, South, West, North, White, Green, Red, mans, pins, sous, orphanTiles}
 use Rattle.meld.specs.Named.{chi, pon, closedKan, openKan, addedKan}
-use Rattle.context.specs.Named.{byRon, byTsumo, riichi, southWins, dealerWins, ron, tsumo}
+use Rattle.context.specs.Named.{byRon, byTsumo, riichi, win, southWins, dealerWins, ron, tsumo}
 use Rattle.hand.specs.Named.{hand}
 use Rattle.yaku.specs.declared.names.Yaku.the-variants.{Riichi, MenzenTsumo, Tanyao, Pinfu, Chiitoitsu, SanAnkou, KokushiMusou, Tsuuiisou, SuuKantsu, SuuankouTanki}
 use Rattle.yaku.specs.Names.{yakuhaiName}
@@ -127,7 +127,7 @@ fuClosedKanTsumo =
     scored (hand (pins 234567 ++ sous 44678)) (closedKan (man 1) ∷ []) (southWins byTsumo (sou 8) (riichi ∷ []))
     (Riichi ∷ MenzenTsumo ∷ []) 2 60 Normal (Tsumo 2000 1000)
 
--- two of them: 94, so 100
+-- two of them, by ron: 30 and twice 32: 94, so 100
 abbrev pub fuTwoKans : Row
 fuTwoKans =
     scored (hand (pins 234 ++ sous 44678)) (closedKan (man 1) ∷ closedKan (pin 9) ∷ []) (southWins byRon (sou 8) (riichi ∷ []))
@@ -145,16 +145,22 @@ fuMost =
     scored (hand (White ∷ White ∷ [])) (closedKan East ∷ closedKan South ∷ closedKan West ∷ closedKan Green ∷ []) (ron White)
     (Tsuuiisou ∷ SuuKantsu ∷ SuuankouTanki ∷ []) 52 170 (Yakuman 4) (Ron 128000)
 
--- ---- The pair: 2 fu for dragons, for the round wind and for the seat wind
+-- ---- The pair: 2 fu for dragons, for the round wind and for the seat wind; a wind that is both has 4
 -- the dealer's East in the round East: 30, 8, 2 and 2: 50
 abbrev pub fuPairTwice : Row
 fuPairTwice =
     scored (hand (mans 111456 ++ pins 789 ++ sous 345 ++ (East ∷ East ∷ []))) [] (dealerWins byRon (sou 3) (riichi ∷ []))
     (Riichi ∷ []) 1 50 Normal (Ron 2400)
 
--- without the pair's fu it is 38: 40
+-- the same in the round South, where East counts once: 30, 8 and 2: 40
 abbrev pub fuPairOnce : Row
 fuPairOnce =
+    scored (hand (mans 111456 ++ pins 789 ++ sous 345 ++ (East ∷ East ∷ []))) [] (win byRon (sou 3) South East (riichi ∷ []))
+    (Riichi ∷ []) 1 40 Normal (Ron 2000)
+
+-- a pair of West has none: 38, so 40
+abbrev pub fuPairNone : Row
+fuPairNone =
     scored (hand (mans 111456 ++ pins 789 ++ sous 345 ++ (West ∷ West ∷ []))) [] (dealerWins byRon (sou 3) (riichi ∷ []))
     (Riichi ∷ []) 1 40 Normal (Ron 2000)
 
@@ -162,6 +168,12 @@ fuPairOnce =
 abbrev pub fuPairSeat : Row
 fuPairSeat =
     scored (hand (mans 123456 ++ pins 789 ++ sous 345 ++ (South ∷ South ∷ []))) [] (southWins byRon (sou 3) (riichi ∷ []))
+    (Riichi ∷ []) 1 40 Normal (Ron 1300)
+
+-- the round wind: 32, so 40
+abbrev pub fuPairRound : Row
+fuPairRound =
+    scored (hand (mans 123456 ++ pins 789 ++ sous 345 ++ (East ∷ East ∷ []))) [] (southWins byRon (sou 3) (riichi ∷ []))
     (Riichi ∷ []) 1 40 Normal (Ron 1300)
 
 -- dragons: 32, so 40

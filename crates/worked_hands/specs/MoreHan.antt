@@ -11,7 +11,7 @@ use Rattle.scoring.specs.declared.ScoreLevel.the-variants.{Normal, Mangan, Hane
 use Rattle.scoring.specs.declared.Payment.the-variants.{Ron, Tsumo}
 use Rattle.played.specs.Row.{Row, won, worth, refuses, chooses, scored, yakuless}
 
--- ---- DoubleRiichi: 2 han, Riichi before the first discard
+-- ---- DoubleRiichi: 2 han, closed, Riichi with the first discard; it counts in place of Riichi
 -- it counts in place of Riichi
 abbrev pub doubleRiichiClosed : Row
 doubleRiichiClosed =
@@ -220,7 +220,7 @@ abbrev pub chantaSimpleTriplet : Row
 chantaSimpleTriplet =
     yakuless (hand (mans 123789 ++ pins 123 ++ sous 99)) (pon (sou 5) ∷ []) (ron (pin 2)) 30 (Ron 500)
 
--- ---- SanAnkou: 2 han, three triplets that are not called
+-- ---- SanAnkou: 2 han, three triplets or closed kans, none of them called
 -- the fourth meld is a sequence
 abbrev pub sanAnkouClosed : Row
 sanAnkouClosed =
@@ -271,6 +271,11 @@ abbrev pub sanAnkouOpenKan : Row
 sanAnkouOpenKan =
     yakuless (hand (pins 55599 ++ sous 456888)) (openKan (man 2) ∷ []) (ron (sou 4)) 40 (Ron 700)
 
+-- nor with an added kan
+abbrev pub sanAnkouAddedKan : Row
+sanAnkouAddedKan =
+    yakuless (hand (pins 55599 ++ sous 456888)) (addedKan (man 2) ∷ []) (ron (sou 4)) 40 (Ron 700)
+
 -- ---- SanKantsu: 2 han, three kans
 -- of any sort
 abbrev pub sanKantsuThree : Row
@@ -302,7 +307,7 @@ honroutouSimple =
     scored (hand (sous 888 ++ (West ∷ West ∷ West ∷ North ∷ North ∷ []))) (pon (man 1) ∷ pon (pin 9) ∷ []) (ron North)
     (Toitoi ∷ []) 2 50 Normal (Ron 3200)
 
--- ---- Shousangen: 2 han, two triplets of dragons and a pair of the third
+-- ---- Shousangen: 2 han, two triplets or kans of dragons and a pair of the third
 -- the two triplets count beside it
 abbrev pub shousangenPair : Row
 shousangenPair =
@@ -378,7 +383,7 @@ ryanpeikouClosed =
     ∷ [])
     (chooses 1)
 
--- four equal sequences are twice two, and in place of Iipeikou
+-- four equal sequences are twice two; Iipeikou does not count beside it
 abbrev pub ryanpeikouFourAlike : Row
 ryanpeikouFourAlike =
     won (hand (mans 222233334444 ++ sous 55)) [] (ron (sou 5))

@@ -46,7 +46,7 @@ abbrev pub ippatsuWithoutRiichi : Row
 ippatsuWithoutRiichi =
     yakuless (hand (mans 123456 ++ pins 789 ++ sous 22555)) [] (southWins byRon (sou 5) (ippatsu ∷ [])) 40 (Ron 700)
 
--- not on the tile drawn after a kan, which has ended the turn
+-- not on the tile drawn after a kan: the kan has broken Ippatsu
 abbrev pub ippatsuAfterKan : Row
 ippatsuAfterKan =
     scored (hand (pins 345678 ++ sous 67899)) (closedKan (man 2) ∷ []) (southWins byTsumo (sou 8) (riichi ∷ ippatsu ∷ rinshan ∷ []))
@@ -98,7 +98,7 @@ abbrev pub tanyaoHonorPair : Row
 tanyaoHonorPair =
     yakuless (hand (mans 234567 ++ pins 345 ++ sous 456 ++ (North ∷ North ∷ []))) [] (ron (sou 5)) 40 (Ron 700)
 
--- ---- Pinfu: 1 han, closed, four sequences, a pair that is no yakuhai, won at two sides of a sequence
+-- ---- Pinfu: 1 han, closed, four sequences, a pair that is no yakuhai, won by a two-sided wait (Ryanmen)
 -- West is neither round nor seat wind, and 3 or 6 completes 45
 abbrev pub pinfuOtherWind : Row
 pinfuOtherWind =
@@ -209,6 +209,12 @@ yakuhaiSeatSouth =
     scored (hand (mans 234 ++ pins 567 ++ sous 67899)) (pon South ∷ []) (ron (sou 8))
     (yakuhaiName South ∷ []) 1 30 Normal (Ron 1000)
 
+-- South in the round South
+abbrev pub yakuhaiRoundSouth : Row
+yakuhaiRoundSouth =
+    scored (hand (mans 234 ++ pins 567 ++ sous 67899)) (pon South ∷ []) (win byRon (sou 8) South West [])
+    (yakuhaiName South ∷ []) 1 30 Normal (Ron 1000)
+
 -- not South for the seat West in the round East
 abbrev pub yakuhaiSouthElsewhere : Row
 yakuhaiSouthElsewhere =
@@ -218,6 +224,12 @@ yakuhaiSouthElsewhere =
 abbrev pub yakuhaiSeatWest : Row
 yakuhaiSeatWest =
     scored (hand (mans 234 ++ pins 567 ++ sous 67899)) (pon West ∷ []) (win byRon (sou 8) East West [])
+    (yakuhaiName West ∷ []) 1 30 Normal (Ron 1000)
+
+-- West in the round West
+abbrev pub yakuhaiRoundWest : Row
+yakuhaiRoundWest =
+    scored (hand (mans 234 ++ pins 567 ++ sous 67899)) (pon West ∷ []) (win byRon (sou 8) West South [])
     (yakuhaiName West ∷ []) 1 30 Normal (Ron 1000)
 
 -- not West for the seat South in the round East

@@ -11,8 +11,9 @@ use Rattle.scoring.specs.declared.ScoreLevel.the-variants.{Normal, Mangan, Hane
 use Rattle.scoring.specs.declared.Payment.the-variants.{Ron, DealerTsumo, Tsumo}
 use Rattle.played.specs.Row.{dealer, nonDealer, yakuman, noYakuman, Row, valued, paid, scored}
 
--- ---- Limits: 5 han is a mangan, 6 and 7 a haneman, 8 to 10 a baiman, 11 and 12 a sanbaiman, 13 a yakuman
--- 4 han 30 fu is just below: 7,700, by the dealer 11,600
+-- ---- Limits: 5 han is a mangan, 6 and 7 a haneman, 8 to 10 a baiman, 11 and 12 a sanbaiman,
+-- 13 and more a yakuman
+-- 4 han 30 fu is just below: 7,700, the dealer gets 11,600
 abbrev pub limitBelowMangan : Row
 limitBelowMangan =
     scored (hand (mans 223344 ++ pins 678 ++ sous 55567)) [] (southWins byRon (sou 7) (riichi ∷ []))
@@ -96,8 +97,8 @@ dealerMangan =
     scored (hand (mans 234678 ++ pins 345 ++ sous 22567)) [] (dealerWins byRon (sou 7) (riichi ∷ ippatsu ∷ lastTile ∷ []))
     (Riichi ∷ Ippatsu ∷ Tanyao ∷ Pinfu ∷ HouteiRaoyui ∷ []) 5 30 Mangan (Ron 12000)
 
--- ---- Points: round up to 100 once, after multiplication: ron 4 times basic, the dealer 6 times; tsumo 2 times from the dealer and 1 time from
--- others
+-- ---- Points: round up to 100 once, after multiplication: ron 4 times basic, to the dealer 6 times; tsumo 2 times from the dealer and once from
+-- each other, or 2 times from each to the dealer
 -- 1 han 30 fu: 240; by ron 960 and 1,440 round up, by tsumo 480 and 240
 abbrev pub han1Fu30 : Row
 han1Fu30 = valued 1 30 noYakuman Normal 240
@@ -114,7 +115,7 @@ han1Fu30Tsumo = paid 1 30 noYakuman byTsumo nonDealer (Tsumo 500 300)
 abbrev pub han1Fu30DealerTsumo : Row
 han1Fu30DealerTsumo = paid 1 30 noYakuman byTsumo dealer (DealerTsumo 500)
 
--- the most with 1 han by ron
+-- 1 han 110 fu, the last line of a rulebook's table for 1 han: 880
 abbrev pub han1Fu110Ron : Row
 han1Fu110Ron = paid 1 110 noYakuman byRon nonDealer (Ron 3600)
 
@@ -178,3 +179,25 @@ han26Fu30Yakuman = valued 26 30 yakuman (Yakuman 2) 16000
 
 abbrev pub han39Fu30DealerTsumo : Row
 han39Fu30DealerTsumo = paid 39 30 yakuman byTsumo dealer (DealerTsumo 48000)
+
+-- with a yakuman at least one, and one for each full 13 han: 255 han are 19, from which the 152,000 of payment comes
+abbrev pub han5Fu30Yakuman : Row
+han5Fu30Yakuman =
+    valued 5 30 yakuman (Yakuman 1) 8000
+
+abbrev pub han25Fu30Yakuman : Row
+han25Fu30Yakuman =
+    valued 25 30 yakuman (Yakuman 1) 8000
+
+abbrev pub han255Fu255Yakuman : Row
+han255Fu255Yakuman =
+    valued 255 255 yakuman (Yakuman 19) 152000
+
+-- the ends without one
+abbrev pub han255Fu255 : Row
+han255Fu255 =
+    valued 255 255 noYakuman (Yakuman 1) 8000
+
+abbrev pub han0Fu0 : Row
+han0Fu0 =
+    valued 0 0 noYakuman Normal 0

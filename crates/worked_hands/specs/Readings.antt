@@ -1,7 +1,7 @@
 -- Hands with several readings, the choice among them, and waits, by worked hands. The winner is seat South in the round East, if nothing else is
 -- said. These are definitions.
 use mathlib.Core.List.{[], _∷_, _++_}
-use Rattle.tile.specs.Named.{man, pin, sou, East, West, White, Green, Red, mans, pins, sous, orphanTiles}
+use Rattle.tile.specs.Named.{man, pin, sou, East, South, West, North, White, Green, Red, mans, pins, sous, orphanTiles}
 use Rattle.meld.specs.Named.{chi, pon, closedKan, addedKan}
 use Rattle.context.specs.Named.{byRon, riichi, ippatsu, southWins, dealerWins, ron, tsumo}
 use Rattle.hand.specs.Named.{hand}
@@ -11,7 +11,7 @@ use Rattle.scoring.specs.declared.ScoreLevel.the-variants.{Normal, Mangan, Hane
 use Rattle.scoring.specs.declared.Payment.the-variants.{Ron, Tsumo}
 use Rattle.played.specs.Row.{Ryanmen, Kanchan, Penchan, Shanpon, Tanki, Kokushi13, Row, won, waiting, worth, refuses, chooses, scored}
 
--- ---- The reading that pays most is chosen; then one with more han, then with more fu, then the earlier
+-- ---- The reading with a yaku that pays most is chosen; of equal totals a yakuman before none, then more han, more fu, the earlier record
 -- three sequences or three triplets: the triplets pay more
 abbrev pub choiceTriplets : Row
 choiceTriplets =
@@ -72,12 +72,21 @@ choiceCounted =
     ∷ [])
     (chooses 1)
 
--- one reading is a yakuman, the other is not
+-- both readings are a yakuman; as triplets it counts twice
 abbrev pub choiceYakuman : Row
 choiceYakuman =
     won (hand (sous 222333444666 ++ (Green ∷ Green ∷ []))) [] (tsumo (sou 6))
     (worth (Ryuuiisou ∷ []) 13 30 (Yakuman 1) (Tsumo 16000 8000)
     ∷ worth (Suuankou ∷ Ryuuiisou ∷ []) 26 40 (Yakuman 2) (Tsumo 32000 16000)
+    ∷ [])
+    (chooses 1)
+
+-- as triplets it is a yakuman, as sequences it is none
+abbrev pub choiceYakumanOrNone : Row
+choiceYakumanOrNone =
+    won (hand (mans 222333444 ++ pins 666 ++ sous 88)) [] (tsumo (pin 6))
+    (worth (MenzenTsumo ∷ Tanyao ∷ Iipeikou ∷ []) 3 30 Normal (Tsumo 2000 1000)
+    ∷ worth (Suuankou ∷ []) 13 40 (Yakuman 1) (Tsumo 16000 8000)
     ∷ [])
     (chooses 1)
 
@@ -127,10 +136,15 @@ callsFour =
     scored (hand (White ∷ White ∷ [])) (chi (man 1) ∷ pon (pin 5) ∷ closedKan (sou 9) ∷ addedKan East ∷ []) (ron White)
     (yakuhaiName East ∷ []) 1 80 Normal (Ron 2600)
 
--- with calls there are no seven pairs: four pairs and a called triplet have no reading
+-- with a call there are no seven pairs: five pairs, a single tile and a called triplet have no reading
 abbrev pub callsNoPairs : Row
 callsNoPairs =
     won (hand (mans 1122 ++ pins 3344 ++ sous 556)) (pon Red ∷ []) (ron (sou 6)) [] (refuses 10)
+
+-- nor thirteen orphans: eleven of them and a called triplet of the twelfth
+abbrev pub callsNoOrphans : Row
+callsNoOrphans =
+    won (hand (mans 19 ++ pins 19 ++ sous 19 ++ (East ∷ South ∷ West ∷ North ∷ White ∷ []))) (pon Red ∷ []) (ron White) [] (refuses 10)
 
 -- ---- Waits: what the winning tile can have completed, named for each reading
 -- 45 and 3
@@ -180,10 +194,22 @@ waitsTwice =
     waiting (hand (mans 223344 ++ pins 678 ++ sous 55567)) [] (ron (man 4))
     ((Ryanmen ∷ Ryanmen ∷ []) ∷ [])
 
+-- each reading has its own: in the middle of three sequences, or a triplet
+abbrev pub waitsOfTwoReadings : Row
+waitsOfTwoReadings =
+    waiting (hand (mans 222333444 ++ pins 678 ++ (North ∷ North ∷ []))) [] (ron (man 3))
+    ((Kanchan ∷ Kanchan ∷ Kanchan ∷ []) ∷ (Shanpon ∷ []) ∷ [])
+
 -- calls give none: the 2 of the called 123 does not count, that of 234 does
 abbrev pub waitsCalled : Row
 waitsCalled =
     waiting (hand (mans 234 ++ pins 99 ++ (White ∷ White ∷ White ∷ []))) (chi (man 1) ∷ pon (sou 5) ∷ []) (ron (man 2))
+    ((Ryanmen ∷ []) ∷ [])
+
+-- nor does a called triplet: the 3 completed 345
+abbrev pub waitsCalledTriplet : Row
+waitsCalledTriplet =
+    waiting (hand (mans 345 ++ pins 234 ++ sous 67899)) (pon (man 3) ∷ []) (ron (man 3))
     ((Ryanmen ∷ []) ∷ [])
 
 -- seven pairs wait on the pair
@@ -192,7 +218,7 @@ waitsSevenPairs =
     waiting (hand (mans 1122 ++ pins 3344 ++ sous 5566 ++ (Red ∷ Red ∷ []))) [] (ron Red)
     ((Tanki ∷ []) ∷ [])
 
--- thirteen orphans: Tanki where the pair is the winning tile, else Kokushi13
+-- thirteen orphans, by agari's names: Tanki where the pair is the winning tile, else Kokushi13, the other way round than players do
 abbrev pub waitsOrphansPair : Row
 waitsOrphansPair =
     waiting (hand (man 1 ∷ orphanTiles)) [] (ron (man 1))

@@ -18,7 +18,7 @@ abbrev pub fiveCallsFiveTiles : Row
 fiveCallsFiveTiles =
     won (hand (White ∷ White ∷ White ∷ White ∷ White ∷ [])) (chi (man 1) ∷ chi (man 1) ∷ chi (man 1) ∷ chi (man 1) ∷ chi (man 1) ∷ []) (ron White) [] (refuses 2)
 
--- ---- 3 a call's tile does not fit its kind
+-- ---- 3 a call's kind or tile is not that of a call
 -- a sequence that would start at 8
 abbrev pub sequenceFromEight : Row
 sequenceFromEight =
@@ -53,10 +53,10 @@ abbrev pub elevenTiles : Row
 elevenTiles =
     won (hand (mans 55 ++ pins 456 ++ sous 234678)) [] (ron (sou 8)) [] (refuses 6)
 
--- a kan takes three places like any call
-abbrev pub kanFourPlaces : Row
-kanFourPlaces =
-    won (hand (pins 2345 ++ sous 44678)) (closedKan (man 1) ∷ []) (ron (sou 8)) [] (refuses 6)
+-- a kan takes three places like any call: 10 tiles beside it are one too few
+abbrev pub kanThreePlaces : Row
+kanThreePlaces =
+    won (hand (pins 23456 ++ sous 44678)) (closedKan (man 1) ∷ []) (ron (sou 8)) [] (refuses 6)
 
 -- ---- 8 a win type or a wind out of range
 abbrev pub noSuchWinType : Row
@@ -90,7 +90,7 @@ abbrev pub tileAbove33 : Row
 tileAbove33 =
     won (hand (mans 12355 ++ pins 456 ++ sous 234678)) [] (ron 34) [] (refuses 9)
 
--- ---- 10 no reading: by number every reading is refused with 12
+-- ---- 10 no reading: by number 0 it is refused with 12
 abbrev pub noReading : Row
 noReading =
     won (hand (mans 1379 ++ pins 1379 ++ sous 1379 ++ (East ∷ South ∷ []))) [] (ron East) [] (refuses 10)

@@ -35,7 +35,7 @@ abbrev pub tenhouOpen : Row
 tenhouOpen =
     yakuless (hand (mans 55 ++ pins 456 ++ sous 234678)) (chi (man 1) ∷ []) (dealerWins byTsumo (sou 8) (tenhou ∷ [])) 30 (DealerTsumo 300)
 
--- a closed kan leaves the hand closed
+-- as agari has it, a closed kan does not take it away: the flag and a closed hand are all that is asked (docs/DIFFERENCES.md)
 abbrev pub tenhouClosedKan : Row
 tenhouClosedKan =
     scored (hand (pins 345678 ++ sous 67899)) (closedKan (man 2) ∷ []) (dealerWins byTsumo (sou 8) (tenhou ∷ []))
@@ -60,6 +60,11 @@ chiihouByRon =
     scored (hand (mans 12355 ++ pins 456 ++ sous 234678)) [] (southWins byRon (sou 8) (chiihou ∷ []))
     (Pinfu ∷ []) 1 30 Normal (Ron 1000)
 
+-- not in an open hand
+abbrev pub chiihouOpen : Row
+chiihouOpen =
+    yakuless (hand (mans 55 ++ pins 456 ++ sous 234678)) (chi (man 1) ∷ []) (southWins byTsumo (sou 8) (chiihou ∷ [])) 30 (Tsumo 300 200)
+
 -- ---- KokushiMusou: thirteen orphans, one of each terminal and honor and one of them twice
 -- by tsumo on a tile that is there once
 abbrev pub kokushiByTsumo : Row
@@ -77,7 +82,7 @@ abbrev pub kokushiSimple : Row
 kokushiSimple =
     won (hand (mans 112 ++ pins 19 ++ sous 19 ++ (East ∷ South ∷ West ∷ North ∷ White ∷ Green ∷ Red ∷ []))) [] (ron (pin 9)) [] (refuses 10)
 
--- not by thirteen other kinds of tile
+-- not by thirteen kinds of tile that are not all terminals and honors
 abbrev pub kokushiOtherKinds : Row
 kokushiOtherKinds =
     won (hand (mans 1123456789 ++ (East ∷ South ∷ West ∷ North ∷ []))) [] (ron (man 1)) [] (refuses 10)
@@ -126,7 +131,7 @@ daisangenPair =
     scored (hand (mans 234 ++ pins 678 ++ (White ∷ White ∷ White ∷ Green ∷ Green ∷ []))) (pon Red ∷ []) (ron (pin 8))
     (yakuhaiName White ∷ yakuhaiName Red ∷ Shousangen ∷ []) 4 40 Mangan (Ron 8000)
 
--- ---- Shousuushii: three triplets of winds and a pair of the fourth
+-- ---- Shousuushii: three triplets or kans of winds and a pair of the fourth
 -- the fourth meld is anything
 abbrev pub shousuushiiPair : Row
 shousuushiiPair =
@@ -139,7 +144,7 @@ shousuushiiOtherPair =
     scored (hand (mans 234 ++ pins 99 ++ (South ∷ South ∷ South ∷ West ∷ West ∷ West ∷ []))) (pon East ∷ []) (ron (man 4))
     (yakuhaiName East ∷ yakuhaiName South ∷ []) 2 40 Normal (Ron 2600)
 
--- ---- Daisuushii: a triplet of each wind, counted twice
+-- ---- Daisuushii: a triplet or kan of each wind, counted twice
 -- any pair
 abbrev pub daisuushiiPon : Row
 daisuushiiPon =
@@ -328,6 +333,7 @@ windsFourKansDealer =
     scored (hand (White ∷ White ∷ [])) (closedKan East ∷ closedKan South ∷ closedKan West ∷ closedKan North ∷ []) (dealerWins byRon White [])
     (Daisuushii ∷ Tsuuiisou ∷ SuuKantsu ∷ SuuankouTanki ∷ []) 78 170 (Yakuman 6) (Ron 288000)
 
+-- ---- A yakuman leaves every other yaku out
 -- Riichi, Ippatsu and MenzenTsumo do not count beside one
 abbrev pub yakumanWithRiichi : Row
 yakumanWithRiichi =
