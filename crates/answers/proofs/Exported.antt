@@ -57,19 +57,6 @@ paid-settled true true basic = record { from-discarder = refl; from-dealer = ref
 
 -- ---- a payment for any numbers
 module _ (basic : ℕ) (dealer : Bool) (winType : ℕ) where
-  -- its number: 8 for a win type that is neither ron nor tsumo, 13 for basic points above 152,000, 0 where it is given
-  pub payment-number :
-      paymentValues (paymentAnswer basic dealer winType) .number ≡ cond (ltb 1 winType) 8 (cond (ltb 152000 basic) 13 0)
-  unfolding paymentAnswer payment
-  payment-number = go (ltb 1 winType) (ltb 152000 basic) (eqb winType 1) dealer
-    where
-      go : (a b tsumo dealer : Bool) → paymentValues (cond a (Refused 8) (cond b (Refused 13) (Paid (payment tsumo dealer basic)))) .number ≡ cond a 8 (cond b 13 0)
-      go true b tsumo dealer = refl
-      go false true tsumo dealer = refl
-      go false false false dealer = refl
-      go false false true false = refl
-      go false false true true = refl
-
   -- where it is not refused, its amounts and its total are those of the settlement
   pub payment-settled :
       paymentValues (paymentAnswer basic dealer winType) .number ≡ 0

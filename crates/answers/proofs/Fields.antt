@@ -39,12 +39,14 @@ values-of w opened s r n = record { reading-is = refl; tallies-are = refl; han-a
 module _ (cs : List ℕ) (k : Calls) (w : GameContext) (passes : winCheck cs k w ≡ 0) where
   -- by its number, of the reading r that stands at the number n
   module _ (n : ℕ) (r : Reading) (stands : StandsAt r n (handReadings cs k)) where
+    -- its values are those of r: the number n, the tallies, the han they add up to, the fu, and whether there is a yakuman
     pub reading-values : ValuesOf w (isOpened k) (tilesTogether cs k w) r n (scoreValues (scoreReading cs k w n))
     unfolding scoreIn
     reading-values =
         subst (λ (a : ScoreAnswer). ValuesOf w (isOpened k) (tilesTogether cs k w) r n (scoreValues a)) (sym (scored-at cs k w passes n r stands))
         (values-of w (isOpened k) (tilesTogether cs k w) r n)
 
+    -- its waits are those of the winning tile in r
     pub waits-values : waitsValues (nameWaits cs k w n) .waits ≡ waits (w .«winning_tile») r
     waits-values = ap (λ (a : WaitsAnswer). waitsValues a .waits) (named-at cs k w passes n r stands)
 
