@@ -7,15 +7,11 @@ use native.Mathlib.Decide.{ℕ-discrete}
 use native.Mathlib.Omega.{arith}
 use lib.Dec.{eqb, leb, ltb}
 use lib.ListN.{length, replicate}
-use borrow.Author.Tests.{eqb-false}
 use Rattle.context.specs.declared.GameContext.{GameContext}
 use Rattle.context.specs.Context.{isDealer, isTsumo}
 use Rattle.hand.specs.Reading.{Reading}
 use Rattle.checks.specs.declared.Calls.{Calls}
-use Rattle.checks.specs.Checks.{handCheck}
-use Rattle.unit.specs.declared.Listing.{Listing}
-use Rattle.unit.specs.declared.Listing.the-variants.{Refused as RefusedListing, Listed}
-use Rattle.unit.specs.Listing.{handReadings, handRecords, listing}
+use Rattle.unit.specs.Listing.{handReadings}
 use Rattle.scoring.specs.declared.Payment.{Payment}
 use Rattle.scoring.specs.declared.Payment.the-variants.{Ron, DealerTsumo, Tsumo}
 use Rattle.scoring.specs.declared.PaymentAnswer.{PaymentAnswer}
@@ -33,7 +29,7 @@ use Rattle.win_promises.proofs.Outcomes.{Outcome, without-score, without-yaku, 
 use Rattle.win_promises.proofs.Winning.{chosen-has-yaku}
 use Rattle.answers.specs.declared.PaymentValues.{PaymentValues}
 use Rattle.answers.specs.declared.ScoreValues.{ScoreValues}
-use Rattle.answers.specs.Answers.{listingAnswer, levelAnswer, paid, paymentValues, scoreValues, waitsValues}
+use Rattle.answers.specs.Answers.{levelAnswer, paid, paymentValues, scoreValues, waitsValues}
 
 -- ---- who pays what, for these basic points: by ron the discarder pays 4 × basic, to the dealer 6 ×, and nobody else pays; by tsumo each
 -- other player pays the dealer 2 × basic, and to another winner the dealer pays 2 × and each other player 1 ×; each amount is rounded up
@@ -193,24 +189,3 @@ payment-refusal (Refused n) f = refl
 payment-refusal (Paid (Ron n)) f = absurd (f refl)
 payment-refusal (Paid (DealerTsumo n)) f = absurd (f refl)
 payment-refusal (Paid (Tsumo d n)) f = absurd (f refl)
-
--- ---- a listing: accepted, how many readings the hand has and how many bytes their records; refused, the number and 0 in both places
-module _ (cs : List ℕ) (k : Calls) (room : ℕ) where
-  abbrev Counted : Listing → Type 0
-  Counted a = listingAnswer a .number ≡ 0 → (listingAnswer a .readings ≡ length (handReadings cs k)) × (listingAnswer a .bytes ≡ length (handRecords cs k))
-
-  pub listing-counts : Counted (listing cs k room)
-  unfolding listing
-  listing-counts = checked (eqb (handCheck cs k) 0) (eqb-false (handCheck cs k) 0)
-    where
-      fits : (b : Bool) → Counted (cond b (Listed (length (handReadings cs k)) (length (handRecords cs k))) (RefusedListing 7))
-      fits true e = (refl, refl)
-      fits false e = absurd (omega arith)
-
-      checked : (b : Bool) → (b ≡ false → handCheck cs k ≡ 0 → ⊥) → Counted (cond b (cond (leb (length (handRecords cs k)) room) (Listed (length (handReadings cs k)) (length (handRecords cs k))) (RefusedListing 7)) (RefusedListing (handCheck cs k)))
-      checked true f e = fits (leb (length (handRecords cs k)) room) e
-      checked false f e = absurd (f refl e)
-
-pub listing-refusal : (a : Listing) → (listingAnswer a .number ≡ 0 → ⊥) → listingAnswer a ≡ record { number = listingAnswer a .number; readings = 0; bytes = 0 }
-listing-refusal (RefusedListing n) f = refl
-listing-refusal (Listed readings bytes) f = absurd (f refl)

@@ -1,4 +1,5 @@
 pub mod Numbers
 pub mod Exported
 pub mod Fields
+pub mod Written
 pub mod Examples
