@@ -1,12 +1,12 @@
 -- The numbers that are answered: who pays what and the total, level and basic points, and what stands beside a refusal. Assumes nothing.
 use mathlib.Core.Path.{_≡_, refl, sym, ap, subst, _∙_}
-use mathlib.Core.Bool.{Bool, true, false, _&&_, not, cond}
+use mathlib.Core.Bool.{Bool, true, false, cond}
 use mathlib.Core.List.{List, [], _∷_}
 use Prim.Native.Nat.{ℕ, zero, suc, _+_, _*_}
 use native.Mathlib.Decide.{ℕ-discrete}
 use native.Mathlib.Omega.{arith}
-use lib.Dec.{eqb, leb, ltb}
-use lib.ListN.{length, replicate}
+use lib.Dec.{eqb, ltb}
+use lib.ListN.{replicate}
 use Rattle.context.specs.declared.GameContext.{GameContext}
 use Rattle.context.specs.Context.{isDealer, isTsumo}
 use Rattle.hand.specs.Reading.{Reading}
@@ -23,10 +23,10 @@ use Rattle.reading_score.proofs.Ranks.{Priced, score-priced}
 use Rattle.choice.specs.declared.ScoreAnswer.{ScoreAnswer}
 use Rattle.choice.specs.Choice.{refused, scored}
 use Rattle.win.specs.declared.WaitsAnswer.{WaitsAnswer}
-use Rattle.win.specs.Win.{isOpened, tilesTogether, winCheck, scoreIn, scores, scoreWin, scoreReading, refusedWaits, namedWaits, nameWaits}
-use Rattle.win.proofs.Answers.{win-refused, reading-refused, waits-refused, win-choice, reading-picked, waits-picked}
-use Rattle.win_promises.proofs.Outcomes.{Outcome, without-score, without-yaku, with-score, outcome}
+use Rattle.win.specs.Win.{isOpened, tilesTogether, winCheck, scoreIn, scoreWin, scoreReading, nameWaits}
+use Rattle.win.proofs.Answers.{win-refused, reading-refused, reading-picked}
 use Rattle.win_promises.proofs.Winning.{chosen-has-yaku}
+use Rattle.win_promises.proofs.Refusals.{score-refused, number-refused, waits-refused-alone}
 use Rattle.answers.specs.declared.PaymentValues.{PaymentValues}
 use Rattle.answers.specs.declared.ScoreValues.{ScoreValues}
 use Rattle.answers.specs.Answers.{levelAnswer, paid, paymentValues, scoreValues, waitsValues}
@@ -44,6 +44,7 @@ pub record Settled (tsumo dealer : Bool) (basic discarder theDealer other total 
 abbrev SettledBy : Bool → Bool → ℕ → PaymentValues → Type 0
 SettledBy tsumo dealer basic v = Settled tsumo dealer basic (v .«from_discarder») (v .«from_dealer») (v .«from_non_dealer») (v .total)
 
+-- so a payment that is given is answered
 pub paid-settled : (tsumo dealer : Bool) (basic : ℕ) → SettledBy tsumo dealer basic (paid (payment tsumo dealer basic))
 unfolding payment
 paid-settled false false basic = record { from-discarder = refl; from-dealer = refl; from-others = refl; together = omega arith }
@@ -100,86 +101,56 @@ refusal n =
       total = 0;
     }
 
--- an answer is a refusal, or a reading's score
-data Either (P : ScoreAnswer → Type 0) (a : ScoreAnswer) : Type 0 where
-  is-refused : (n : ℕ) → (n ≡ 0 → ⊥) → a ≡ refused n → Either P a
-  is-scored : a .number ≡ 0 → P a → Either P a
-
-either-scored : {P : ScoreAnswer → Type 0} {a : ScoreAnswer} → Either P a → scoreValues a .number ≡ 0 → P a
-either-scored (is-refused n f q) e = absurd (f (sym (ap (λ (b : ScoreAnswer). b .number) q) ∙ e))
-either-scored (is-scored e p) e′ = p
-
-either-refused : {P : ScoreAnswer → Type 0} {a : ScoreAnswer} → Either P a → (scoreValues a .number ≡ 0 → ⊥) → scoreValues a ≡ refusal (scoreValues a .number)
-either-refused (is-refused n f q) g = subst (λ (b : ScoreAnswer). scoreValues b ≡ refusal (scoreValues b .number)) (sym q) refl
-either-refused (is-scored e p) g = absurd (g e)
-
--- named waits, or none of the six
-abbrev None : WaitsAnswer → Type 0
-None a = (waitsValues a .number ≡ 0 → ⊥) → waitsValues a .waits ≡ replicate 6 0
-
 module _ (cs : List ℕ) (k : Calls) (w : GameContext) where
   abbrev Scored : ScoreAnswer → Type 0
-  Scored a = Priced (isTsumo w) (isDealer w) (a .score)
+  Scored a = a .number ≡ 0 → Priced (isTsumo w) (isDealer w) (a .score)
 
   priced : (r : Reading) → Priced (isTsumo w) (isDealer w) (scoreIn cs k w r)
   unfolding scoreIn
   priced r = score-priced w (isOpened k) (tilesTogether cs k w) r
 
-  of-win : Either Scored (scoreWin cs k w)
-  of-win = go (ℕ-discrete (winCheck cs k w) 0)
+  -- ---- a win
+  of-win : Scored (scoreWin cs k w)
+  of-win e = go (ℕ-discrete (winCheck cs k w) 0)
     where
-      chosen : winCheck cs k w ≡ 0 → Outcome (scores cs k w) → Either Scored (scoreWin cs k w)
-      chosen p (without-score f a) = is-refused 10 (λ z. omega arith) (win-choice cs k w p ∙ a)
-      chosen p (without-yaku f g a) = is-refused 11 (λ z. omega arith) (win-choice cs k w p ∙ a)
-      chosen p (with-score i x c a) =
-          let e = ap (λ (b : ScoreAnswer). b .number) (win-choice cs k w p ∙ a) in
-          let r = chosen-has-yaku cs k w p e in
-          is-scored e (subst (Priced (isTsumo w) (isDealer w)) (sym (r .score)) (priced (r .reading)))
+      go : Dec (winCheck cs k w ≡ 0) → Priced (isTsumo w) (isDealer w) (scoreWin cs k w .score)
+      go (yes p) = let r = chosen-has-yaku cs k w p e in subst (Priced (isTsumo w) (isDealer w)) (sym (r .score)) (priced (r .reading))
+      go (no f) = absurd (f (ap (λ (a : ScoreAnswer). a .number) (win-refused cs k w (winCheck cs k w) refl f) ∙ e))
 
-      go : Dec (winCheck cs k w ≡ 0) → Either Scored (scoreWin cs k w)
-      go (yes p) = chosen p (outcome (scores cs k w))
-      go (no f) = is-refused (winCheck cs k w) f (sym (win-refused cs k w (winCheck cs k w) refl f))
+  -- where it is not refused: its worth
+  pub win-worth : scoreValues (scoreWin cs k w) .number ≡ 0 → Worth (isTsumo w) (isDealer w) (scoreValues (scoreWin cs k w))
+  win-worth e = worth (isTsumo w) (isDealer w) (scoreWin cs k w) (of-win e)
 
+  -- refused: the number, and 0 in every other place
+  pub win-refusal : (scoreValues (scoreWin cs k w) .number ≡ 0 → ⊥) → scoreValues (scoreWin cs k w) ≡ refusal (scoreValues (scoreWin cs k w) .number)
+  win-refusal f = ap scoreValues (score-refused cs k w f)
+
+  -- ---- a reading by its number
   module _ (n : ℕ) where
-    of-reading : Either Scored (scoreReading cs k w n)
+    of-reading : Scored (scoreReading cs k w n)
     of-reading = go (ℕ-discrete (winCheck cs k w) 0)
       where
-        picked : (l : List Reading) (m : ℕ) → Either Scored (pickAt (refused 12) (λ r. scored n (scoreIn cs k w r)) l m)
-        picked [] m = is-refused 12 (λ z. omega arith) refl
-        picked (r ∷ l) zero = is-scored refl (priced r)
-        picked (r ∷ l) (suc m) = picked l m
+        picked : (l : List Reading) (m : ℕ) → Scored (pickAt (refused 12) (λ r. scored n (scoreIn cs k w r)) l m)
+        picked [] m e = absurd (omega arith)
+        picked (r ∷ l) zero e = priced r
+        picked (r ∷ l) (suc m) e = picked l m e
 
-        go : Dec (winCheck cs k w ≡ 0) → Either Scored (scoreReading cs k w n)
-        go (yes p) = subst (Either Scored) (sym (reading-picked cs k w p n)) (picked (handReadings cs k) n)
-        go (no f) = is-refused (winCheck cs k w) f (sym (reading-refused cs k w (winCheck cs k w) refl f n))
+        go : Dec (winCheck cs k w ≡ 0) → Scored (scoreReading cs k w n)
+        go (yes p) = subst Scored (sym (reading-picked cs k w p n)) (picked (handReadings cs k) n)
+        go (no f) = λ e. absurd (f (ap (λ (a : ScoreAnswer). a .number) (reading-refused cs k w (winCheck cs k w) refl f n) ∙ e))
 
-    -- a reading by its number: where it is not refused, its worth; refused, the number and 0 in every other place
+    -- where it is not refused: its worth
     pub reading-worth : scoreValues (scoreReading cs k w n) .number ≡ 0 → Worth (isTsumo w) (isDealer w) (scoreValues (scoreReading cs k w n))
-    reading-worth e = worth (isTsumo w) (isDealer w) (scoreReading cs k w n) (either-scored of-reading e)
+    reading-worth e = worth (isTsumo w) (isDealer w) (scoreReading cs k w n) (of-reading e)
 
+    -- refused: the number, and 0 in every other place
     pub reading-refusal :
         (scoreValues (scoreReading cs k w n) .number ≡ 0 → ⊥) → scoreValues (scoreReading cs k w n) ≡ refusal (scoreValues (scoreReading cs k w n) .number)
-    reading-refusal = either-refused of-reading
+    reading-refusal f = ap scoreValues (number-refused cs k w n f)
 
-    -- the waits of a reading: refused, the number and six times 0
-    pub waits-refusal : None (nameWaits cs k w n)
-    waits-refusal = go (ℕ-discrete (winCheck cs k w) 0)
-      where
-        picked : (f : Reading → List ℕ) (l : List Reading) (m : ℕ) → None (pickAt (refusedWaits 12) (λ r. namedWaits (f r)) l m)
-        picked f [] m g = refl
-        picked f (r ∷ l) zero g = absurd (g refl)
-        picked f (r ∷ l) (suc m) g = picked f l m g
-
-        go : Dec (winCheck cs k w ≡ 0) → None (nameWaits cs k w n)
-        go (yes p) = subst None (sym (waits-picked cs k w p n)) (picked _ (handReadings cs k) n)
-        go (no f) = subst None (waits-refused cs k w (winCheck cs k w) refl f n) (λ g. refl)
-
-  -- a win: where it is not refused, its worth; refused, the number and 0 in every other place
-  pub win-worth : scoreValues (scoreWin cs k w) .number ≡ 0 → Worth (isTsumo w) (isDealer w) (scoreValues (scoreWin cs k w))
-  win-worth e = worth (isTsumo w) (isDealer w) (scoreWin cs k w) (either-scored of-win e)
-
-  pub win-refusal : (scoreValues (scoreWin cs k w) .number ≡ 0 → ⊥) → scoreValues (scoreWin cs k w) ≡ refusal (scoreValues (scoreWin cs k w) .number)
-  win-refusal = either-refused of-win
+    -- its waits, refused: the number, and six times 0
+    pub waits-refusal : (waitsValues (nameWaits cs k w n) .number ≡ 0 → ⊥) → waitsValues (nameWaits cs k w n) .waits ≡ replicate 6 0
+    waits-refusal f = ap (λ (a : WaitsAnswer). a .waits) (waits-refused-alone cs k w n f)
 
 -- a payment that is refused: the number, and 0 in every other place
 pub payment-refusal :
