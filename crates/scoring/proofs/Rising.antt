@@ -1,4 +1,4 @@
--- Levels and basic points: the han of each level, and that neither falls where han, fu or a yakuman are added. Assumes nothing.
+-- Levels and basic points: the han and the basic points of each level, and that neither falls where han, fu or a yakuman are added. Assumes nothing.
 use mathlib.Core.Path.{_≡_, refl}
 use mathlib.Core.Logic.{_⊎_, inl, inr, _↔_}
 use mathlib.Core.Bool.{Bool, true, false, _&&_, not}
@@ -15,18 +15,22 @@ use Rattle.scoring.specs.Level.{reachesYakuman, reachesSanbaiman, reache
 
 -- ---- the han of each level, with any fu
 module _ (han fu : ℕ) where
+  -- Haneman: 6 and 7 han
   pub six-to-seven : 6 ≤ han → han < 8 → level han fu false ≡ Haneman
   unfolding level
   six-to-seven l h = rw (lt-leb 13 han (omega arith), lt-leb 11 han (omega arith), lt-leb 8 han (omega arith), le-leb 6 han (omega arith))
 
+  -- Baiman: 8 to 10 han
   pub eight-to-ten : 8 ≤ han → han < 11 → level han fu false ≡ Baiman
   unfolding level
   eight-to-ten l h = rw (lt-leb 13 han (omega arith), lt-leb 11 han (omega arith), le-leb 8 han (omega arith))
 
+  -- Sanbaiman: 11 and 12 han
   pub eleven-to-twelve : 11 ≤ han → han < 13 → level han fu false ≡ Sanbaiman
   unfolding level
   eleven-to-twelve l h = rw (lt-leb 13 han (omega arith), le-leb 11 han (omega arith))
 
+  -- a counted yakuman: 13 han and more, never more than one
   pub thirteen-up : 13 ≤ han → level han fu false ≡ Yakuman 1
   unfolding level
   thirteen-up l = rw (le-leb 13 han (omega arith))
@@ -74,12 +78,13 @@ module _ (han fu : ℕ) where
       back (inr (inl h)) = four (h .0) (h .1) (decLe 5 han)
       back (inr (inr h)) = three (h .0) (h .1) (decLe 4 han)
 
-  -- below six han it is that or Normal
+  -- below six han it is Mangan where that is reached
   pub mangan-below-six : han < 6 → T (reachesMangan han fu) → level han fu false ≡ Mangan
   unfolding level
   mangan-below-six h t =
       rw (lt-leb 13 han (omega arith), lt-leb 11 han (omega arith), lt-leb 8 han (omega arith), lt-leb 6 han (omega arith), T→true (reachesMangan han fu) t)
 
+  -- and Normal where it is not
   pub normal-below-six : han < 6 → T (not (reachesMangan han fu)) → level han fu false ≡ Normal
   unfolding level
   normal-below-six h t =
@@ -89,6 +94,33 @@ module _ (han fu : ℕ) where
 pub normal-basic : (han fu : ℕ) (yakuman : Bool) → level han fu yakuman ≡ Normal → basicPoints han fu yakuman ≡ min (fu * 2 ^ (han + 2)) 2000
 unfolding basicPoints
 normal-basic han fu yakuman e = rw e
+
+-- ---- the basic points of each level, with any han and fu
+module _ (han fu : ℕ) (yakuman : Bool) where
+  -- Mangan: 2,000
+  pub mangan-basic : level han fu yakuman ≡ Mangan → basicPoints han fu yakuman ≡ 2000
+  unfolding basicPoints
+  mangan-basic e = rw e
+
+  -- Haneman: 3,000
+  pub haneman-basic : level han fu yakuman ≡ Haneman → basicPoints han fu yakuman ≡ 3000
+  unfolding basicPoints
+  haneman-basic e = rw e
+
+  -- Baiman: 4,000
+  pub baiman-basic : level han fu yakuman ≡ Baiman → basicPoints han fu yakuman ≡ 4000
+  unfolding basicPoints
+  baiman-basic e = rw e
+
+  -- Sanbaiman: 6,000
+  pub sanbaiman-basic : level han fu yakuman ≡ Sanbaiman → basicPoints han fu yakuman ≡ 6000
+  unfolding basicPoints
+  sanbaiman-basic e = rw e
+
+  -- a yakuman: 8,000, and so often as it counts
+  pub yakuman-basic : (k : ℕ) → level han fu yakuman ≡ Yakuman k → basicPoints han fu yakuman ≡ 8000 * k
+  unfolding basicPoints
+  yakuman-basic k e = rw e
 
 -- ---- what rises with the level
 -- a number for each level, none smaller than that of a lower one
@@ -163,11 +195,13 @@ module _ (han han′ fu fu′ : ℕ) (h : han ≤ han′) (f : fu ≤ fu′) whe
       (reachesYakuman han′) (reachesSanbaiman han′) (reachesBaiman han′) (reachesHaneman han′) (reachesMangan han′ fu′)
       (up-to _) (up-to _) (up-to _) (up-to _) mangan-rises
 
+  -- the level is no lower
   pub level-rises : (y y′ : Bool) → (T y → T y′) → place (level han fu y) ≤ place (level han′ fu′ y′)
   level-rises =
       rises place
       (record { mangan = omega arith; haneman = omega arith; baiman = omega arith; sanbaiman = omega arith; yakuman = omega arith; more = λ k l n. omega arith })
 
+  -- the basic points are no fewer
   pub basic-rises : (y y′ : Bool) → (T y → T y′) → basicPoints han fu y ≤ basicPoints han′ fu′ y′
   unfolding basicPoints
   basic-rises y y′ i =

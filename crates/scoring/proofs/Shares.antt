@@ -23,6 +23,7 @@ rounded owed n e =
     let above = round-up-above n in
     record { enough = omega arith; hundreds = round-up-multiple n; least = λ k h l. let below = round-up-least n (k / 100) (omega arith) in omega arith }
 
+-- every payment settles what is owed, by ron and by tsumo, to the dealer and to another
 pub settled : (basic : ℕ) (byTsumo dealer : Bool) → Settled basic byTsumo dealer (payment byTsumo dealer basic)
 unfolding payment
 settled basic false false = ron (rounded (4 * basic) (basic * 4) (omega arith))
@@ -34,6 +35,7 @@ settled basic true true = dealer-tsumo (rounded (2 * basic) (basic * 2) (omega a
 rounded-rises : (m n : ℕ) → m ≤ n → roundUpTo100 m ≤ roundUpTo100 n
 rounded-rises m n h = omega arith
 
+-- so the winner receives no less
 pub total-rises :
     (players : ℕ) (byTsumo dealer : Bool) (basic basic′ : ℕ) → basic ≤ basic′
     → totalAt players (payment byTsumo dealer basic) ≤ totalAt players (payment byTsumo dealer basic′)
@@ -58,10 +60,12 @@ total-near true true basic = (omega arith, omega arith)
 
 -- ---- what is refused: 8 for a win type that is neither ron nor tsumo, then 13 for basic points above 152,000
 module _ (basic : ℕ) (dealer : Bool) (winType : ℕ) where
+  -- paid where both are in range
   pub payment-accepted : winType ≤ 1 → basic ≤ 152000 → paymentAnswer basic dealer winType ≡ Paid (payment (eqb winType 1) dealer basic)
   unfolding paymentAnswer
   payment-accepted t b = simp (le-ltb 1 winType t, le-ltb 152000 basic b)
 
+  -- n is answered exactly where the checks before it pass and this one fails; 0 where both pass
   pub payment-refusals :
       (n : ℕ) → (refusalOf (paymentAnswer basic dealer winType) ≡ n) ↔ Answers (unless 8 (winType ≤ 1) ∷ unless 13 (basic ≤ 152000) ∷ []) n
   unfolding paymentAnswer
