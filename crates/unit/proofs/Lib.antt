@@ -3,3 +3,4 @@ pub mod Listed
 pub mod Answers
 pub mod Special
 pub mod Refusals
+pub mod RefusalExamples
