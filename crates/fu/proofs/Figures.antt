@@ -1,6 +1,6 @@
 -- Which figures fu can have, for every win and every reading: a meld's by its sort, and a reading's 20, 25 or a multiple of ten from 30 up.
 -- Assumes nothing.
-use mathlib.Core.Path.{_≡_, refl}
+use mathlib.Core.Path.{_≡_, refl, ap}
 use mathlib.Core.Logic.{_⊎_, inl, inr}
 use mathlib.Core.Bool.{Bool, true, false, _||_, not, cond}
 use mathlib.Core.List.{List, [], _∷_}
@@ -10,7 +10,7 @@ use native.Mathlib.Decide.{decLe}
 use lib.Dec.{T, eqb, lit≤}
 use borrow.Author.Tests.{eq-eqb, ne-eqb, lt-leb, not-true}
 use Rattle.lists.specs.Fold.{any, sum}
-use Rattle.lists.proofs.Finite.{T→true, true→T, one-le}
+use Rattle.lists.proofs.Finite.{T→true, true→T, or-left, or-right, one-le}
 use Rattle.tile.specs.Tile.{isDragon, isTerminalOrHonor}
 use Rattle.meld.specs.declared.Meld.{Meld}
 use Rattle.meld.specs.Meld.{isKan, isSequence}
@@ -42,31 +42,49 @@ closed-kan-row false = refl
 
 -- the table, for every tile and win
 module _ (w : GameContext) (kept : Bool) (t : ℕ) where
+  -- a sequence, called or not: nothing
   pub run-fu : meldFu w kept (run t) ≡ 0
   run-fu = refl
 
   pub chi-fu : meldFu w kept (chi t) ≡ 0
   chi-fu = refl
 
+  -- a called triplet: 4 of terminals and honors, 2 of simples
   pub pon-fu : meldFu w kept (pon t) ≡ cond (isTerminalOrHonor t) 4 2
   pon-fu = open-triplet-row (isTerminalOrHonor t)
 
+  -- an open or added kan: 16 or 8
   pub open-kan-fu : meldFu w kept (openKan t) ≡ cond (isTerminalOrHonor t) 16 8
   open-kan-fu = open-kan-row (isTerminalOrHonor t)
 
   pub added-kan-fu : meldFu w kept (addedKan t) ≡ cond (isTerminalOrHonor t) 16 8
   added-kan-fu = open-kan-row (isTerminalOrHonor t)
 
+  -- a closed kan: 32 or 16
   pub closed-kan-fu : meldFu w kept (closedKan t) ≡ cond (isTerminalOrHonor t) 32 16
   closed-kan-fu = closed-kan-row (isTerminalOrHonor t)
 
-  -- a closed triplet by tsumo, on another tile, or spared by a closed sequence that has the tile
-  pub triplet-fu : T (isTsumo w || (not (eqb (w .«winning_tile») t) || kept)) → meldFu w kept (triplet t) ≡ cond (isTerminalOrHonor t) 8 4
-  triplet-fu h = go (isTsumo w || (not (eqb (w .«winning_tile») t) || kept)) h
+  -- a closed triplet that stays concealed: 8 or 4
+  concealed-triplet : T (isTsumo w || (not (eqb (w .«winning_tile») t) || kept)) → meldFu w kept (triplet t) ≡ cond (isTerminalOrHonor t) 8 4
+  concealed-triplet h = go (isTsumo w || (not (eqb (w .«winning_tile») t) || kept)) h
     where
       go : (b : Bool) → T b → setFu (isTerminalOrHonor t) false b ≡ cond (isTerminalOrHonor t) 8 4
       go true h = closed-triplet-row (isTerminalOrHonor t)
       go false h = absurd h
+
+  -- so by tsumo
+  pub tsumo-triplet-fu : T (isTsumo w) → meldFu w kept (triplet t) ≡ cond (isTerminalOrHonor t) 8 4
+  tsumo-triplet-fu h = concealed-triplet (or-left (isTsumo w) _ h)
+
+  -- or where the win is on another tile
+  pub other-triplet-fu : (w .«winning_tile» ≡ t → ⊥) → meldFu w kept (triplet t) ≡ cond (isTerminalOrHonor t) 8 4
+  other-triplet-fu h =
+      concealed-triplet
+      (or-right (isTsumo w) _ (or-left (not (eqb (w .«winning_tile») t)) kept (true→T _ (ap not (ne-eqb (w .«winning_tile») t h)))))
+
+  -- or spared by a closed sequence that has the tile
+  pub spared-triplet-fu : T kept → meldFu w kept (triplet t) ≡ cond (isTerminalOrHonor t) 8 4
+  spared-triplet-fu h = concealed-triplet (or-right (isTsumo w) _ (or-right (not (eqb (w .«winning_tile») t)) kept h))
 
 -- a closed triplet of the ron tile counts as a called one
 pub ron-triplet-fu : (w : GameContext) → T (not (isTsumo w)) → (t : ℕ) → w .«winning_tile» ≡ t → meldFu w false (triplet t) ≡ meldFu w false (pon t)
@@ -79,7 +97,7 @@ ron-triplet-fu w h t e = go (isTsumo w) (eqb (w .«winning_tile») t) h (true→
     go false true n e = refl
     go false false n e = absurd e
 
--- no other figure
+-- a triplet or kan has none but these
 set-figures : (outer kan hidden : Bool) → T (any (eqb (setFu outer kan hidden)) (2 ∷ 4 ∷ 8 ∷ 16 ∷ 32 ∷ []))
 set-figures false false false = tt
 set-figures false false true = tt
@@ -90,6 +108,7 @@ set-figures true false true = tt
 set-figures true true false = tt
 set-figures true true true = tt
 
+-- a meld has nothing, or one of these figures
 pub meld-figures : (w : GameContext) (kept : Bool) (m : Meld) → (meldFu w kept m ≡ 0) ⊎ T (any (eqb (meldFu w kept m)) (2 ∷ 4 ∷ 8 ∷ 16 ∷ 32 ∷ []))
 meld-figures w kept m = go (isSequence m)
   where
@@ -134,6 +153,7 @@ pub data Least (w : GameContext) (opened : Bool) (r : Reading) : Type 0 where
   twenty : T (pinfu w opened r) → T (isTsumo w) → fu w opened r ≡ 20 → Least w opened r
   thirty-up : 30 ≤ fu w opened r → Least w opened r
 
+-- a pair and four melds are one or the other
 pub least-fu : (w : GameContext) (opened : Bool) (p : ℕ) (ms : List Meld) → Least w opened (standard p ms)
 unfolding fu standardFu
 least-fu w opened p ms = go (pinfu w opened (standard p ms)) (isTsumo w) opened parts refl refl refl (omega arith)
@@ -166,12 +186,14 @@ pub open-at-least-30 : (w : GameContext) (p : ℕ) (ms : List Meld) → 30 ≤ f
 unfolding fu standardFu pinfu
 open-at-least-30 w p ms = omega arith
 
--- pinfu has 20 by tsumo and 30 by ron
+-- ---- pinfu
 module _ (w : GameContext) (opened : Bool) (p : ℕ) (ms : List Meld) (h : T (pinfu w opened (standard p ms))) where
+  -- 20 by tsumo
   pub pinfu-by-tsumo : T (isTsumo w) → fu w opened (standard p ms) ≡ 20
   unfolding fu standardFu
   pinfu-by-tsumo t = rw (T→true (pinfu w opened (standard p ms)) h, T→true (isTsumo w) t)
 
+  -- 30 by ron
   pub pinfu-by-ron : T (not (isTsumo w)) → fu w opened (standard p ms) ≡ 30
   unfolding fu standardFu
   pinfu-by-ron t = rw (T→true (pinfu w opened (standard p ms)) h, not-true (isTsumo w) (T→true _ t))
