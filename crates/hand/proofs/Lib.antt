@@ -4,3 +4,4 @@ pub mod Weights
 pub mod Sums
 pub mod Tests
 pub mod Records
+pub mod Examples
