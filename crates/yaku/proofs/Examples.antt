@@ -3,8 +3,6 @@ use mathlib.Core.Path.{_≡_, refl}
 use mathlib.Core.Bool.{Bool, true, false, _||_}
 use mathlib.Core.List.{List, [], _∷_}
 use Prim.Native.Nat.{ℕ}
-use lib.Dec.{eqb}
-use Rattle.lists.specs.Fold.{any}
 use Rattle.tile.specs.Named.{man, pin, sou, East, South, West, North, White, Green, Red}
 use Rattle.meld.specs.Named.{run, triplet, chi, pon, closedKan, openKan, addedKan}
 use Rattle.context.specs.declared.GameContext.{GameContext}
@@ -18,34 +16,32 @@ use Rattle.sequence_yaku.specs.Sequences.{ittsu, sanshokuDoujun, peikou}
 use Rattle.end_yaku.specs.Ends.{chanta, junchan}
 use Rattle.yaku.specs.declared.names.Yaku.{Yaku}
 use Rattle.yaku.specs.declared.names.Yaku.the-variants.{Riichi, Ippatsu, MenzenTsumo, Tanyao, Pinfu, Iipeikou, RinshanKaihou, Chankan, HaiteiRaoyue, HouteiRaoyui, DoubleRiichi, Toitoi, Chiitoitsu, Chanta, SanAnkou, SanKantsu, Honroutou, Honitsu, Junchan, Ryanpeikou, Chinitsu, Tenhou, Chiihou, KokushiMusou, Suuankou, Tsuuiisou, Chinroutou, Ryuuiisou, ChuurenPoutou, SuuKantsu, Kokushi13Wait, SuuankouTanki, JunseiChuurenPoutou}
-use Rattle.yaku.specs.Names.{names, place, tallied, yakuhaiName}
+use Rattle.yaku.specs.Names.{names, tallied, yakuhaiName}
 use Rattle.yaku.specs.Tally.{oneHan, moreHan, isYakuman, ordinary, tallies}
 use Rattle.yaku.specs.Han.{hanOf, han}
+use Rattle.yaku.proofs.HanTable.{among}
 
 -- ---- what the examples are about
 -- nothing was called from another player; something was
-abbrev closed : Bool
+abbrev pub closed : Bool
 closed = false
 
-abbrev called : Bool
+abbrev pub called : Bool
 called = true
 
 -- the tiles alone show these yaku and no other
-abbrev shown : List Yaku → Yaku → Bool
-shown ys y = any (λ x. eqb (place x) (place y)) ys
-
 abbrev tilesShow : List Yaku → TileYaku
 tilesShow ys =
     record {
-      tanyao = shown ys Tanyao;
-      honroutou = shown ys Honroutou;
-      honitsu = shown ys Honitsu;
-      chinitsu = shown ys Chinitsu;
-      tsuuiisou = shown ys Tsuuiisou;
-      chinroutou = shown ys Chinroutou;
-      ryuuiisou = shown ys Ryuuiisou;
-      «nine_gates» = shown ys ChuurenPoutou || shown ys JunseiChuurenPoutou;
-      «pure_wait» = shown ys JunseiChuurenPoutou;
+      tanyao = among ys Tanyao;
+      honroutou = among ys Honroutou;
+      honitsu = among ys Honitsu;
+      chinitsu = among ys Chinitsu;
+      tsuuiisou = among ys Tsuuiisou;
+      chinroutou = among ys Chinroutou;
+      ryuuiisou = among ys Ryuuiisou;
+      «nine_gates» = among ys ChuurenPoutou || among ys JunseiChuurenPoutou;
+      «pure_wait» = among ys JunseiChuurenPoutou;
     }
 
 -- how often the yaku counts in a reading whose tiles show the yaku ys
@@ -59,15 +55,15 @@ unfolding counts han hanOf names
 hanIn w opened ys r = han w opened (tilesShow ys) r
 
 -- 55p 234m 567m 234s 678s
-abbrev runs : Reading
+abbrev pub runs : Reading
 runs = standard (pin 5) (run (man 2) ∷ run (man 5) ∷ run (sou 2) ∷ run (sou 6) ∷ [])
 
 -- the same with its first sequence called
-abbrev runsCalled : Reading
+abbrev pub runsCalled : Reading
 runsCalled = standard (pin 5) (chi (man 2) ∷ run (man 5) ∷ run (sou 2) ∷ run (sou 6) ∷ [])
 
 -- 2233m 44p 5566s 88s EE
-abbrev sevenPairs : Reading
+abbrev pub sevenPairs : Reading
 sevenPairs = pairs (man 2 ∷ man 3 ∷ pin 4 ∷ sou 5 ∷ sou 6 ∷ sou 8 ∷ East ∷ [])
 
 -- how often a yaku of the win alone counts: won by ron or tsumo of 8s with these flags, by South, in the closed and in the called hand

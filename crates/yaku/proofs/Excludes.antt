@@ -6,24 +6,26 @@ use mathlib.Core.List.{List, [], _∷_, _++_, map}
 use Prim.Native.Nat.{ℕ, _+_, _-_, _<_, _≤_}
 use native.Mathlib.Decide.{decLt}
 use native.Mathlib.Omega.{arith}
-use lib.Dec.{T, eqb, leb, ltb, eqb→eq, leb→le, ltb→lt, le→leb, lt→ltb}
+use lib.Dec.{T, not-T, eqb, leb, ltb, eqb→eq, leb→le, ltb→lt, le→leb, lt→ltb}
 use lib.ListN.{getD, replicate, length, List·getD-eq-default}
-use Rattle.lists.specs.Fold.{all, allBelow, one}
+use Rattle.lists.specs.Fold.{all, any, allBelow, one}
 use Rattle.lists.proofs.Finite.{and-left, and-right, and-both, at, true→T, T→true}
-use Rattle.tile.specs.Named.{East, South, West, North, White, Green, Red}
 use Rattle.context.specs.declared.GameContext.{GameContext}
 use Rattle.context.specs.Context.{isDealer, isTsumo}
 use Rattle.hand.specs.Reading.{Reading, pairs, orphans, standard}
 use Rattle.tile_yaku.specs.declared.TileYaku.{TileYaku}
+use Rattle.tile_yaku.specs.Tiles.{honitsu, chinitsu, tileYaku}
+use Rattle.tile_yaku.proofs.Rules.{honitsu-not-chinitsu}
 use Rattle.wait.specs.Wait.{pinfu}
 use Rattle.honor_yaku.specs.Honors.{winds, shousuushii, daisuushii}
 use Rattle.sequence_yaku.specs.Sequences.{peikou}
 use Rattle.end_yaku.specs.Ends.{junchan}
 use Rattle.yaku.specs.declared.names.Yaku.{Yaku}
 use Rattle.yaku.specs.declared.names.Yaku.the-variants.{Riichi, Ippatsu, MenzenTsumo, Pinfu, Iipeikou, RinshanKaihou, Chankan, HaiteiRaoyue, HouteiRaoyui, DoubleRiichi, Toitoi, SanshokuDoujun, SanshokuDoukou, Ittsu, Chiitoitsu, Chanta, SanAnkou, SanKantsu, Shousangen, Honitsu, Junchan, Ryanpeikou, Chinitsu, Tenhou, Chiihou, KokushiMusou, Suuankou, Daisangen, Shousuushii, Daisuushii, Ryuuiisou, ChuurenPoutou, SuuKantsu, Kokushi13Wait, SuuankouTanki, JunseiChuurenPoutou}
-use Rattle.yaku.specs.Names.{isYakumanName, place, tallied, yakuhaiName}
+use Rattle.yaku.specs.Names.{isYakumanName, place, tallied}
 use Rattle.yaku.specs.Tally.{unlessOrphans, rinshan, oneHan, moreHan, yakuman, isYakuman, ordinary, tallies}
 use Rattle.yaku.proofs.Laws.{one-small}
+use Rattle.yaku.proofs.HanTable.{yakuhais, among}
 use Rattle.yaku.proofs.NameTable.{yakuman-at}
 use Rattle.yaku.proofs.NoYakuman.{all-zero}
 
@@ -101,13 +103,13 @@ module _ (w : GameContext) (opened : Bool) (s : TileYaku) (r : Reading) where
 
   -- ---- a yaku counts once, but for Yakuhai (at most twice in a hand that passes the checks)
   abbrev once : List ℕ → ℕ → Bool
-  once ts i = (leb 6 i && ltb i 13) || leb (getD ts i 0) 1
+  once ts i = any (λ x. eqb (place x) i) yakuhais || leb (getD ts i 0) 1
 
   all-once : T (allBelow 47 (once (tallies w opened s r)))
   unfolding ordinary oneHan moreHan
   all-once = by-yakuman (λ ts. T (allBelow 47 (once ts))) (simp one-small tt) (simp one-small tt)
 
-  pub at-most-once : (y : Yaku) → (leb 6 (place y) && ltb (place y) 13) ≡ false → tallied y (tallies w opened s r) ≤ 1
+  pub at-most-once : (y : Yaku) → among yakuhais y ≡ false → tallied y (tallies w opened s r) ≤ 1
   at-most-once y e = go (decLt (place y) 47)
     where
       go : Dec (place y < 47) → tallied y (tallies w opened s r) ≤ 1
@@ -170,13 +172,21 @@ module _ (w : GameContext) (opened : Bool) (s : TileYaku) (r : Reading) where
       kept-apart Tenhou Chiihou both both
 
   -- ---- by the tiles: one suit with honors or without
-  pub honitsu-or-chinitsu : T (not (s .honitsu && s .chinitsu)) → T (apart Honitsu Chinitsu (tallies w opened s r))
+  one-flush : T (not (s .honitsu && s .chinitsu)) → T (apart Honitsu Chinitsu (tallies w opened s r))
   unfolding ordinary oneHan moreHan
-  honitsu-or-chinitsu one-sort =
+  one-flush one-sort =
       kept-apart Honitsu Chinitsu tt
       (by-answer (s .honitsu)
       (λ e. simp (e, no-other (s .chinitsu) (simp e at one-sort), asked-no r, or-true) tt)
       (λ e. simp (e, asked-no r) tt))
+
+-- whatever the counts c of the tiles and the winning tile t
+pub honitsu-or-chinitsu :
+    (w : GameContext) (opened : Bool) (c : ℕ → ℕ) (t : ℕ) (r : Reading) → T (apart Honitsu Chinitsu (tallies w opened (tileYaku c t) r))
+unfolding tileYaku
+honitsu-or-chinitsu w opened c t r =
+    one-flush w opened (tileYaku c t) r
+    (not-T (honitsu c && chinitsu c) (λ b. honitsu-not-chinitsu c (and-left (honitsu c) _ b) (and-right (honitsu c) _ b)))
 
 -- ---- by the reading
 module _ (w : GameContext) (opened : Bool) (s : TileYaku) where
@@ -248,7 +258,7 @@ abbrev pub ofMelds : List Yaku
 ofMelds =
     Pinfu ∷ Iipeikou ∷ Toitoi ∷ SanshokuDoujun ∷ SanshokuDoukou ∷ Ittsu ∷ Chanta ∷ SanAnkou ∷ SanKantsu ∷ Shousangen ∷ Junchan ∷ Ryanpeikou
     ∷ Suuankou ∷ Daisangen ∷ Shousuushii ∷ Daisuushii ∷ Ryuuiisou ∷ ChuurenPoutou ∷ SuuKantsu ∷ SuuankouTanki ∷ JunseiChuurenPoutou
-    ∷ map yakuhaiName (East ∷ South ∷ West ∷ North ∷ White ∷ Green ∷ Red ∷ [])
+    ∷ yakuhais
 
 -- seven pairs have none of them
 pub chiitoitsu-or-melds :

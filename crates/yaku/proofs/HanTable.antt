@@ -1,14 +1,14 @@
--- The table of han by what a rulebook lists together: the yaku of one han, of two, and so on; those that need a closed hand; those that
--- lose a han when something is called. Assumes nothing.
+-- The table of names and han by what a rulebook lists together: the order of the tallies; the yaku of one han, of two, and so on; those that
+-- need a closed hand; those that lose a han when something is called. Assumes nothing.
 use mathlib.Core.Path.{_≡_, refl}
 use mathlib.Core.Bool.{Bool, _&&_}
 use mathlib.Core.List.{List, [], _∷_, _++_, map}
 use lib.Dec.{eqb, ltb}
-use Rattle.lists.specs.Fold.{keep}
+use Rattle.lists.specs.Fold.{any, keep, upFrom}
 use Rattle.tile.specs.Named.{East, South, West, North, White, Green, Red}
 use Rattle.yaku.specs.declared.names.Yaku.{Yaku}
 use Rattle.yaku.specs.declared.names.Yaku.the-variants.{Riichi, Ippatsu, MenzenTsumo, Tanyao, Pinfu, Iipeikou, RinshanKaihou, Chankan, HaiteiRaoyue, HouteiRaoyui, DoubleRiichi, Toitoi, SanshokuDoujun, SanshokuDoukou, Ittsu, Chiitoitsu, Chanta, SanAnkou, SanKantsu, Honroutou, Shousangen, Honitsu, Junchan, Ryanpeikou, Chinitsu, Tenhou, Chiihou, KokushiMusou, Suuankou, Daisangen, Shousuushii, Daisuushii, Tsuuiisou, Chinroutou, Ryuuiisou, ChuurenPoutou, SuuKantsu, Kokushi13Wait, SuuankouTanki, JunseiChuurenPoutou}
-use Rattle.yaku.specs.Names.{hanClosed, hanOpen, yakuhaiName, names}
+use Rattle.yaku.specs.Names.{hanClosed, hanOpen, place, yakuhaiName, names}
 
 -- the yaku that pass a question, in the order of the tallies
 abbrev pub those : (Yaku → Bool) → List Yaku
@@ -18,6 +18,24 @@ those q = keep q names
 -- a Yakuhai for each honor
 abbrev pub yakuhais : List Yaku
 yakuhais = map yakuhaiName (East ∷ South ∷ West ∷ North ∷ White ∷ Green ∷ Red ∷ [])
+
+-- is the yaku among these
+abbrev pub among : List Yaku → Yaku → Bool
+among ys y = any (λ x. eqb (place x) (place y)) ys
+
+-- ---- the order of the tallies: that of agari's `Yaku`, a Yakuhai for each honor, the local yaku left out
+pub agari-order :
+    map place
+    (Riichi ∷ Ippatsu ∷ MenzenTsumo ∷ Tanyao ∷ Pinfu ∷ Iipeikou ∷ yakuhais
+    ++ (RinshanKaihou ∷ Chankan ∷ HaiteiRaoyue ∷ HouteiRaoyui
+    ∷ DoubleRiichi ∷ Toitoi ∷ SanshokuDoujun ∷ SanshokuDoukou ∷ Ittsu ∷ Chiitoitsu ∷ Chanta ∷ SanAnkou ∷ SanKantsu ∷ Honroutou ∷ Shousangen
+    ∷ Honitsu ∷ Junchan ∷ Ryanpeikou
+    ∷ Chinitsu
+    ∷ Tenhou ∷ Chiihou ∷ KokushiMusou ∷ Suuankou ∷ Daisangen ∷ Shousuushii ∷ Daisuushii ∷ Tsuuiisou ∷ Chinroutou ∷ Ryuuiisou ∷ ChuurenPoutou ∷ SuuKantsu
+    ∷ Kokushi13Wait ∷ SuuankouTanki ∷ JunseiChuurenPoutou
+    ∷ []))
+    ≡ upFrom 47 0
+agari-order = refl
 
 -- ---- in a closed hand
 -- one han

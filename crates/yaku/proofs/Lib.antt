@@ -4,6 +4,7 @@ pub mod Found
 pub mod NameTable
 pub mod NoYakuman
 pub mod Examples
+pub mod Counted
 pub mod HanTable
 pub mod Excludes
 pub mod Closed

@@ -9,7 +9,6 @@ use lib.Dec.{T, eqb, leb, ltb, leb→le, ltb→lt}
 use Rattle.lists.specs.Fold.{all, any, count}
 use Rattle.lists.proofs.Finite.{and-left, and-right, true→T, ¬T→false}
 use Rattle.tile.specs.Tile.{isDragon}
-use Rattle.tile.specs.Named.{East, South, West, North, White, Green, Red}
 use Rattle.meld.specs.declared.Meld.{Meld}
 use Rattle.meld.specs.Meld.{isSequence, isTripletOrKan}
 use Rattle.context.specs.declared.GameContext.{GameContext}
@@ -23,13 +22,13 @@ use Rattle.meld_yaku.proofs.Few.{count-fewer}
 use Rattle.set_yaku.proofs.Few.{no-kans, no-sanankou}
 use Rattle.yaku.specs.declared.names.Yaku.{Yaku}
 use Rattle.yaku.specs.declared.names.Yaku.the-variants.{Pinfu, Toitoi, SanAnkou, SanKantsu, Shousangen}
-use Rattle.yaku.specs.Names.{yakuhaiName}
 use Rattle.yaku.specs.Tally.{oneHan, moreHan, ordinary, tallies}
+use Rattle.yaku.proofs.HanTable.{yakuhais}
 use Rattle.yaku.proofs.Excludes.{apart, by-answer, by-yakuman}
 
 -- the yaku of triplets that are no yakuman
 abbrev pub ofTriplets : List Yaku
-ofTriplets = Toitoi ∷ SanAnkou ∷ SanKantsu ∷ Shousangen ∷ map yakuhaiName (East ∷ South ∷ West ∷ North ∷ White ∷ Green ∷ Red ∷ [])
+ofTriplets = Toitoi ∷ SanAnkou ∷ SanKantsu ∷ Shousangen ∷ yakuhais
 
 -- ---- sequences only
 run-no-set : (m : Meld) → T (isSequence m) → isTripletOrKan m ≡ false
