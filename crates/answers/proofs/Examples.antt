@@ -130,7 +130,7 @@ pub pays-dealer-ron : paymentValues (paymentAnswer 1920 true 0) ≡ pays 0 0 116
 unfolding paymentAnswer payment
 pays-dealer-ron = refl
 
--- by tsumo: the dealer pays double
+-- by tsumo: 3,840 from the dealer and 1,920 from others, each rounded up
 pub pays-tsumo : paymentValues (paymentAnswer 1920 false 1) ≡ pays 2000 3900 0 7900
 unfolding paymentAnswer payment
 pays-tsumo = refl

@@ -14,7 +14,7 @@ Worth han fu l n = (level han fu false ≡ l) × (basicPoints han fu false ≡ n
 abbrev Makes : ℕ → ℕ → Type 0
 Makes han k = (level han 30 true ≡ Yakuman k) × (basicPoints han 30 true ≡ 8000 * k)
 
--- ---- below mangan: fu times 2, doubled han + 1 times more
+-- ---- below mangan: fu doubled han + 2 times
 pub one-han-30-fu : Worth 1 30 Normal 240
 unfolding basicPoints
 one-han-30-fu = (refl, refl)
@@ -139,7 +139,7 @@ pub thirteen-han : Worth 13 30 (Yakuman 1) 8000
 unfolding basicPoints
 thirteen-han = (refl, refl)
 
--- counted han are never more than one
+-- counted han are never more than one yakuman
 pub twenty-six-han : Worth 26 30 (Yakuman 1) 8000
 unfolding basicPoints
 twenty-six-han = (refl, refl)

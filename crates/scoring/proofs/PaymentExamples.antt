@@ -20,7 +20,7 @@ ByTsumo han fu dealer other = payment true false (basicPoints han fu false) ≡ 
 abbrev ByDealerTsumo : ℕ → ℕ → ℕ → Type 0
 ByDealerTsumo han fu each = payment true true (basicPoints han fu false) ≡ DealerTsumo each
 
--- ---- by ron: what the discarder pays another player, and what the dealer
+-- ---- by ron: what the discarder pays to a winner who is not the dealer, and to the dealer
 pub one-han-30-fu-ron : ByRon 1 30 1000 1500
 unfolding payment basicPoints
 one-han-30-fu-ron = (refl, refl)

@@ -361,7 +361,7 @@ pub ryanpeikou-open : counts Ryanpeikou (ron (sou 8)) called [] (standard (pin 5
 unfolding counts
 ryanpeikou-open = refl
 
--- the same tiles read as seven pairs have neither
+-- the same tiles read as seven pairs have none
 pub ryanpeikou-seven-pairs : counts Ryanpeikou (ron (sou 8)) closed [] (pairs (man 2 ∷ man 3 ∷ man 4 ∷ pin 5 ∷ sou 6 ∷ sou 7 ∷ sou 8 ∷ [])) ≡ 0
 unfolding counts
 ryanpeikou-seven-pairs = refl
@@ -372,7 +372,7 @@ pub chiitoitsu-pairs : counts Chiitoitsu (ron (sou 8)) closed [] sevenPairs ≡ 
 unfolding counts
 chiitoitsu-pairs = refl
 
--- not the same tiles as a pair and melds
+-- not a pair and melds, though these tiles are seven pairs too
 pub chiitoitsu-melds : counts Chiitoitsu (ron (sou 8)) closed [] (standard (pin 5) (run (man 2) ∷ run (man 2) ∷ run (sou 6) ∷ run (sou 6) ∷ [])) ≡ 0
 unfolding counts
 chiitoitsu-melds = refl
@@ -429,7 +429,8 @@ pub yakuhai-dragon-kan : counts (yakuhaiName Red) (ron (sou 8)) closed [] (stand
 unfolding counts
 yakuhai-dragon-kan = refl
 
--- ---- yaku of the tiles: asked of a pair and melds and of seven pairs, not of thirteen orphans
+-- ---- yaku of the tiles: that the tiles show them is given here (`tilesShow`), and the reading stands for its form alone, whatever its tiles. Asked of
+-- a pair and melds and of seven pairs, not of thirteen orphans
 -- Tanyao of sequences
 pub tanyao-melds : counts Tanyao (ron (sou 8)) closed (Tanyao ∷ []) runs ≡ 1
 unfolding counts
@@ -490,7 +491,7 @@ pub ryuuiisou-pairs : counts Ryuuiisou (ron (sou 8)) closed (Ryuuiisou ∷ []) s
 unfolding counts
 ryuuiisou-pairs = refl
 
--- ---- ChuurenPoutou: nine gates, in a closed hand; JunseiChuurenPoutou: won on any of nine tiles
+-- ---- ChuurenPoutou: nine gates, in a closed hand; JunseiChuurenPoutou: nine tiles were waited for
 -- nine gates
 pub chuuren-gates : counts ChuurenPoutou (ron (sou 8)) closed (ChuurenPoutou ∷ []) runs ≡ 1
 unfolding counts
@@ -506,12 +507,12 @@ pub chuuren-junsei : counts ChuurenPoutou (ron (sou 8)) closed (JunseiChuurenPou
 unfolding counts
 chuuren-junsei = refl
 
--- on nine tiles
+-- nine tiles were waited for
 pub junsei-nine-tiles : counts JunseiChuurenPoutou (ron (sou 8)) closed (JunseiChuurenPoutou ∷ []) runs ≡ 1
 unfolding counts
 junsei-nine-tiles = refl
 
--- not on fewer
+-- not where fewer were
 pub junsei-fewer : counts JunseiChuurenPoutou (ron (sou 8)) closed (ChuurenPoutou ∷ []) runs ≡ 0
 unfolding counts
 junsei-fewer = refl
