@@ -7,10 +7,10 @@ use Rattle.play_exported.proofs.run.Statement.{statement}
 use Rattle.play_exported.proofs.run.Tie as tie
 
 abbrev Inv-loop : tie.InvT-loop
-Inv-loop fd hands turn₀ left₀ turn left = left ≤ 1000000
+Inv-loop fd file turn₀ left₀ turn left = left ≤ 1000000
 
 abbrev μ-loop : tie.MeasureT-loop
-μ-loop fd hands turn₀ left₀ turn left = left
+μ-loop fd file turn₀ left₀ turn left = left
 
 first-requires : tie.Need-first-requires Inv-loop μ-loop
 first-requires c κs = search needs

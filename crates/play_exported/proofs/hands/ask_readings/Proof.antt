@@ -1,8 +1,8 @@
--- `play_exported::ask_readings` is safe and ends. The measure is what is left of the readings. Assumes nothing.
+-- `play_exported::hands::ask_readings` is safe and ends. The measure is what is left of the readings. Assumes nothing.
 use Prim.Native.Nat.{_≤_, _-_}
 use borrow.Author.Needs.{needs}
-use Rattle.play_exported.proofs.ask_readings.Statement.{statement}
-use Rattle.play_exported.proofs.ask_readings.Tie as tie
+use Rattle.play_exported.proofs.hands.ask_readings.Statement.{statement}
+use Rattle.play_exported.proofs.hands.ask_readings.Tie as tie
 
 abbrev Inv-loop : tie.InvT-loop
 Inv-loop rec n row tally₀ k₀ tally k = k ≤ n
