@@ -24,11 +24,25 @@ pub struct Said {
     pub seat_said: bool,
     // riichi, double riichi, ippatsu, rinshan, chankan, last tile, tenhou, chiihou
     pub flags: [bool; 8],
+    // the word for the last tile was haitei, or houtei
+    pub haitei: bool,
+    pub houtei: bool,
+    // the tiles said in the hand, and the red fives among all tiles said
+    pub tiles: usize,
+    pub reds: usize,
+    // dora was said; how to use the program was asked for
+    pub dora: bool,
+    pub help: bool,
     // what the next word is for: 0 anything, else the number of a known word and one more
     pub wanted: usize,
-    // the number of the last word, and what is wrong with it, or 0
+    // the number of the last argument, and what is wrong with it, or 0
     pub word: usize,
     pub fault: u8,
+    // places in that argument: where the piece at fault begins, behind its end, and of the character at fault; the last is that of the first
+    // where the fault is about no single character
+    pub from: usize,
+    pub end: usize,
+    pub at: usize,
 }
 
 // The first byte of a word, 0 where it is empty.
@@ -69,9 +83,18 @@ impl Said {
             seat: 1,
             seat_said: false,
             flags: [false; 8],
+            haitei: false,
+            houtei: false,
+            tiles: 0,
+            reds: 0,
+            dora: false,
+            help: false,
             wanted: 0,
             word: 0,
             fault: 0,
+            from: 0,
+            end: 0,
+            at: 0,
         }
     }
 
@@ -123,7 +146,7 @@ impl Said {
         }
         let found = call_words::call_in(word, kind);
         match found {
-            call_words::Found::Nothing => self.faulty(faults::NO_CALL),
+            call_words::Found::Nothing => self.faulty(faults::NO_OPEN_CALL),
             call_words::Found::Call(m) => self.with_call(m),
         }
     }
@@ -132,7 +155,7 @@ impl Said {
     fn bracketed(self, word: &[u8]) -> Said {
         let n = word.len();
         if n < 2 {
-            return self.faulty(faults::NO_CALL);
+            return self.faulty(faults::UNCLOSED);
         }
         let first = word[0];
         let last = word[n - 1];
@@ -142,7 +165,7 @@ impl Said {
         if (first == b'[') & (last == b']') {
             return self.called(&word[1..n - 1], 4);
         }
-        self.faulty(faults::NO_CALL)
+        self.faulty(faults::UNCLOSED)
     }
 
     // The winning tile.
@@ -249,13 +272,13 @@ impl Said {
         self.with_wind(word, i == 8)
     }
 
-    // One word more.
-    pub fn take(self, word: &[u8]) -> Said {
+    // One argument more.
+    pub fn take(self, argument: &[u8]) -> Said {
         let wanted = self.wanted;
         if wanted == 0 {
-            return self.with_any(word);
+            return self.with_any(argument);
         }
-        self.wanting(0).with_wanted(word, wanted - 1)
+        self.wanting(0).with_wanted(argument, wanted - 1)
     }
 
     // After the last word: nothing may be missing.

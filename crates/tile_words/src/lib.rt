@@ -109,7 +109,7 @@ fn fault_of_number(c: u8, suit: u8) -> u8
     ensures { λ r. ⌜ 0 < r ⌝ }
 {
     if c == b'0' {
-        return faults::RED_FIVE;
+        return faults::NO_HONOR;
     }
     if suit == 4 {
         return faults::NO_SUIT;
@@ -134,7 +134,7 @@ fn fault_of_letter(word: &[u8], i: usize) -> u8
     ensures { λ r. ⌜ eqb r 0 ≡ isLetter (charBefore (now (word .entry)) i) (getD (now (word .entry)) i 0) ⌝ }
 {
     if 4 <= suit_of(word[i]) {
-        return faults::NO_TILES;
+        return faults::NO_LETTER;
     }
     if is_after_number(word, i) {
         return 0;
