@@ -10,14 +10,14 @@ ghost use Rattle.wait.specs.Concealed.{spared};
 ghost use Rattle.fu.specs.Fu.{meldFu, pairFu, waitFu, baseFu, roundUpTo10, atLeast30, fu};
 
 // One number or another.
-fn pick(b: bool, yes: u8, no: u8) -> u8
+pub fn pick(b: bool, yes: u8, no: u8) -> u8
     ensures { λ r. ⌜ (r ≡ cond b yes no) × (r ≤ max yes no) ⌝ }
 {
     if b { yes } else { no }
 }
 
 // The fu of a meld; `kept` where a closed sequence holds the winning tile.
-fn meld_fu_with_context(m: meld::Meld, w: context::GameContext, kept: bool) -> u8
+pub fn meld_fu_with_context(m: meld::Meld, w: context::GameContext, kept: bool) -> u8
     ensures { λ r. ⌜ (r ≡ meldFu w kept m) × (r ≤ 32) ⌝ }
 {
     if m.is_sequence() {
@@ -29,7 +29,7 @@ fn meld_fu_with_context(m: meld::Meld, w: context::GameContext, kept: bool) -> u
 }
 
 // The fu of four melds.
-fn melds_fu(ms: [meld::Meld; 4], w: context::GameContext, kept: bool) -> u8
+pub fn melds_fu(ms: [meld::Meld; 4], w: context::GameContext, kept: bool) -> u8
     ensures { λ r. ⌜ (r ≡ sum (meldFu w kept) ms) × (r ≤ 128) ⌝ }
 {
     meld_fu_with_context(ms[0], w, kept)
@@ -38,7 +38,7 @@ fn melds_fu(ms: [meld::Meld; 4], w: context::GameContext, kept: bool) -> u8
 }
 
 // The fu of a pair: 2 for each time that it counts, so 4 for a wind that is both round and seat wind.
-fn pair_fu(pair: u8, w: context::GameContext) -> u8
+pub fn pair_fu(pair: u8, w: context::GameContext) -> u8
     ensures { λ r. ⌜ (r ≡ pairFu w pair) × (r ≤ 6) ⌝ }
 {
     match wait::weight(w, pair) {
@@ -66,7 +66,7 @@ fn any_kanchan(ms: [meld::Meld; 4], t: u8) -> bool
 }
 
 // The fu of the wait: 2 on the pair, on an edge or in the middle.
-fn wait_fu(ms: [meld::Meld; 4], pair: u8, w: context::GameContext) -> u8
+pub fn wait_fu(ms: [meld::Meld; 4], pair: u8, w: context::GameContext) -> u8
     ensures { λ r. ⌜ (r ≡ waitFu w pair ms) × (r ≤ 2) ⌝ }
 {
     let t = w.winning_tile;
@@ -92,7 +92,7 @@ fn at_least_30(n: u8) -> u8
 }
 
 // Fu rounded up to 10; an open hand has at least 30.
-fn rounded_fu(n: u8, opened: bool) -> u8
+pub fn rounded_fu(n: u8, opened: bool) -> u8
     requires { ⌜ n ≤ 166 ⌝ }
     ensures { λ r. ⌜ r ≡ atLeast30 opened (roundUpTo10 n) ⌝ }
 {
@@ -104,7 +104,7 @@ fn rounded_fu(n: u8, opened: bool) -> u8
 }
 
 // The fu of a pair and four melds that are no pinfu, before rounding.
-fn raw_fu(ms: [meld::Meld; 4], pair: u8, w: context::GameContext, opened: bool) -> u8
+pub fn raw_fu(ms: [meld::Meld; 4], pair: u8, w: context::GameContext, opened: bool) -> u8
     ensures { λ r. ⌜ (r ≡ baseFu w opened + sum (meldFu w (spared w ms)) ms + pairFu w pair + waitFu w pair ms) × (r ≤ 166) ⌝ }
 {
     let kept = wait::winning_tile_in_closed_sequence(ms, w);

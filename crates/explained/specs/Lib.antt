@@ -1,0 +1,3 @@
+pub mod Breakdown
+pub mod Flags
+pub mod Decided
