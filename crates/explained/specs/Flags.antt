@@ -15,11 +15,10 @@ use Rattle.yaku.specs.Tally.{rinshan}
 use Rattle.explained.specs.declared.flags.Uncounted.{Uncounted}
 use Rattle.explained.specs.declared.flags.Uncounted.the-variants.{Counts, NotSet, Open, NoRiichi, ByRon, ByTsumo, Replacement, NotDealer, Dealer}
 
--- is the flag with this number set
-unfoldable pub isSet : GameContext → ℕ → Bool
-isSet w f =
-    getD
-    (w .«is_riichi»
+-- the flags in the order of their numbers
+abbrev pub flags : GameContext → List Bool
+flags w =
+    w .«is_riichi»
     ∷ w .«is_double_riichi»
     ∷ w .«is_ippatsu»
     ∷ w .«is_rinshan»
@@ -27,8 +26,11 @@ isSet w f =
     ∷ w .«is_last_tile»
     ∷ w .«is_tenhou»
     ∷ w .«is_chiihou»
-    ∷ [])
-    f false
+    ∷ []
+
+-- is the flag with this number set
+unfoldable pub isSet : GameContext → ℕ → Bool
+isSet w f = getD (flags w) f false
 
 -- what goes with a riichi needs a closed hand and the riichi flag
 abbrev pub declared : GameContext → Bool → Uncounted → Uncounted
@@ -42,11 +44,10 @@ undrawn w = cond (rinshan w) Replacement Counts
 abbrev pub firstDraw : GameContext → Bool → Uncounted → Uncounted
 firstDraw w opened rest = cond (not (isTsumo w)) ByRon (cond opened Open rest)
 
--- the first reason against each flag that is set
-unfoldable pub reason : GameContext → Bool → ℕ → Uncounted
-reason w opened f =
-    getD
-    (declared w opened Counts
+-- the first reason against each flag, if it is set
+abbrev pub reasons : GameContext → Bool → List Uncounted
+reasons w opened =
+    declared w opened Counts
     ∷ declared w opened Counts
     ∷ declared w opened (undrawn w)
     ∷ cond (not (isTsumo w)) ByRon Counts
@@ -54,18 +55,20 @@ reason w opened f =
     ∷ undrawn w
     ∷ firstDraw w opened (cond (not (isDealer w)) NotDealer Counts)
     ∷ firstDraw w opened (cond (isDealer w) Dealer Counts)
-    ∷ [])
-    f NotSet
+    ∷ []
+
+-- that against the flag with this number
+unfoldable pub reason : GameContext → Bool → ℕ → Uncounted
+reason w opened f = getD (reasons w opened) f NotSet
 
 -- why the flag counts nothing
 unfoldable pub whyUncounted : GameContext → Bool → ℕ → Uncounted
 whyUncounted w opened f = cond (not (isSet w f)) NotSet (reason w opened f)
 
--- the yaku that the flag gives
-unfoldable pub yakuOfFlag : ℕ → List Yaku
-yakuOfFlag f =
-    getD
-    ((Riichi ∷ DoubleRiichi ∷ [])
+-- the yaku that each flag gives
+abbrev pub flagYaku : List (List Yaku)
+flagYaku =
+    (Riichi ∷ DoubleRiichi ∷ [])
     ∷ (DoubleRiichi ∷ [])
     ∷ (Ippatsu ∷ [])
     ∷ (RinshanKaihou ∷ [])
@@ -73,9 +76,8 @@ yakuOfFlag f =
     ∷ (HaiteiRaoyue ∷ HouteiRaoyui ∷ [])
     ∷ (Tenhou ∷ [])
     ∷ (Chiihou ∷ [])
-    ∷ [])
-    f []
+    ∷ []
 
--- how often they count by the tallies ts
+-- how often those of the flag with this number count by the tallies ts
 abbrev pub tallyOf : ℕ → List ℕ → ℕ
-tallyOf f ts = sum (λ y. tallied y ts) (yakuOfFlag f)
+tallyOf f ts = sum (λ y. tallied y ts) (getD flagYaku f [])
