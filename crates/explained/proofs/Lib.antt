@@ -1,3 +1,5 @@
 pub mod Past
+pub mod Places
 pub mod Rounded
 pub mod Parts
+pub mod PartsExamples

@@ -1,12 +1,12 @@
 -- The fu of one of four melds, by its place. Assumes nothing.
-use mathlib.Core.Path.{_≡_, sym, _∙_}
+use mathlib.Core.Path.{_≡_, sym}
 use mathlib.Core.List.{map}
 use native.Mathlib.Omega.{arith}
 use lib.ListN.{length, length-map, List·getD-eq-default}
-use Rattle.lists.proofs.Members.{at-map}
 use Rattle.wait.specs.Concealed.{spared}
 use Rattle.fu.specs.Fu.{meldFu}
 use Rattle.explained.specs.Breakdown.{meldFuAt}
+use Rattle.explained.proofs.Places.{at-place}
 use borrow.Author.Needs.{needs}
 use Rattle.explained.proofs.breakdown.fu_at.Statement.{statement}
 use Rattle.explained.proofs.breakdown.fu_at.Tie as tie
@@ -33,7 +33,8 @@ returns-2 c =
     let start = c .before .before .before .before in
     let size : length (start .args .t1) ≡ 4 = search needs in
     let told = simp (c .before .before .winning-tile-in-closed-sequence .ensures) at (c .meld-fu-with-context .ensures .0) in
-    told ∙ sym (at-map (meldFu (start .args .w) (spared (start .args .w) (start .args .t1))) (start .args .t1) (start .args .i) _ 0 (omega (arith, c .before .before .before .if1 .left)))
+    at-place (meldFu (start .args .w) (spared (start .args .w) (start .args .t1))) (start .args .t1) (start .args .i) _ (c .meld-fu-with-context .result)
+    (omega (arith, c .before .before .before .if1 .left)) told
 
 pub fu-at-spec : {M : Type 1} → statement M
 fu-at-spec =
