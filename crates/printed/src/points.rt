@@ -1,6 +1,7 @@
 // Waits, yaku, han, fu, levels and payments.
 ghost use Prim.Native.Nat.{_<_};
 use crate::names;
+use crate::parts;
 use crate::text;
 
 // Writes the entry of a wait, if it has a tally. Answers whether nothing stands in the list yet.
@@ -86,19 +87,53 @@ pub fn say_payment(p: scoring::Payment) {
     text::say_points(p.total());
 }
 
-// Writes a reading's score.
-pub fn say_score(x: reading_score::ScoringResult, waits: [u8; 6], opened: bool) {
+// Has the reading a yaku?
+pub fn has_yaku(x: reading_score::ScoringResult) -> bool {
     let tallies = x.tallies;
-    let payment = x.payment;
-    text::say(b"  waits: ");
-    say_waits(waits);
-    text::say(b"\n  yaku: ");
+    lists::any_above_zero(&tallies)
+}
+
+// Writes the yaku of a reading; beside a yakuman no other yaku counts.
+fn say_yaku_of(x: reading_score::ScoringResult, opened: bool) {
+    let tallies = x.tallies;
+    text::say(b"  yaku: ");
     say_all_yaku(tallies, opened);
-    text::say(b"\n  score: ");
+    if x.is_yakuman {
+        text::say(b" (beside a yakuman no other yaku counts)");
+    }
+    text::say(b"\n");
+}
+
+// Writes what a reading with a yaku is worth, and who pays it.
+fn say_worth_of(x: reading_score::ScoringResult) {
+    let payment = x.payment;
+    text::say(b"  score: ");
     say_worth(x);
     text::say(b", basic points ");
     text::say_points(x.basic_points as u64);
     text::say(b"\n  payment: ");
     say_payment(payment);
     text::say(b"\n");
+}
+
+// Writes the waits, the yaku, the fu in its parts and the worth of a reading; of one without a yaku that it cannot win.
+pub fn say_score(
+    x: reading_score::ScoringResult,
+    waits: [u8; 6],
+    h: structure::Hand,
+    w: context::GameContext,
+    opened: bool,
+) {
+    text::say(b"  waits: ");
+    say_waits(waits);
+    text::say(b"\n");
+    say_yaku_of(x, opened);
+    text::say(b"  fu: ");
+    parts::say_parts(h, w, opened, x.fu);
+    text::say(b"\n");
+    if has_yaku(x) {
+        say_worth_of(x);
+    } else {
+        text::say(b"  no yaku: cannot win\n");
+    }
 }

@@ -49,3 +49,14 @@ pub fn say_none(empty: bool) {
         say(b"none");
     }
 }
+
+// Writes bytes that came from outside: one that cannot be printed as a question mark.
+pub fn say_plain(b: &[u8]) {
+    for i in 0..b.len() {
+        if (b' ' <= b[i]) & (b[i] <= b'~') {
+            say_byte(b[i]);
+        } else {
+            say_byte(b'?');
+        }
+    }
+}

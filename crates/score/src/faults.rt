@@ -1,38 +1,105 @@
-// What is written for each fault of the words.
+// What is written for each fault of the words, in the words of a referee, with what to type instead.
 ghost use Prim.Native.Nat.{_<_};
+use notation::said;
 use printed::text;
+use tile_words::faults;
 
 // What each fault means, after the word at fault, in the order of the numbers in `tile_words::faults`.
-const FAULTS: [[u8; 72]; 15] = [
-    *b"has no fault                                                            ",
-    *b"is not a known word; without any word, score says how it is used        ",
-    *b"is no row of tiles: numbers from 1 to 9, then m, p, s or z              ",
-    *b"has tiles without a suit: m, p, s or z belongs behind the numbers       ",
-    *b"has a suit without numbers before it                                    ",
-    *b"has an honor that is none: 1z to 7z are East to North, White, Green, Red",
-    *b"has a 0: red fives are not read, as dora is not counted                 ",
-    *b"is no meld of such a call: a sequence, 3 or 4 alike (refused with 3)    ",
-    *b"is not one tile                                                         ",
-    *b"is a second winning tile: ron or tsumo is said once                     ",
-    *b"is no wind: east, south, west or north                                  ",
-    *b"is said twice                                                           ",
-    *b"is empty or longer than 64 letters                                      ",
-    *b"is the last word, and a word is missing behind it                       ",
-    *b"no winning tile: say ron or tsumo, then the tile                        ",
+const FAULTS: [[u8; 87]; 24] = [
+    *b"has no fault                                                                           ",
+    *b"is not a known word; 'score help' lists them                                           ",
+    *b"no suit and no honor: m, p, s or z follows numbers; honors by letter are e s w n wh g r",
+    *b"has numbers without a suit: m, p, s or z belongs behind them, as in 123m               ",
+    *b"has a suit without numbers before it: numbers come first, as in 123m                   ",
+    *b"has an honor that is none: 1z to 7z are East, South, West, North, White, Green, Red    ",
+    *b"is no chi: three tiles in a row of one suit, as in chi 123m                            ",
+    *b"is no pon: three tiles alike, as in pon 111m                                           ",
+    *b"is no kan: four tiles alike, as in kan 1111m                                           ",
+    *b"is no open call: three in a row, three alike or four alike, as in (123m) (111m) (1111m)",
+    *b"is no closed kan: four alike, as in [1111m]; other closed melds stand in the hand      ",
+    *b"has a bracket that is not closed                                                       ",
+    *b"has a closing bracket that nothing opens                                               ",
+    *b"is not one tile: the winning tile is one, as in ron 8s                                 ",
+    *b"is a second winning tile: ron or tsumo is said once                                    ",
+    *b"is no wind: east, south, west or north, or e, s, w, n                                  ",
+    *b"is said twice: there is one round wind and one seat wind                               ",
+    *b"is longer than 512 letters                                                             ",
+    *b"is the last word, and what belongs behind it is missing                                ",
+    *b"no winning tile: say ron or tsumo, then the tile, as in ron 8s                         ",
+    *b"is not riichi: double is said as double riichi                                         ",
+    *b"haitei is the last tile by tsumo; the last discard by ron is houtei                    ",
+    *b"houtei is the last discard by ron; the last tile by tsumo is haitei                    ",
+    *b"makes more than 136 tiles, and there are no more                                       ",
 ];
 
 // The row of a fault.
-fn fault_row(i: usize) -> [u8; 72]
-    requires { ⌜ i < 15 ⌝ }
+fn fault_row(i: usize) -> [u8; 87]
+    requires { ⌜ i < 24 ⌝ }
 {
     FAULTS[i]
 }
 
 // Writes what a fault means.
-pub fn say_fault(number: u8) {
-    if 14 < number {
+fn say_fault(number: u8) {
+    if 23 < number {
         return;
     }
     let row = fault_row(number as usize);
     text::say_row(&row);
+}
+
+// Writes a part of the word that was found at fault, in quotes.
+fn say_part(word: &[u8], from: usize, end: usize) {
+    if end < from {
+        return;
+    }
+    if word.len() < end {
+        return;
+    }
+    text::say_byte(b'\'');
+    text::say_plain(&word[from..end]);
+    text::say_byte(b'\'');
+}
+
+// Writes the character at a place of the word, in quotes.
+fn say_letter(word: &[u8], at: usize) {
+    if word.len() <= at {
+        return;
+    }
+    text::say_byte(b'\'');
+    text::say_plain(&[word[at]]);
+    text::say_byte(b'\'');
+}
+
+// Writes the word that was found at fault, and of a letter that names nothing that letter.
+fn say_word(s: said::Said) {
+    let mut word = [0u8; 512];
+    let n = os::arg(s.word, &mut word);
+    say_part(&word[..n], s.from, s.end);
+    text::say_byte(b' ');
+    if s.fault == faults::NO_LETTER {
+        text::say(b"has ");
+        say_letter(&word[..n], s.at);
+        text::say(b", ");
+    }
+}
+
+// Is the fault one of a word, and not of all words together?
+fn is_of_word(fault: u8) -> bool {
+    !((fault == faults::NO_WIN) | ((fault == faults::HAITEI_RON) | (fault == faults::HOUTEI_TSUMO)))
+}
+
+// Writes what is wrong with the words.
+pub fn say_bad_input(s: said::Said) {
+    let fault = s.fault;
+    text::say(b"bad input: ");
+    if fault == faults::SIZE {
+        text::say(b"word ");
+        text::say_number(s.word as u64);
+        text::say_byte(b' ');
+    } else if is_of_word(fault) {
+        say_word(s);
+    }
+    say_fault(fault);
+    text::say(b"\n");
 }

@@ -1,14 +1,20 @@
 -- `say_totals` is safe and ends. Assumes nothing.
 use Prim.Native.Nat.{_≤_, _-_}
 use borrow.Author.Needs.{needs}
-use Rattle.score.proofs.show.say_totals.Statement.{statement}
-use Rattle.score.proofs.show.say_totals.Tie as tie
+use Rattle.score.proofs.readings.say_totals.Statement.{statement}
+use Rattle.score.proofs.readings.say_totals.Tie as tie
 
 abbrev Inv-loop : tie.InvT-loop
 Inv-loop n chosen counts k w i₀ i = i ≤ n
 
 abbrev μ-loop : tie.MeasureT-loop
 μ-loop n chosen counts k w i₀ i = n - i
+
+slice-aggregate-say : tie.Need-slice-aggregate-say Inv-loop μ-loop
+slice-aggregate-say c = search needs
+
+say-requires : tie.Need-say-requires Inv-loop μ-loop
+say-requires c κs = search needs
 
 loop-holds : tie.Need-loop-holds Inv-loop μ-loop
 loop-holds c = search needs
@@ -25,10 +31,24 @@ loop-less c = search needs
 loop-again : tie.Need-loop-again Inv-loop μ-loop
 loop-again c = search needs
 
+say-byte-requires : tie.Need-say-byte-requires Inv-loop μ-loop
+say-byte-requires c κs = search needs
+
 returns : tie.Need-returns Inv-loop μ-loop
 returns c = search needs
 
 pub say-totals-spec : {M : Type 1} → statement M
 say-totals-spec =
     tie.close
-    (tie.spec Inv-loop μ-loop loop-holds say-total-requires add-i loop-less loop-again returns)
+    (tie.spec
+    Inv-loop
+    μ-loop
+    slice-aggregate-say
+    say-requires
+    loop-holds
+    say-total-requires
+    add-i
+    loop-less
+    loop-again
+    say-byte-requires
+    returns)

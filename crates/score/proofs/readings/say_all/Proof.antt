@@ -3,8 +3,8 @@ use mathlib.Core.Path.{sym, _∙_}
 use lib.ListN.{length-map}
 use Rattle.promises.proofs.Listing.{room}
 use borrow.Author.Needs.{needs}
-use Rattle.score.proofs.show.say_all.Statement.{statement}
-use Rattle.score.proofs.show.say_all.Tie as tie
+use Rattle.score.proofs.readings.say_all.Statement.{statement}
+use Rattle.score.proofs.readings.say_all.Tie as tie
 
 check-hand-requires : tie.Need-check-hand-requires
 check-hand-requires c κs = search needs
@@ -12,15 +12,18 @@ check-hand-requires c κs = search needs
 returns : tie.Need-returns
 returns c = search needs
 
+chosen-of-requires : tie.Need-chosen-of-requires
+chosen-of-requires c κs = search needs
+
 slice-aggregate-write-all : tie.Need-slice-aggregate-write-all
 slice-aggregate-write-all c = search needs
 
 write-all-requires : tie.Need-write-all-requires
 write-all-requires c κs =
-    let s = c .before .before .before .before .before in
+    let s = c .before .before .before .before .before .before in
     let cs = s .args .counts .now in
     let k = s .args .k in
-    let ok = sym (c .before .before .before .check-hand .ensures) ∙ c .before .before .if1 .left in
+    let ok = sym (c .before .before .before .before .check-hand .ensures) ∙ c .before .before .before .if1 .left in
     let four = sym (length-map (k .melds) _) ∙ s .good .1 .0 .1 .1 .1 .0 .1 .0 .1 in
     (ok, room cs k four ok)
 
@@ -33,17 +36,11 @@ say-readings-requires c κs = search needs
 say-byte-requires : tie.Need-say-byte-requires
 say-byte-requires c κs = search needs
 
-slice-aggregate-say : tie.Need-slice-aggregate-say
-slice-aggregate-say c = search needs
-
-say-requires : tie.Need-say-requires
-say-requires c κs = search needs
-
 say-totals-requires : tie.Need-say-totals-requires
 say-totals-requires c κs = search needs
 
-say-byte-requires-2 : tie.Need-say-byte-requires-2
-say-byte-requires-2 c κs = search needs
+say-why-requires : tie.Need-say-why-requires
+say-why-requires c κs = search needs
 
 returns-2 : tie.Need-returns-2
 returns-2 c = search needs
@@ -57,14 +54,13 @@ say-all-spec =
     (tie.spec
     check-hand-requires
     returns
+    chosen-of-requires
     slice-aggregate-write-all
     write-all-requires
     slice-aggregate-say-readings
     say-readings-requires
     say-byte-requires
-    slice-aggregate-say
-    say-requires
     say-totals-requires
-    say-byte-requires-2
+    say-why-requires
     returns-2
     returns-3)

@@ -1,8 +1,8 @@
 -- `say_readings` is safe and ends. Assumes nothing.
 use Prim.Native.Nat.{_≤_, _-_}
 use borrow.Author.Needs.{needs}
-use Rattle.score.proofs.show.say_readings.Statement.{statement}
-use Rattle.score.proofs.show.say_readings.Tie as tie
+use Rattle.score.proofs.readings.say_readings.Statement.{statement}
+use Rattle.score.proofs.readings.say_readings.Tie as tie
 
 abbrev Inv-loop : tie.InvT-loop
 Inv-loop records n chosen counts k w i₀ i = i ≤ n
@@ -13,11 +13,14 @@ abbrev μ-loop : tie.MeasureT-loop
 loop-holds : tie.Need-loop-holds Inv-loop μ-loop
 loop-holds c = search needs
 
+place-of-requires : tie.Need-place-of-requires Inv-loop μ-loop
+place-of-requires c κs = search needs
+
+reading-at-requires : tie.Need-reading-at-requires Inv-loop μ-loop
+reading-at-requires c κs = search needs
+
 say-reading-requires : tie.Need-say-reading-requires Inv-loop μ-loop
 say-reading-requires c κs = search needs
-
-say-score-requires : tie.Need-say-score-requires Inv-loop μ-loop
-say-score-requires c κs = search needs
 
 add-i : tie.Need-add-i Inv-loop μ-loop
 add-i c = search needs
@@ -38,8 +41,9 @@ say-readings-spec =
     Inv-loop
     μ-loop
     loop-holds
+    place-of-requires
+    reading-at-requires
     say-reading-requires
-    say-score-requires
     add-i
     loop-less
     loop-again

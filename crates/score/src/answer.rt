@@ -1,0 +1,136 @@
+// The answer of scoring the win: the score of the chosen reading, or what the hand lacks.
+ghost use Prim.Native.Nat.{_<_};
+use printed::names;
+use printed::points;
+use printed::print;
+use printed::text;
+
+// How many of a tile a call holds, if it is there.
+fn used(m: meld::Meld, there: bool, t: u8) -> u64
+    ensures { λ r. ⌜ r < 256 ⌝ }
+{
+    if there {
+        return hand::wide(m.uses(t));
+    }
+    0
+}
+
+// How many of a tile the calls hold.
+fn called(k: checks::Calls, t: u8) -> u64
+    ensures { λ r. ⌜ r < 1024 ⌝ }
+{
+    let melds = k.melds;
+    let count = k.count;
+    used(melds[0], 0 < count, t)
+        + used(melds[1], 1 < count, t)
+        + used(melds[2], 2 < count, t)
+        + used(melds[3], 3 < count, t)
+}
+
+// How many of a tile hand and calls hold, from how many the hand holds.
+fn held(count: u8, k: checks::Calls, t: u8) -> u64 {
+    hand::wide(count) + called(k, t)
+}
+
+// The lowest tile of which hand and calls hold more than four; 34 where there is none.
+fn above_four(counts: &[u8; 34], k: checks::Calls) -> u8 {
+    let mut t = 0;
+    while t < 34 {
+        if 4 < held(counts[t as usize], k, t) {
+            return t;
+        }
+        t += 1;
+    }
+    34
+}
+
+// Writes which tile is there more than four times.
+fn say_above_four(counts: &[u8; 34], k: checks::Calls) {
+    let t = above_four(counts, k);
+    if 34 <= t {
+        return;
+    }
+    text::say(b": ");
+    print::say_alike(t, 1);
+    text::say(b" is there ");
+    text::say_number(held(counts[t as usize], k, t));
+    text::say(b" times");
+}
+
+// No calls, in place of those that were made.
+fn without_calls(mut k: checks::Calls) -> checks::Calls {
+    k.count = 0;
+    k
+}
+
+// Writes how many calls there are.
+fn say_call_count(n: usize) {
+    text::say_number(n as u64);
+    if n == 1 {
+        text::say(b" call");
+    } else {
+        text::say(b" calls");
+    }
+}
+
+// Writes how many tiles there are and how many are needed, beside at most four calls.
+fn say_sizes(counts: &[u8; 34], count: usize) {
+    if 4 < count {
+        return;
+    }
+    text::say(b": ");
+    text::say_number(hand::sum_range(counts, 0, 34));
+    text::say(b" tiles, and beside ");
+    say_call_count(count);
+    text::say_byte(b' ');
+    text::say_number((14 - 3 * count) as u64);
+    text::say(b" are needed, the winning tile among them and tiles of calls not");
+}
+
+// Writes which winning tile the hand does not hold.
+fn say_not_held(t: u8) {
+    text::say(b": ");
+    print::say_alike(t, 1);
+    text::say(b" is not among its tiles; tiles of calls do not count");
+}
+
+// Writes what exactly is wrong, behind the meaning of a refusal.
+fn say_detail(number: u8, counts: &[u8; 34], k: checks::Calls, winning_tile: u8) {
+    match number {
+        2 => {
+            text::say(b": ");
+            say_call_count(k.count);
+        }
+        4 => say_above_four(counts, without_calls(k)),
+        5 => say_above_four(counts, k),
+        6 => say_sizes(counts, k.count),
+        9 => say_not_held(winning_tile),
+        10 => text::say(
+            b": no four melds and a pair, no seven different pairs, no thirteen orphans",
+        ),
+        _ => text::say(b""),
+    }
+}
+
+// Writes a refusal.
+pub fn say_refused(number: u8, counts: &[u8; 34], k: checks::Calls, winning_tile: u8) {
+    text::say(b"answer: refused with ");
+    text::say_number(number as u64);
+    text::say(b": ");
+    names::say_refusal(number);
+    say_detail(number, counts, k, winning_tile);
+    text::say(b"\n");
+}
+
+// Writes the answer of scoring the win.
+pub fn say_answer(scored: choice::ScoreAnswer) {
+    let score = scored.score;
+    let payment = score.payment;
+    text::say(b"answer: reading ");
+    text::say_number(scored.reading as u64);
+    text::say(b", ");
+    points::say_worth(score);
+    text::say(b", ");
+    points::say_payment(payment);
+    text::say(b"\n");
+}

@@ -1,0 +1,103 @@
+// The hand as it was understood, in words that can be given again.
+ghost use Prim.Native.Nat.{_<_};
+use notation::said;
+use notation::words;
+use printed::print;
+use printed::text;
+
+// Writes a known word, a space before it.
+pub fn say_word(i: usize)
+    requires { ⌜ i < 17 ⌝ }
+{
+    let row = words::word_row(i);
+    text::say_byte(b' ');
+    text::say_row(&row);
+}
+
+// The number of the known word for the kind of a call.
+fn word_of_kind(kind: u8) -> usize
+    ensures { λ r. ⌜ r < 17 ⌝ }
+{
+    match kind {
+        1 => 0,
+        3 => 1,
+        5 => 2,
+        4 => 3,
+        _ => 4,
+    }
+}
+
+// Writes a call, if it is there.
+fn say_call(m: meld::Meld, there: bool) {
+    if !there {
+        return;
+    }
+    say_word(word_of_kind(m.kind));
+    text::say_byte(b' ');
+    print::say_tiles_of(m);
+}
+
+// Writes the calls, at most four.
+fn say_calls(k: checks::Calls) {
+    let melds = k.melds;
+    let count = k.count;
+    say_call(melds[0], 0 < count);
+    say_call(melds[1], 1 < count);
+    say_call(melds[2], 2 < count);
+    say_call(melds[3], 3 < count);
+}
+
+// Writes how it was won, and on which tile.
+fn say_won(s: said::Said) {
+    if s.tsumo {
+        text::say(b" tsumo ");
+    } else {
+        text::say(b" ron ");
+    }
+    print::say_alike(s.winning_tile, 1);
+}
+
+// Writes a wind.
+fn say_wind(wind: u8) {
+    let row = words::wind_row((wind % 4) as usize);
+    text::say_row(&row);
+}
+
+// Writes the flags.
+fn say_flags(flags: [bool; 8]) {
+    for i in 0..8 {
+        if flags[i] {
+            say_word(i + 9);
+        }
+    }
+}
+
+// Writes whether the hand is open.
+fn say_opened(k: checks::Calls) {
+    if win::is_opened(k) {
+        text::say(b"the hand is open\n");
+    } else {
+        text::say(b"the hand is closed\n");
+    }
+}
+
+// Writes the hand as it was understood. Of more than four calls only four are kept, and nothing is written.
+pub fn say_hand(s: said::Said) {
+    let counts = s.counts;
+    let calls = s.calls;
+    let flags = s.flags;
+    if 4 < calls.count {
+        return;
+    }
+    text::say(b"hand:");
+    print::say_counts(&counts);
+    say_calls(calls);
+    say_won(s);
+    text::say(b" round ");
+    say_wind(s.round);
+    text::say(b" seat ");
+    say_wind(s.seat);
+    say_flags(flags);
+    text::say_byte(b'\n');
+    say_opened(calls);
+}

@@ -1,0 +1,43 @@
+// How the program is used.
+use printed::text;
+
+// Writes what a hand, its calls and its tiles look like.
+fn say_tiles() {
+    text::say(
+        b"TILES  222333444m567p88s: numbers, then m man, p pin, s sou; honors 1z to 7z East South West North\n",
+    );
+    text::say(b"       White Green Red, or by letter: e s w n wh g r; several words add up\n");
+    text::say(b"       the tiles not called, the winning tile included\n");
+    text::say(
+        b"CALL   chi 123m, pon 111m, kan 1111m (open), ankan 1111m (closed), kakan 1111m (added)\n",
+    );
+    text::say(b"       or in brackets: '(123m)', '(111m)', '(1111m)' open, '[1111m]' closed\n");
+}
+
+// Writes which words there are beside them.
+fn say_words() {
+    text::say(
+        b"WIND   east south west north, or e s w n; without: round east, seat south; seat east, or the word\n",
+    );
+    text::say(b"       dealer, is the dealer\n");
+    text::say(
+        b"FLAG   riichi double-riichi ippatsu rinshan chankan last-tile (or haitei, houtei) tenhou chiihou\n\n",
+    );
+    text::say(
+        b"Words may stand in quotes together. Red fives (0m) are read as fives, and dora TILES and\n",
+    );
+    text::say(b"ura TILES are taken, but neither is counted.\n\n");
+}
+
+// Writes how to use it.
+pub fn say_usage() {
+    text::say(b"score TILES.. [CALL TILES].. ron|tsumo TILE [round WIND] [seat WIND] [FLAG]..\n");
+    text::say(
+        b"writes every reading of a finished hand, what it is worth, and which is chosen\n\n",
+    );
+    say_tiles();
+    say_words();
+    text::say(b"score 222333444m567p88s ron 8s\n");
+    text::say(b"score 22m567p345s chi 234m pon 555z tsumo 5s dealer\n");
+    text::say(b"score '22m 567p 345s (234m) (555z) tsumo 5s dealer'\n\n");
+}
