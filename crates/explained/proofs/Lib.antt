@@ -1,5 +1,10 @@
 pub mod Past
+pub mod Eight
 pub mod Places
 pub mod Rounded
 pub mod Parts
 pub mod PartsExamples
+pub mod Tallied
+pub mod FlagExamples
+pub mod Deciding
+pub mod DecidedExamples

@@ -1,7 +1,7 @@
 -- Laws of the parts of fu, for every win and every reading. They add up to the fu of the reading and so to that of its score; each part of a
 -- pair and four melds is what its name says, in a pinfu too; and the melds' part is the sum of the melds' fu. Assumes nothing.
 use mathlib.Core.Path.{_≡_, refl, sym, _∙_}
-use mathlib.Core.Bool.{Bool, true, false, _&&_, not, cond}
+use mathlib.Core.Bool.{Bool, true, false, not, cond}
 use mathlib.Core.List.{List, [], _∷_, map}
 use Prim.Native.Nat.{ℕ, _+_, _<_, _≤_}
 use native.Mathlib.Omega.{arith}

@@ -61,7 +61,7 @@ pub double-wind-pair : breakdown (dealerWins byRon (sou 8) []) false (standard E
 unfolding breakdown countedParts pinfu
 double-wind-pair = refl
 
--- a closed kan of terminals has 32, and a pair of Red 2: 54 and 6 to 60 beside a tsumo on a wait from both sides
+-- a closed kan of terminals has 32, a pair of Red 2; by tsumo on a wait from both sides that is 56, and 4 to 60
 pub closed-kan-tsumo : breakdown (tsumo (sou 8)) false (standard Red (closedKan (man 1) ∷ run (pin 4) ∷ run (sou 2) ∷ run (sou 6) ∷ [])) ≡ row 20 0 2 32 2 0 4
 unfolding breakdown countedParts pinfu
 closed-kan-tsumo = refl

@@ -1,7 +1,6 @@
 -- What decided between the scores of two readings: the first rule of the choice (crates/reading_score/specs/Preferred.antt) in which they
 -- differ. These are definitions.
 use mathlib.Core.Bool.{Bool, not, cond, Bool·beq}
-use Prim.Native.Nat.{ℕ}
 use lib.Dec.{eqb}
 use Rattle.scoring.specs.Payment.{totalAt}
 use Rattle.reading_score.specs.declared.ScoringResult.{ScoringResult}

@@ -4,6 +4,7 @@
 use mathlib.Core.Bool.{Bool, true, false, not, cond}
 use mathlib.Core.List.{List, [], _∷_}
 use Prim.Native.Nat.{ℕ}
+use lib.Dec.{leb}
 use lib.ListN.{getD}
 use Rattle.lists.specs.Fold.{sum}
 use Rattle.context.specs.declared.GameContext.{GameContext}
@@ -33,28 +34,35 @@ unfoldable pub isSet : GameContext → ℕ → Bool
 isSet w f = getD (flags w) f false
 
 -- what goes with a riichi needs a closed hand and the riichi flag
-abbrev pub declared : GameContext → Bool → Uncounted → Uncounted
-declared w opened rest = cond opened Open (cond (not (w .«is_riichi»)) NoRiichi rest)
+abbrev pub declared : Bool → Bool → Uncounted → Uncounted
+declared opened riichi rest = cond opened Open (cond (not riichi) NoRiichi rest)
 
 -- a replacement tile breaks ippatsu, and is never the last of the wall
-abbrev pub undrawn : GameContext → Uncounted
-undrawn w = cond (rinshan w) Replacement Counts
+abbrev pub undrawn : Bool → Uncounted
+undrawn replacement = cond replacement Replacement Counts
 
 -- a win on the first draw is by tsumo, with a closed hand
-abbrev pub firstDraw : GameContext → Bool → Uncounted → Uncounted
-firstDraw w opened rest = cond (not (isTsumo w)) ByRon (cond opened Open rest)
+abbrev pub firstDraw : Bool → Bool → Uncounted → Uncounted
+firstDraw byTsumo opened rest = cond (not byTsumo) ByRon (cond opened Open rest)
+
+-- the dealer's win on the first draw is tenhou, another player's chiihou
+abbrev pub tenhouDealer : Bool → Uncounted
+tenhouDealer dealer = cond (not dealer) NotDealer Counts
+
+abbrev pub chiihouDealer : Bool → Uncounted
+chiihouDealer dealer = cond dealer Dealer Counts
 
 -- the first reason against each flag, if it is set
 abbrev pub reasons : GameContext → Bool → List Uncounted
 reasons w opened =
-    declared w opened Counts
-    ∷ declared w opened Counts
-    ∷ declared w opened (undrawn w)
+    declared opened (w .«is_riichi») Counts
+    ∷ declared opened (w .«is_riichi») Counts
+    ∷ declared opened (w .«is_riichi») (undrawn (rinshan w))
     ∷ cond (not (isTsumo w)) ByRon Counts
     ∷ cond (isTsumo w) ByTsumo Counts
-    ∷ undrawn w
-    ∷ firstDraw w opened (cond (not (isDealer w)) NotDealer Counts)
-    ∷ firstDraw w opened (cond (isDealer w) Dealer Counts)
+    ∷ undrawn (rinshan w)
+    ∷ firstDraw (isTsumo w) opened (tenhouDealer (isDealer w))
+    ∷ firstDraw (isTsumo w) opened (chiihouDealer (isDealer w))
     ∷ []
 
 -- that against the flag with this number
@@ -64,6 +72,30 @@ reason w opened f = getD (reasons w opened) f NotSet
 -- why the flag counts nothing
 unfoldable pub whyUncounted : GameContext → Bool → ℕ → Uncounted
 whyUncounted w opened f = cond (not (isSet w f)) NotSet (reason w opened f)
+
+-- does it count, unless a yakuman leaves it out
+abbrev pub isCounted : Uncounted → Bool
+isCounted Counts = true
+isCounted NotSet = false
+isCounted Open = false
+isCounted NoRiichi = false
+isCounted ByRon = false
+isCounted ByTsumo = false
+isCounted Replacement = false
+isCounted NotDealer = false
+isCounted Dealer = false
+
+-- is it true of the win
+abbrev pub isTrue : GameContext → Bool → ℕ → Uncounted → Bool
+isTrue w opened f Counts = isSet w f
+isTrue w opened f NotSet = not (isSet w f)
+isTrue w opened f Open = opened
+isTrue w opened f NoRiichi = not (w .«is_riichi»)
+isTrue w opened f ByRon = not (isTsumo w)
+isTrue w opened f ByTsumo = isTsumo w
+isTrue w opened f Replacement = rinshan w
+isTrue w opened f NotDealer = not (isDealer w)
+isTrue w opened f Dealer = isDealer w
 
 -- the yaku that each flag gives
 abbrev pub flagYaku : List (List Yaku)
@@ -77,6 +109,10 @@ flagYaku =
     ∷ (Tenhou ∷ [])
     ∷ (Chiihou ∷ [])
     ∷ []
+
+-- tenhou and chiihou are yakuman, which no other leaves out
+abbrev pub isYakumanFlag : ℕ → Bool
+isYakumanFlag f = leb 6 f
 
 -- how often those of the flag with this number count by the tallies ts
 abbrev pub tallyOf : ℕ → List ℕ → ℕ

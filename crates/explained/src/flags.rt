@@ -2,6 +2,7 @@
 // 4 chankan, 5 last tile, 6 tenhou, 7 chiihou.
 ghost use mathlib.Core.Path.{_≡_};
 ghost use mathlib.Core.Bool.{cond};
+ghost use Rattle.context.specs.Context.{isTsumo};
 ghost use Rattle.explained.specs.Flags.{declared, firstDraw, isSet, reason, whyUncounted};
 
 // It counts (unless a yakuman leaves it out), it is not set, or the first reason why it does not count.
@@ -26,7 +27,7 @@ fn unless(holds: bool, why: Uncounted, rest: Uncounted) -> Uncounted
 
 // What goes with a riichi needs a closed hand and the riichi flag.
 fn declared(w: context::GameContext, opened: bool, rest: Uncounted) -> Uncounted
-    ensures { λ r. ⌜ r ≡ declared w opened rest ⌝ }
+    ensures { λ r. ⌜ r ≡ declared opened (w .«is_riichi») rest ⌝ }
 {
     unless(
         opened,
@@ -37,7 +38,7 @@ fn declared(w: context::GameContext, opened: bool, rest: Uncounted) -> Uncounted
 
 // A win on the first draw is by tsumo, with a closed hand.
 fn first_draw(w: context::GameContext, opened: bool, rest: Uncounted) -> Uncounted
-    ensures { λ r. ⌜ r ≡ firstDraw w opened rest ⌝ }
+    ensures { λ r. ⌜ r ≡ firstDraw (isTsumo w) opened rest ⌝ }
 {
     unless(
         !w.is_tsumo(),
