@@ -12,7 +12,8 @@ rounded-up true n = omega arith
 rounded-up false n = omega arith
 
 pub rounding-reaches : (opened : Bool) (n : ℕ) → n + roundingFu opened n ≡ atLeast30 opened (roundUpTo10 n)
-rounding-reaches opened n = let up = rounded-up opened n in omega arith
+rounding-reaches true n = omega arith
+rounding-reaches false n = omega arith
 
 pub rounding-closed : (n : ℕ) → roundingFu false n < 10
 rounding-closed n = omega arith

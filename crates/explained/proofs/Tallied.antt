@@ -16,7 +16,7 @@ use Rattle.yaku.specs.Tally.{rinshan, oneHan, moreHan, yakuman, isYakuman, ordi
 use Rattle.explained.specs.declared.flags.Uncounted.{Uncounted}
 use Rattle.explained.specs.declared.flags.Uncounted.the-variants.{Counts, NotSet, Open, NoRiichi, ByRon, ByTsumo, Replacement, NotDealer, Dealer}
 use Rattle.explained.proofs.Eight.{eight}
-use Rattle.explained.specs.Flags.{isSet, declared, undrawn, firstDraw, tenhouDealer, chiihouDealer, reason, whyUncounted, isCounted, isTrue, isYakumanFlag, tallyOf}
+use Rattle.explained.specs.Flags.{isSet, declared, unreplaced, firstDraw, tenhouDealer, chiihouDealer, reason, whyUncounted, isCounted, isTrue, isYakumanFlag, tallyOf}
 
 -- ---- a row for each flag: what its yaku are tallied, and what is said of it
 -- 1 where the flag is set and the reason against it is none
@@ -40,7 +40,7 @@ double-row true true false = refl
 
 ippatsu-row :
     (set riichi opened replacement : Bool)
-    → one ((riichi && not opened) && (set && not replacement)) + 0 ≡ said set (declared opened riichi (undrawn replacement))
+    → one ((riichi && not opened) && (set && not replacement)) + 0 ≡ said set (declared opened riichi (unreplaced replacement))
 ippatsu-row false false opened replacement = refl
 ippatsu-row false true true replacement = refl
 ippatsu-row false true false replacement = refl
@@ -62,7 +62,7 @@ chankan-row true false = refl
 
 last-row :
     (set byTsumo replaced : Bool)
-    → one (set && (byTsumo && not replaced)) + (one (set && not byTsumo) + 0) ≡ said set (undrawn (replaced && byTsumo))
+    → one (set && (byTsumo && not replaced)) + (one (set && not byTsumo) + 0) ≡ said set (unreplaced (replaced && byTsumo))
 last-row false byTsumo replaced = refl
 last-row true true true = refl
 last-row true true false = refl
@@ -152,14 +152,20 @@ module _ (w : GameContext) (opened : Bool) (f : ℕ) where
 
   declared-true : (rest : Uncounted) → True rest → True (declared opened (w .«is_riichi») rest)
   declared-true rest h =
-      first-true opened Open _ (λ t. t) (λ t. first-true (not (w .«is_riichi»)) NoRiichi rest (λ t. t) (λ t. h))
+      first-true opened _ _ (λ t. t) (λ t. first-true (not (w .«is_riichi»)) _ rest (λ t. t) (λ t. h))
 
-  undrawn-true : True Counts → True (undrawn (rinshan w))
-  undrawn-true h = first-true (rinshan w) Replacement Counts (λ t. t) (λ t. h)
+  unreplaced-true : True Counts → True (unreplaced (rinshan w))
+  unreplaced-true h = first-true (rinshan w) _ Counts (λ t. t) (λ t. h)
 
   first-draw-true : (rest : Uncounted) → True rest → True (firstDraw (isTsumo w) opened rest)
   first-draw-true rest h =
-      first-true (not (isTsumo w)) ByRon _ (λ t. t) (λ t. first-true opened Open rest (λ t. t) (λ t. h))
+      first-true (not (isTsumo w)) _ _ (λ t. t) (λ t. first-true opened _ rest (λ t. t) (λ t. h))
+
+  tenhou-dealer-true : True Counts → True (tenhouDealer (isDealer w))
+  tenhou-dealer-true h = first-true (not (isDealer w)) _ Counts (λ t. t) (λ t. h)
+
+  chiihou-dealer-true : True Counts → True (chiihouDealer (isDealer w))
+  chiihou-dealer-true h = first-true (isDealer w) _ Counts (λ t. t) (λ t. h)
 
 set-twice : (b : Bool) → T (not (not b)) → T b
 set-twice true t = tt
@@ -172,12 +178,12 @@ module _ (w : GameContext) (opened : Bool) where
       eight (λ f. T (isSet w f) → True w opened f (reason w opened f))
       (λ t. declared-true w opened 0 Counts t)
       (λ t. declared-true w opened 1 Counts t)
-      (λ t. declared-true w opened 2 (undrawn (rinshan w)) (undrawn-true w opened 2 t))
-      (λ t. first-true w opened 3 (not (isTsumo w)) ByRon Counts (λ u. u) (λ u. t))
-      (λ t. first-true w opened 4 (isTsumo w) ByTsumo Counts (λ u. u) (λ u. t))
-      (λ t. undrawn-true w opened 5 t)
-      (λ t. first-draw-true w opened 6 _ (first-true w opened 6 (not (isDealer w)) NotDealer Counts (λ u. u) (λ u. t)))
-      (λ t. first-draw-true w opened 7 _ (first-true w opened 7 (isDealer w) Dealer Counts (λ u. u) (λ u. t)))
+      (λ t. declared-true w opened 2 (unreplaced (rinshan w)) (unreplaced-true w opened 2 t))
+      (λ t. first-true w opened 3 (not (isTsumo w)) _ Counts (λ u. u) (λ u. t))
+      (λ t. first-true w opened 4 (isTsumo w) _ Counts (λ u. u) (λ u. t))
+      (λ t. unreplaced-true w opened 5 t)
+      (λ t. first-draw-true w opened 6 _ (tenhou-dealer-true w opened 6 t))
+      (λ t. first-draw-true w opened 7 _ (chiihou-dealer-true w opened 7 t))
       (λ f t. absurd t)
 
   pub named-true : (f : ℕ) → T (isTrue w opened f (whyUncounted w opened f))

@@ -38,8 +38,8 @@ abbrev pub declared : Bool → Bool → Uncounted → Uncounted
 declared opened riichi rest = cond opened Open (cond (not riichi) NoRiichi rest)
 
 -- a replacement tile breaks ippatsu, and is never the last of the wall
-abbrev pub undrawn : Bool → Uncounted
-undrawn replacement = cond replacement Replacement Counts
+abbrev pub unreplaced : Bool → Uncounted
+unreplaced replacement = cond replacement Replacement Counts
 
 -- a win on the first draw is by tsumo, with a closed hand
 abbrev pub firstDraw : Bool → Bool → Uncounted → Uncounted
@@ -57,10 +57,10 @@ abbrev pub reasons : GameContext → Bool → List Uncounted
 reasons w opened =
     declared opened (w .«is_riichi») Counts
     ∷ declared opened (w .«is_riichi») Counts
-    ∷ declared opened (w .«is_riichi») (undrawn (rinshan w))
+    ∷ declared opened (w .«is_riichi») (unreplaced (rinshan w))
     ∷ cond (not (isTsumo w)) ByRon Counts
     ∷ cond (isTsumo w) ByTsumo Counts
-    ∷ undrawn (rinshan w)
+    ∷ unreplaced (rinshan w)
     ∷ firstDraw (isTsumo w) opened (tenhouDealer (isDealer w))
     ∷ firstDraw (isTsumo w) opened (chiihouDealer (isDealer w))
     ∷ []

@@ -58,6 +58,7 @@ fn counted_parts(
     let tsumo = w.is_tsumo();
     let kept = wait::winning_tile_in_closed_sequence(ms, w);
     let sum = fu::raw_fu(ms, pair, w, opened);
+    let rounding = fu::rounded_fu(sum, opened) - sum;
     FuBreakdown {
         base: 20,
         menzen_ron: fu::pick(tsumo | opened, 0, 10),
@@ -65,7 +66,7 @@ fn counted_parts(
         melds: fu::melds_fu(ms, w, kept),
         pair: fu::pair_fu(pair, w),
         wait: fu::wait_fu(ms, pair, w),
-        rounding: fu::rounded_fu(sum, opened) - sum,
+        rounding: rounding,
     }
 }
 

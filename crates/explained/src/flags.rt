@@ -69,7 +69,7 @@ fn reason(w: context::GameContext, opened: bool, flag: usize) -> Uncounted
     ensures { λ r. ⌜ r ≡ reason w opened flag ⌝ }
 {
     let tsumo = w.is_tsumo();
-    let drawn = unless(
+    let unreplaced = unless(
         w.is_rinshan & tsumo,
         Uncounted::Replacement,
         Uncounted::Counts,
@@ -77,10 +77,10 @@ fn reason(w: context::GameContext, opened: bool, flag: usize) -> Uncounted
     match flag {
         0 => declared(w, opened, Uncounted::Counts),
         1 => declared(w, opened, Uncounted::Counts),
-        2 => declared(w, opened, drawn),
+        2 => declared(w, opened, unreplaced),
         3 => unless(!tsumo, Uncounted::ByRon, Uncounted::Counts),
         4 => unless(tsumo, Uncounted::ByTsumo, Uncounted::Counts),
-        5 => drawn,
+        5 => unreplaced,
         6 => first_draw(
             w,
             opened,

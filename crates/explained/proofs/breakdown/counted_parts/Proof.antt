@@ -15,6 +15,15 @@ winning-tile-in-closed-sequence-requires c κs = search needs
 raw-fu-requires : tie.Need-raw-fu-requires
 raw-fu-requires c κs = search needs
 
+rounded-fu-requires : tie.Need-rounded-fu-requires
+rounded-fu-requires c κs = search needs
+
+sub-rounding : tie.Need-sub-rounding
+sub-rounding c =
+    let told = c .rounded-fu .ensures in
+    let more = rounded-up (c .before .before .before .before .args .opened) (c .before .raw-fu .result) in
+    omega arith
+
 pick-requires : tie.Need-pick-requires
 pick-requires c κs = search needs
 
@@ -30,15 +39,22 @@ pair-fu-requires c κs = search needs
 wait-fu-requires : tie.Need-wait-fu-requires
 wait-fu-requires c κs = search needs
 
-rounded-fu-requires : tie.Need-rounded-fu-requires
-rounded-fu-requires c κs = search needs
-
-sub-t15 : tie.Need-sub-t15
-sub-t15 c = let told = c .rounded-fu .ensures in let more = rounded-up (c .before .before .before .before .before .before .before .before .before .args .opened) (c .before .before .before .before .before .before .raw-fu .result) in omega arith
-
 returns : tie.Need-returns
 unfolding countedParts
-returns c = simp (c .before .before .before .before .before .before .before .before .is-tsumo .ensures, c .before .before .before .before .before .before .before .winning-tile-in-closed-sequence .ensures, c .before .before .before .before .before .before .raw-fu .ensures .0, c .before .before .before .before .before .pick .ensures .0, c .before .before .before .before .pick2 .ensures .0, c .before .before .before .melds-fu .ensures .0, c .before .before .pair-fu .ensures .0, c .before .wait-fu .ensures .0, c .rounded-fu .ensures)
+returns c =
+    let picked = c .before .before .before in
+    let rounded = picked .before .before in
+    simp (
+      rounded .before .before .before .is-tsumo .ensures,
+      rounded .before .before .winning-tile-in-closed-sequence .ensures,
+      rounded .before .raw-fu .ensures .0,
+      rounded .rounded-fu .ensures,
+      picked .before .pick .ensures .0,
+      picked .pick2 .ensures .0,
+      c .before .before .melds-fu .ensures .0,
+      c .before .pair-fu .ensures .0,
+      c .wait-fu .ensures .0,
+    )
 
 pub counted-parts-spec : {M : Type 1} → statement M
 counted-parts-spec =
@@ -47,11 +63,11 @@ counted-parts-spec =
     is-tsumo-requires
     winning-tile-in-closed-sequence-requires
     raw-fu-requires
+    rounded-fu-requires
+    sub-rounding
     pick-requires
     pick-requires-2
     melds-fu-requires
     pair-fu-requires
     wait-fu-requires
-    rounded-fu-requires
-    sub-t15
     returns)
