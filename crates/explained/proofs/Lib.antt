@@ -1,5 +1,4 @@
-pub mod Past
-pub mod Eight
+pub mod Numbers
 pub mod Places
 pub mod Rounded
 pub mod Parts

@@ -18,7 +18,7 @@ use Rattle.tile_yaku.specs.declared.TileYaku.{TileYaku}
 use Rattle.structure.proofs.Short.{Short}
 use Rattle.wait.specs.Wait.{weight, pinfu}
 use Rattle.wait.specs.Concealed.{spared}
-use Rattle.fu.specs.Fu.{meldFu, pairFu, winFu, roundUpTo10, atLeast30, pinfuFu, standardFu, fu}
+use Rattle.fu.specs.Fu.{meldFu, pairFu, waitFu, winFu, roundUpTo10, atLeast30, pinfuFu, standardFu, fu}
 use Rattle.reading_score.specs.Score.{result, scoreOf}
 use Rattle.explained.specs.declared.breakdown.FuBreakdown.{FuBreakdown}
 use Rattle.explained.specs.Breakdown.{menzenRonFu, tsumoFu, pinfuParts, meldsFu, unrounded, countedParts, breakdown, meldFuAt, partsSum}
@@ -123,6 +123,23 @@ module _ (w : GameContext) (opened : Bool) (p : ℕ) (ms : List Meld) where
       go : (flat : Bool) → pinfu w opened (standard p ms) ≡ flat → parts flat .pair ≡ pairFu w p
       go true e = no-pair-fu w opened p ms e
       go false e = refl
+
+  -- 2 for a tsumo and 2 for a close wait, but none for either in a pinfu
+  pub tsumo-part : breakdown w opened (standard p ms) .tsumo ≡ cond (pinfu w opened (standard p ms)) 0 (tsumoFu (isTsumo w))
+  unfolding breakdown countedParts
+  tsumo-part = go (pinfu w opened (standard p ms))
+    where
+      go : (flat : Bool) → parts flat .tsumo ≡ cond flat 0 (tsumoFu (isTsumo w))
+      go true = refl
+      go false = refl
+
+  pub wait-part : breakdown w opened (standard p ms) .wait ≡ cond (pinfu w opened (standard p ms)) 0 (waitFu w p ms)
+  unfolding breakdown countedParts
+  wait-part = go (pinfu w opened (standard p ms))
+    where
+      go : (flat : Bool) → parts flat .wait ≡ cond flat 0 (waitFu w p ms)
+      go true = refl
+      go false = refl
 
 -- ---- the melds' part is the sum of the fu of the melds at the places 0 to 3
 four-places : (l : List ℕ) → length l ≤ 4 → total l ≡ getD l 0 0 + (getD l 1 0 + (getD l 2 0 + (getD l 3 0 + 0)))

@@ -15,7 +15,7 @@ use Rattle.tile_yaku.specs.declared.TileYaku.{TileYaku}
 use Rattle.yaku.specs.Tally.{rinshan, oneHan, moreHan, yakuman, isYakuman, ordinary, tallies}
 use Rattle.explained.specs.declared.flags.Uncounted.{Uncounted}
 use Rattle.explained.specs.declared.flags.Uncounted.the-variants.{Counts, NotSet, Open, NoRiichi, ByRon, ByTsumo, Replacement, NotDealer, Dealer}
-use Rattle.explained.proofs.Eight.{eight}
+use Rattle.explained.proofs.Numbers.{eight}
 use Rattle.explained.specs.Flags.{isSet, declared, unreplaced, firstDraw, tenhouDealer, chiihouDealer, reason, whyUncounted, isCounted, isTrue, isYakumanFlag, tallyOf}
 
 -- ---- a row for each flag: what its yaku are tallied, and what is said of it

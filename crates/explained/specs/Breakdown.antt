@@ -63,11 +63,15 @@ breakdown w opened (orphans p) = onlyBase 30
 breakdown w opened (standard p ms) =
     cond (pinfu w opened (standard p ms)) (pinfuParts (isTsumo w)) (countedParts w opened p ms)
 
--- the fu of the meld at a place; 0 where none stands
+-- the fu of the meld at a place of the list; 0 past its end
+abbrev pub fuAt : GameContext → List Meld → ℕ → ℕ
+fuAt w ms i = getD (map (meldFu w (spared w ms)) ms) i 0
+
+-- the fu of the meld at a place of the reading; 0 where none stands
 unfoldable pub meldFuAt : GameContext → ℕ → Reading → ℕ
 meldFuAt w i (pairs ps) = 0
 meldFuAt w i (orphans p) = 0
-meldFuAt w i (standard p ms) = getD (map (meldFu w (spared w ms)) ms) i 0
+meldFuAt w i (standard p ms) = fuAt w ms i
 
 -- the sum of the parts
 abbrev pub partsSum : FuBreakdown → ℕ

@@ -1,5 +1,5 @@
 -- What decided between the scores of two readings: the first rule of the choice (crates/reading_score/specs/Preferred.antt) in which they
--- differ. These are definitions.
+-- differ. Without a yaku a reading is never chosen, so the laws speak of two scores with a yaku. These are definitions.
 use mathlib.Core.Bool.{Bool, not, cond, Bool·beq}
 use lib.Dec.{eqb}
 use Rattle.scoring.specs.Payment.{totalAt}
@@ -12,6 +12,7 @@ use Rattle.explained.specs.declared.decided.Decided.the-variants.{Total,
 abbrev pub firstOf : Bool → Bool → Bool → Bool → Decided
 firstOf total yakuman han fu = cond total Total (cond yakuman Yakuman (cond han Han (cond fu Fu Order)))
 
+-- a greater total, a yakuman, more han, more fu
 unfoldable pub decidedBy : ScoringResult → ScoringResult → Decided
 decidedBy x y =
     firstOf

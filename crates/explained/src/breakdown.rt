@@ -1,9 +1,8 @@
 // The parts of the fu of a reading (FuBreakdown of agari's scoring.rs, with what rounding adds in place of the sum before it).
 ghost use mathlib.Core.Path.{_≡_};
 ghost use Rattle.context.specs.Context.{isTsumo};
-ghost use Rattle.hand.specs.Reading.{standard};
 ghost use Rattle.structure.specs.Structure.{readingOf};
-ghost use Rattle.explained.specs.Breakdown.{onlyBase, pinfuParts, countedParts, breakdown, meldFuAt};
+ghost use Rattle.explained.specs.Breakdown.{onlyBase, pinfuParts, countedParts, breakdown, fuAt, meldFuAt};
 
 // The parts; they add up to the fu of the reading.
 pub struct FuBreakdown {
@@ -90,7 +89,7 @@ pub fn fu_breakdown(h: structure::Hand, w: context::GameContext, opened: bool) -
 
 // The fu of one of four melds, by its place.
 fn fu_at(ms: [meld::Meld; 4], w: context::GameContext, i: usize) -> u8
-    ensures { λ r. ⌜ r ≡ meldFuAt w i (standard 0 ms) ⌝ }
+    ensures { λ r. ⌜ r ≡ fuAt w ms i ⌝ }
 {
     if 4 <= i {
         return 0;

@@ -1,4 +1,4 @@
-// What decided between the scores of two readings.
+// What decided between the scores of two readings. Without a yaku a reading is never chosen, whatever its score.
 ghost use mathlib.Core.Path.{_≡_};
 ghost use Rattle.explained.specs.Decided.{firstOf, decidedBy};
 
@@ -30,7 +30,7 @@ fn first_of(total: bool, yakuman: bool, han: bool, fu: bool) -> Decided
     Decided::Order
 }
 
-// What decided between two scores.
+// What decided between two scores with a yaku.
 pub fn decided_by(x: reading_score::ScoringResult, y: reading_score::ScoringResult) -> Decided
     ensures { λ r. ⌜ r ≡ decidedBy x y ⌝ }
 {

@@ -3,7 +3,7 @@ use mathlib.Core.Path.{sym}
 use mathlib.Core.Bool.{false}
 use lib.ListN.{List·getD-eq-default}
 use Rattle.explained.specs.Flags.{flags, isSet}
-use Rattle.explained.proofs.Past.{past}
+use Rattle.explained.proofs.Numbers.{past}
 use Rattle.explained.proofs.flags.is_set.Statement.{statement}
 use Rattle.explained.proofs.flags.is_set.Tie as tie
 

@@ -3,7 +3,7 @@ use mathlib.Core.Path.{sym}
 use lib.ListN.{List·getD-eq-default}
 use Rattle.explained.specs.declared.flags.Uncounted.the-variants.{NotSet}
 use Rattle.explained.specs.Flags.{reasons, reason}
-use Rattle.explained.proofs.Past.{past}
+use Rattle.explained.proofs.Numbers.{past}
 use borrow.Author.Needs.{needs}
 use Rattle.explained.proofs.flags.reason.Statement.{statement}
 use Rattle.explained.proofs.flags.reason.Tie as tie
