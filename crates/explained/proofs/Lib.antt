@@ -4,6 +4,6 @@ pub mod Rounded
 pub mod Parts
 pub mod PartsExamples
 pub mod Tallied
-pub mod FlagExamples
+pub mod TalliedExamples
 pub mod Deciding
-pub mod DecidedExamples
+pub mod DecidingExamples
