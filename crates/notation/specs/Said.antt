@@ -1,10 +1,32 @@
--- The win that the words given to the program `score` say. This is a definition.
-use mathlib.Core.Bool.{Bool, false}
-use Prim.Native.Nat.{ℕ, _+_, _%_}
+-- What the words given to the program `score` say: tiles of the hand, the winning tile, the win. These are definitions.
+use mathlib.Core.Path.{_≡_}
+use mathlib.Core.Bool.{Bool, true, false}
+use mathlib.Core.List.{List}
+use Prim.Native.Nat.{ℕ, _+_, _%_, _≤_, min}
 use lib.ListN.{getD}
 use Rattle.lists.specs.Fold.{one}
 use Rattle.context.specs.declared.GameContext.{GameContext}
+use Rattle.tile_words.specs.Words.{readAt, tilesIn, namedIn, redsIn, Counted}
 use Rattle.notation.specs.declared.said.Said.{Said}
+
+-- red fives so far with those of a word, up to 1,000
+abbrev pub redsWith : ℕ → List ℕ → ℕ
+redsWith n w = min (n + redsIn w) 1000
+
+-- what a word w of tiles of the hand makes of what was said before: its tiles are counted, at most 136 in all, and its red fives
+pub record TilesAdded (before : Said) (w : List ℕ) (after : Said) : Type 0 where
+  pub counted : Counted (before .counts) (tilesIn w) (after .counts)
+  pub all : after .tiles ≡ before .tiles + namedIn w
+  pub few : after .tiles ≤ 136
+  pub red : after .reds ≡ redsWith (before .reds) w
+
+-- what a winning tile makes of it: the word w names one tile, and that is it
+pub record WonOn (before : Said) (w : List ℕ) (drawn : Bool) (after : Said) : Type 0 where
+  pub isWon : after .won ≡ true
+  pub how : after .tsumo ≡ drawn
+  pub single : namedIn w ≡ 1
+  pub tile : after .«winning_tile» ≡ readAt 0 w
+  pub red : after .reds ≡ redsWith (before .reds) w
 
 -- a flag by its number: riichi, double riichi, ippatsu, rinshan, chankan, last tile, tenhou, chiihou
 abbrev pub flagAt : Said → ℕ → Bool

@@ -1,4 +1,5 @@
-// Finished hands in the usual notation, word by word: the words that are known, and what they say, over the words of tiles and calls.
+// Finished hands in the usual notation: an argument is split into words, and a word says tiles, a call, the win or its circumstances.
 // Nothing is read from outside or written here.
+pub mod pieces;
 pub mod said;
 pub mod words;

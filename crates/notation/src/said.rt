@@ -1,11 +1,12 @@
 // What the words say: the hand, its calls and the win.
 ghost use mathlib.Core.Path.{_≡_};
 ghost use mathlib.Core.Bool.{true};
-ghost use Prim.Native.Nat.{_<_};
+ghost use Prim.Native.Nat.{_≤_, _<_};
+ghost use lib.ListN.{length};
 ghost use Rattle.context.specs.Context.{inRange};
-ghost use Rattle.tile_words.specs.Words.{readAt, tilesIn, Counted};
 ghost use Rattle.call_words.specs.Calls.{withCall};
-ghost use Rattle.notation.specs.Said.{winOf};
+ghost use Rattle.notation.specs.Said.{redsWith, TilesAdded, WonOn, winOf};
+use crate::pieces;
 use crate::words;
 use tile_words::faults;
 
@@ -33,32 +34,30 @@ pub struct Said {
     // dora was said; how to use the program was asked for
     pub dora: bool,
     pub help: bool,
-    // what the next word is for: 0 anything, else the number of a known word and one more
+    // what the next word is for: 0 anything, 1 to 9 as the known words from chi to seat say, 10 riichi behind double, 11 tiles behind dora
     pub wanted: usize,
     // the number of the last argument, and what is wrong with it, or 0
     pub word: usize,
     pub fault: u8,
-    // places in that argument: where the piece at fault begins, behind its end, and of the character at fault; the last is that of the first
-    // where the fault is about no single character
+    // places in that argument: where the last piece looked at begins, the place behind it, and that of the character at fault. The last is
+    // where the piece begins, if the fault is about no single character
     pub from: usize,
     pub end: usize,
     pub at: usize,
 }
 
-// The first byte of a word, 0 where it is empty.
-fn first_of(word: &[u8]) -> u8 {
-    if word.len() == 0 {
-        return 0;
-    }
-    word[0]
-}
-
-// The kind of the call that a known word stands for: chi, pon, kan, ankan, kakan.
-fn kind_of(i: usize) -> u8
-    requires { ⌜ i < 5 ⌝ }
+// Red fives so far with those of a word, up to 1,000.
+fn more_reds(reds: usize, word: &[u8]) -> usize
+    ensures { λ r. ⌜ r ≡ redsWith reds (now (word .entry)) ⌝ }
 {
-    let kinds = [1, 3, 5, 4, 6];
-    kinds[i]
+    let n = tile_words::reds_in(word);
+    if 1000 <= n {
+        return 1000;
+    }
+    if 1000 - n <= reds {
+        return 1000;
+    }
+    reds + n
 }
 
 impl Said {
@@ -98,7 +97,9 @@ impl Said {
         }
     }
 
-    // The last word has a fault.
+    // ---- faults and their places
+
+    // The last piece has a fault.
     pub fn faulty(mut self, fault: u8) -> Said
         ensures { λ r. ⌜ r .fault ≡ fault ⌝ }
     {
@@ -106,85 +107,172 @@ impl Said {
         self
     }
 
-    // The next word is for this.
-    fn wanting(mut self, wanted: usize) -> Said {
-        self.wanted = wanted;
+    // The last piece has a fault, at a character so many behind its first.
+    fn faulty_at(mut self, fault: u8, at: usize) -> Said
+        ensures { λ r. ⌜ r .fault ≡ fault ⌝ }
+    {
+        self.fault = fault;
+        self.at = at;
         self
+    }
+
+    // A piece is looked at, by its places.
+    fn looking(mut self, from: usize, end: usize) -> Said {
+        self.from = from;
+        self.end = end;
+        self.at = 0;
+        self
+    }
+
+    // The places in a word that begins at `start` of an argument, and that of the character in its piece, become places in the argument.
+    fn placed(mut self, argument: &[u8], start: usize) -> Said {
+        let from = pieces::place_of(argument, start, self.from);
+        self.from = from;
+        self.end = pieces::behind(argument, start, self.end);
+        self.at = pieces::place_of(argument, from, self.at);
+        self
+    }
+
+    // ---- tiles, calls and the winning tile
+
+    // A piece that should be tiles of the hand and is not, with its fault as tiles.
+    fn no_tiles(self, piece: &[u8], fault: u8) -> Said
+        requires { ⌜ 0 < fault ⌝ }
+        ensures { λ r. ⌜ 0 < r .fault ⌝ }
+    {
+        let number = pieces::fault_of(piece, fault);
+        if number == faults::UNKNOWN {
+            return self.faulty(number);
+        }
+        self.faulty_at(number, tile_words::fault_place(piece))
     }
 
     // Tiles of the hand.
     fn with_tiles(self, word: &[u8]) -> Said
-        ensures { λ r. ⌜ (r .fault ≡ 0 → Counted (self .counts) (tilesIn (now (word .entry))) (r .counts)) ⌝ }
+        ensures { λ r. ⌜ (r .fault ≡ 0 → TilesAdded self (now (word .entry)) r) ⌝ }
     {
         let fault = tile_words::check_tiles(word);
         if fault != 0 {
-            return self.faulty(fault);
+            return self.no_tiles(word, fault);
+        }
+        let n = tile_words::named_in(word);
+        if 136 < n {
+            return self.faulty(faults::TOO_MANY);
+        }
+        if 136 - n < self.tiles {
+            return self.faulty(faults::TOO_MANY);
         }
         let mut counts = self.counts;
         tile_words::add_tiles(&mut counts, word);
         let mut said = self;
         said.counts = counts;
+        said.tiles = self.tiles + n;
+        said.reds = more_reds(self.reds, word);
         said
     }
 
-    // A call that was found.
-    fn with_call(self, m: meld::Meld) -> Said
-        ensures { λ r. ⌜ r .calls ≡ withCall (self .calls) m ⌝ }
+    // A call that was found in a word.
+    fn with_call(self, m: meld::Meld, word: &[u8]) -> Said
+        ensures { λ r. ⌜ (r .calls ≡ withCall (self .calls) m) × (r .reds ≡ redsWith (self .reds) (now (word .entry))) ⌝ }
     {
         let calls = self.calls;
         let more = call_words::with_call(calls, m);
         let mut said = self;
         said.calls = more;
+        said.reds = more_reds(self.reds, word);
         said
     }
 
-    // The tiles of a call of a kind, 0 for any open one.
-    fn called(self, word: &[u8], kind: u8) -> Said {
+    // The tiles of a call of a kind, 0 for any open one; the fault is for tiles that make none.
+    fn called(self, word: &[u8], kind: u8, no_call: u8) -> Said {
         let fault = tile_words::check_tiles(word);
         if fault != 0 {
-            return self.faulty(fault);
+            return self.faulty_at(fault, tile_words::fault_place(word));
         }
         let found = call_words::call_in(word, kind);
         match found {
-            call_words::Found::Nothing => self.faulty(faults::NO_OPEN_CALL),
-            call_words::Found::Call(m) => self.with_call(m),
+            call_words::Found::Nothing => self.faulty(no_call),
+            call_words::Found::Call(m) => self.with_call(m, word),
         }
-    }
-
-    // A call in brackets: round ones for an open call, square ones for a closed kan.
-    fn bracketed(self, word: &[u8]) -> Said {
-        let n = word.len();
-        if n < 2 {
-            return self.faulty(faults::UNCLOSED);
-        }
-        let first = word[0];
-        let last = word[n - 1];
-        if (first == b'(') & (last == b')') {
-            return self.called(&word[1..n - 1], 0);
-        }
-        if (first == b'[') & (last == b']') {
-            return self.called(&word[1..n - 1], 4);
-        }
-        self.faulty(faults::UNCLOSED)
     }
 
     // The winning tile.
     fn won_on(self, word: &[u8], tsumo: bool) -> Said
-        ensures { λ r. ⌜ (r .fault ≡ 0 → (r .won ≡ true) × ((r .tsumo ≡ tsumo) × (r .«winning_tile» ≡ readAt (now (word .entry))))) ⌝ }
+        ensures { λ r. ⌜ (r .fault ≡ 0 → WonOn self (now (word .entry)) tsumo r) ⌝ }
     {
         let fault = tile_words::check_tiles(word);
         if fault != 0 {
-            return self.faulty(fault);
+            return self.faulty_at(fault, tile_words::fault_place(word));
         }
-        if word.len() != 2 {
+        if tile_words::named_in(word) != 1 {
             return self.faulty(faults::ONE_TILE);
         }
         let mut said = self;
         said.won = true;
         said.tsumo = tsumo;
         said.winning_tile = tile_words::tile_at(word, 0);
+        said.reds = more_reds(self.reds, word);
         said
     }
+
+    // ---- the pieces of a word that is not known
+
+    // A call in brackets, of a kind that its tiles must make; `from` and `end` are its places in the word.
+    fn bracketed(self, word: &[u8], from: usize, end: usize, bracket: u8) -> Said
+        requires { ⌜ (from < end) × (end ≤ length (now word)) ⌝ }
+    {
+        if !pieces::is_closed(&word[from..end], bracket) {
+            return self.faulty(faults::UNCLOSED);
+        }
+        if end < from + 2 {
+            return self.faulty(faults::UNCLOSED);
+        }
+        let tiles = &word[from + 1..end - 1];
+        let fault = tile_words::check_tiles(tiles);
+        if fault != 0 {
+            return self.looking(from + 1, end - 1)
+                .faulty_at(fault, tile_words::fault_place(tiles));
+        }
+        if bracket == b')' {
+            return self.called(tiles, 0, faults::NO_OPEN_CALL);
+        }
+        self.called(tiles, 4, faults::NO_CLOSED_KAN)
+    }
+
+    // A piece of a word, from a place to an end.
+    fn with_piece(self, word: &[u8], from: usize, end: usize) -> Said
+        requires { ⌜ (from < end) × (end ≤ length (now word)) ⌝ }
+    {
+        if self.fault != 0 {
+            return self;
+        }
+        let first = word[from];
+        let said = self.looking(from, end);
+        if first == b'(' {
+            return said.bracketed(word, from, end, b')');
+        }
+        if first == b'[' {
+            return said.bracketed(word, from, end, b']');
+        }
+        if (first == b')') | (first == b']') {
+            return said.faulty(faults::LOOSE);
+        }
+        said.with_tiles(&word[from..end])
+    }
+
+    // All pieces of a word.
+    fn with_pieces(self, word: &[u8]) -> Said {
+        let mut said = self;
+        let mut from = 0;
+        while from < word.len() {
+            let end = pieces::piece_end(word, from);
+            said = said.with_piece(word, from, end);
+            from = end;
+        }
+        said
+    }
+
+    // ---- winds, flags and other circumstances
 
     // The round wind.
     fn with_round(mut self, wind: u8) -> Said {
@@ -212,6 +300,14 @@ impl Said {
         self.with_round(wind)
     }
 
+    // The dealer, who sits East.
+    fn as_dealer(self) -> Said {
+        if self.seat_said {
+            return self.faulty(faults::TWICE);
+        }
+        self.with_seat(0)
+    }
+
     // A flag. Double riichi is riichi too.
     fn with_flag(mut self, i: usize) -> Said
         requires { ⌜ i < 8 ⌝ }
@@ -223,65 +319,147 @@ impl Said {
         self
     }
 
-    // Was this said before? Ron and tsumo, round and seat are said once.
-    fn said_before(self, i: usize) -> u8 {
-        if (5 <= i) & ((i < 7) & self.won) {
-            return faults::TWO_WINS;
+    // The last tile: haitei where it is drawn, houtei where it is discarded.
+    fn with_last_tile(mut self, drawn: bool) -> Said {
+        self.flags[5] = true;
+        if drawn {
+            self.haitei = true;
+        } else {
+            self.houtei = true;
         }
-        if ((i == 7) & self.round_said) | ((i == 8) & self.seat_said) {
-            return faults::TWICE;
-        }
-        0
+        self
     }
 
-    // A known word by its number.
-    fn with_known(self, i: usize) -> Said {
-        if 17 <= i {
-            return self.faulty(faults::UNKNOWN);
+    // The word behind double.
+    fn with_riichi(self, word: &[u8]) -> Said {
+        if words::known(word) != 9 {
+            return self.faulty(faults::NO_RIICHI);
         }
-        if 9 <= i {
-            return self.with_flag(i - 9);
-        }
-        let fault = self.said_before(i);
+        self.with_flag(1)
+    }
+
+    // Tiles behind dora or ura. They are not counted.
+    fn with_dora(mut self, word: &[u8]) -> Said {
+        let fault = tile_words::check_tiles(word);
         if fault != 0 {
-            return self.faulty(fault);
+            return self.faulty_at(fault, tile_words::fault_place(word));
+        }
+        self.dora = true;
+        self
+    }
+
+    // How to use the program was asked for.
+    fn with_help(mut self) -> Said {
+        self.help = true;
+        self
+    }
+
+    // ---- words
+
+    // The next word is for this.
+    fn wanting(mut self, wanted: usize) -> Said {
+        self.wanted = wanted;
+        self
+    }
+
+    // A known word with another behind it. Ron and tsumo, round and seat are said once.
+    fn asking(self, i: usize) -> Said
+        requires { ⌜ i < 9 ⌝ }
+    {
+        if (5 <= i) & ((i < 7) & self.won) {
+            return self.faulty(faults::TWO_WINS);
+        }
+        if ((i == 7) & self.round_said) | ((i == 8) & self.seat_said) {
+            return self.faulty(faults::TWICE);
         }
         self.wanting(i + 1)
     }
 
+    // A known word by its number.
+    fn with_known(self, i: usize) -> Said {
+        if i < 9 {
+            return self.asking(i);
+        }
+        if i < 17 {
+            return self.with_flag(i - 9);
+        }
+        match i {
+            17 => self.asking(2),
+            18 => self.asking(4),
+            19 => self.as_dealer(),
+            20 => self.with_last_tile(true),
+            21 => self.with_last_tile(false),
+            22 => self.wanting(10),
+            23 | 24 => self.wanting(11),
+            25 | 26 | 27 => self,
+            _ => self.with_help(),
+        }
+    }
+
     // A word that may be anything.
     fn with_any(self, word: &[u8]) -> Said {
-        let first = first_of(word);
-        if tile_words::is_number(first) {
-            return self.with_tiles(word);
+        let i = words::known(word);
+        if i < 31 {
+            return self.with_known(i);
         }
-        if (first == b'(') | (first == b'[') {
-            return self.bracketed(word);
-        }
-        self.with_known(words::known(word))
+        self.with_pieces(word)
     }
 
-    // The word that the known word with a number asked for.
-    fn with_wanted(self, word: &[u8], i: usize) -> Said {
-        if i < 5 {
-            return self.called(word, kind_of(i));
+    // The word that the one before asked for.
+    fn with_wanted(self, word: &[u8], wanted: usize) -> Said {
+        match wanted {
+            1 => self.called(word, 1, faults::NO_CHI),
+            2 => self.called(word, 3, faults::NO_PON),
+            3 => self.called(word, 5, faults::NO_KAN),
+            4 => self.called(word, 4, faults::NO_KAN),
+            5 => self.called(word, 6, faults::NO_KAN),
+            6 => self.won_on(word, false),
+            7 => self.won_on(word, true),
+            8 => self.with_wind(word, false),
+            9 => self.with_wind(word, true),
+            10 => self.with_riichi(word),
+            _ => self.with_dora(word),
         }
-        if i < 7 {
-            return self.won_on(word, i == 6);
-        }
-        self.with_wind(word, i == 8)
     }
 
-    // One argument more.
-    pub fn take(self, argument: &[u8]) -> Said {
+    // One word more, without blanks.
+    fn with_word(self, word: &[u8]) -> Said {
         let wanted = self.wanted;
+        let said = self.looking(0, word.len());
         if wanted == 0 {
-            return self.with_any(argument);
+            return said.with_any(word);
         }
-        self.wanting(0).with_wanted(argument, wanted - 1)
+        said.wanting(0).with_wanted(word, wanted)
     }
 
-    // After the last word: nothing may be missing.
+    // The word of an argument from a place to an end.
+    fn take_word(self, argument: &[u8], from: usize, end: usize) -> Said
+        requires { ⌜ (from < end) × (end ≤ length (now argument)) ⌝ }
+    {
+        if self.fault != 0 {
+            return self;
+        }
+        if pieces::LONGEST < end - from {
+            return self.looking(from, end).faulty_at(faults::SIZE, from);
+        }
+        let mut word = [0u8; 512];
+        let n = pieces::joined(&argument[from..end], &mut word);
+        self.with_word(&word[..n]).placed(argument, from)
+    }
+
+    // One argument more, with any number of words. After a fault nothing is looked at.
+    pub fn take(self, argument: &[u8]) -> Said {
+        let mut said = self;
+        let mut from = pieces::next_word(argument, 0);
+        while from < argument.len() {
+            let end = pieces::word_end(argument, from);
+            said = said.take_word(argument, from, end);
+            from = pieces::next_word(argument, end);
+        }
+        said
+    }
+
+    // After the last argument: nothing may be missing, and the word for the last tile fits the win.
     pub fn finished(self) -> Said {
         if self.fault != 0 {
             return self;
@@ -291,6 +469,12 @@ impl Said {
         }
         if !self.won {
             return self.faulty(faults::NO_WIN);
+        }
+        if self.haitei & !self.tsumo {
+            return self.faulty(faults::HAITEI_RON);
+        }
+        if self.houtei & self.tsumo {
+            return self.faulty(faults::HOUTEI_TSUMO);
         }
         self
     }

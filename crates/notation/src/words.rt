@@ -24,6 +24,25 @@ const WORDS: [[u8; 13]; 17] = [
     *b"chiihou      ",
 ];
 
+// Other words, numbered behind those: for an open and an added kan, the dealer's seat, the last tile drawn or discarded, riichi, dora; three that say
+// nothing, as the program writes them; and three that ask how to use it.
+const OTHERS: [[u8; 13]; 14] = [
+    *b"daiminkan    ",
+    *b"shouminkan   ",
+    *b"dealer       ",
+    *b"haitei       ",
+    *b"houtei       ",
+    *b"double       ",
+    *b"dora         ",
+    *b"ura          ",
+    *b"hand:        ",
+    *b"(open)       ",
+    *b"(closed)     ",
+    *b"help         ",
+    *b"-h           ",
+    *b"--help       ",
+];
+
 // The winds, in the order of their tiles.
 const WINDS: [[u8; 13]; 4] = [
     *b"east         ",
@@ -37,6 +56,16 @@ pub fn word_row(i: usize) -> [u8; 13]
     requires { ⌜ i < 17 ⌝ }
 {
     WORDS[i]
+}
+
+// The row of any known word by its number.
+fn any_row(i: usize) -> [u8; 13]
+    requires { ⌜ i < 31 ⌝ }
+{
+    if i < 17 {
+        return WORDS[i];
+    }
+    OTHERS[i - 17]
 }
 
 // The row of a wind.
@@ -85,26 +114,34 @@ fn is_row(word: &[u8], row: &[u8; 13]) -> bool {
     true
 }
 
-// The number of a known word; 17 for any other.
+// The number of a known word: 0 to 16 as `word_row` has them, 17 to 30 for the others; 31 for a word that is not known.
 pub fn known(word: &[u8]) -> usize
-    ensures { λ r. ⌜ r ≤ 17 ⌝ }
+    ensures { λ r. ⌜ r ≤ 31 ⌝ }
 {
-    for i in 0..17 {
-        let row = word_row(i);
+    for i in 0..31 {
+        let row = any_row(i);
         if is_row(word, &row) {
             return i;
         }
     }
-    17
+    31
 }
 
-// The number of a wind, 0 for East; 4 for any other word.
+// Is the word the first letter of the row?
+fn is_initial(word: &[u8], row: &[u8; 13]) -> bool {
+    if word.len() != 1 {
+        return false;
+    }
+    small(word[0]) == row[0]
+}
+
+// The number of a wind, by its name or its letter, 0 for East; 4 for any other word.
 pub fn wind(word: &[u8]) -> u8
     ensures { λ r. ⌜ r ≤ 4 ⌝ }
 {
     for i in 0..4 {
         let row = wind_row(i as usize);
-        if is_row(word, &row) {
+        if is_row(word, &row) | is_initial(word, &row) {
             return i;
         }
     }

@@ -11,7 +11,7 @@ use borrow.Author.Tests.{eq-eqb, ne-eqb}
 use Rattle.lists.specs.Fold.{one, count}
 use Rattle.hand.specs.Counts.{held}
 use Rattle.checks.proofs.Added.{more}
-use Rattle.tile_words.specs.Words.{readAt, tilesIn, addTo}
+use Rattle.tile_words.specs.Words.{readAt, tilesFrom, addTo, charBefore}
 use Rattle.tile_words.proofs.Places.{count-here, count-end}
 
 -- nothing more
@@ -56,12 +56,12 @@ add-next cs t u h k = more cs t 1 u h ∙ go (ℕ-discrete u t)
 -- ---- the tiles of a word, one place after the other
 -- m is n with the tile of this place
 pub add-turn :
-    (w : List ℕ) (i : ℕ) → i < length w → (u n m : ℕ) → m ≡ addTo n (one (eqb u (readAt (drop i w))))
-    → addTo m (count (eqb u) (tilesIn (drop (i + 1) w))) ≡ addTo n (count (eqb u) (tilesIn (drop i w)))
+    (w : List ℕ) (i : ℕ) → i < length w → (u n m : ℕ) → m ≡ addTo n (one (eqb u (readAt (charBefore w i) (drop i w))))
+    → addTo m (count (eqb u) (tilesFrom (charBefore w (i + 1)) (drop (i + 1) w))) ≡ addTo n (count (eqb u) (tilesFrom (charBefore w i) (drop i w)))
 add-turn w i h u n m e =
-    ap (λ (k : ℕ). addTo k (count (eqb u) (tilesIn (drop (i + 1) w)))) e
-    ∙ add-both n (one (eqb u (readAt (drop i w)))) (count (eqb u) (tilesIn (drop (i + 1) w)))
-    ∙ ap (addTo n) (sym (count-here w i h (eqb u)))
+    ap (λ (k : ℕ). addTo k (count (eqb u) (tilesFrom (charBefore w (i + 1)) (drop (i + 1) w)))) e
+    ∙ add-both n (one (eqb u (readAt (charBefore w i) (drop i w)))) (count (eqb u) (tilesFrom (charBefore w (i + 1)) (drop (i + 1) w)))
+    ∙ ap (addTo n) (sym (count-here w i h (charBefore w i) (eqb u)))
 
-pub add-end : (w : List ℕ) (i : ℕ) → length w ≤ i → (u n : ℕ) → n ≡ addTo n (count (eqb u) (tilesIn (drop i w)))
-add-end w i h u n = add-zero n ∙ ap (addTo n) (sym (count-end w i h (eqb u)))
+pub add-end : (w : List ℕ) (i : ℕ) → length w ≤ i → (b u n : ℕ) → n ≡ addTo n (count (eqb u) (tilesFrom b (drop i w)))
+add-end w i h b u n = add-zero n ∙ ap (addTo n) (sym (count-end w i h b (eqb u)))

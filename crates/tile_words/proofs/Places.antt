@@ -1,117 +1,172 @@
 -- A word of tiles, read place by place. Assumes nothing.
-use mathlib.Core.Path.{_≡_, refl, sym, ap, ap₂, subst, _∙_}
+use mathlib.Core.Path.{_≡_, refl, sym, ap, subst, _∙_}
 use mathlib.Core.Bool.{Bool, true, false, _&&_, _||_, cond}
-use mathlib.Core.List.{List, _∷_}
+use mathlib.Core.List.{List, [], _∷_}
 use Prim.Native.Nat.{ℕ, suc, _+_, _-_, _<_, _≤_}
 use native.Mathlib.Numerals.{add-one}
 use native.Mathlib.Omega.{arith}
-use lib.Dec.{leb, ltb, leb→le}
+use lib.Dec.{eqb, ltb}
 use lib.ListN.{length, getD, drop, drop-of-length-le}
-use lib.Seq.{drop-cons}
-use borrow.Author.Tests.{lt-ltb, le-ltb, ne-eqb}
+use lib.Seq.{drop-cons, getD-drop}
 use Rattle.lists.specs.Fold.{one, count}
-use Rattle.lists.proofs.Finite.{true→T, and-right}
-use Rattle.tile_words.specs.Words.{isNumber, suitOf, suitAfter, tileOf, readAt, tilesIn, isLetter, isGood, goodFrom, charBefore}
+use Rattle.tile_words.specs.Chars.{isNumber, honorOf, tileOf, isSilent, isStrange}
+use Rattle.tile_words.specs.Words.{leading, behind, suitAfter, readAt, tilesFrom, isRed, redsIn, isGood, goodFrom, goodLength, charBefore, faultPlace}
 
--- a number is no letter
-no-letter : (c : ℕ) → isNumber c ≡ true → suitOf c ≡ 4
-no-letter c e =
-    let t = true→T (isNumber c) e in
-    let h = leb→le c 57 (and-right (leb 48 c) (leb c 57) t) in
-    simp (
-      ne-eqb c 109 (λ q. omega arith),
-      ne-eqb c 77 (λ q. omega arith),
-      ne-eqb c 112 (λ q. omega arith),
-      ne-eqb c 80 (λ q. omega arith),
-      ne-eqb c 115 (λ q. omega arith),
-      ne-eqb c 83 (λ q. omega arith),
-      ne-eqb c 122 (λ q. omega arith),
-      ne-eqb c 90 (λ q. omega arith),
-    )
+-- counting place by place: n so far, m of this place, r of those behind it, a from this place on, t in all
+pub turn : (n m r a t : ℕ) → a ≡ m + r → n + a ≡ t → (n + m) + r ≡ t
+turn n m r a t e f = omega arith
 
-and-false : (b : Bool) → b && false ≡ false
-and-false true = refl
-and-false false = refl
-
--- ---- the letter c of a suit right behind the number b: yes; no suit; no number before it
-pub letter : (b c : ℕ) → isNumber b ≡ true → suitOf c < 4 → true ≡ isLetter b c
-letter b c e h = sym (ap₂ _&&_ e (lt-ltb (suitOf c) 4 h))
-
-pub no-suit : (b c : ℕ) → 4 ≤ suitOf c → false ≡ isLetter b c
-no-suit b c h = sym (ap (λ (a : Bool). isNumber b && a) (le-ltb (suitOf c) 4 h) ∙ and-false (isNumber b))
-
-pub bare-suit : (b c : ℕ) → isNumber b ≡ false → false ≡ isLetter b c
-bare-suit b c e = sym (ap (λ (a : Bool). a && ltb (suitOf c) 4) e)
-
--- ---- the character before a place: none before the first
-pub before-first : (w : List ℕ) (i : ℕ) → i ≡ 0 → false ≡ isNumber (charBefore w i)
-before-first w i e = sym (ap (λ (n : ℕ). isNumber (charBefore w n)) e)
-
+-- the character before any place but the first
 pub before-later : (w : List ℕ) (i : ℕ) → (i ≡ 0 → ⊥) → getD w (i - 1) 0 ≡ charBefore w i
 before-later w i f =
     let e : suc (i - 1) ≡ i = omega arith in
     ap (charBefore w) e
+
+-- the character behind numbers, by its place in the word
+pub behind-at : (w : List ℕ) (i : ℕ) → getD w (i + leading (drop i w)) 0 ≡ behind (drop i w)
+behind-at w i = sym (getD-drop i w (leading (drop i w)) 0)
 
 -- ---- at a place within the word
 module _ (w : List ℕ) (i : ℕ) (h : i < length w) where
   here : drop i w ≡ getD w i 0 ∷ drop (i + 1) w
   here = drop-cons w i 0 h ∙ ap (λ (n : ℕ). getD w i 0 ∷ drop n w) (sym (add-one i))
 
-  suit-next : suitAfter (drop i w) ≡ cond (isNumber (getD w i 0)) (suitAfter (drop (i + 1) w)) (suitOf (getD w i 0))
-  unfolding suitAfter
-  suit-next = ap suitAfter here
+  -- the character before the next place is this one
+  next-before : getD w i 0 ≡ charBefore w (i + 1)
+  next-before = ap (λ (n : ℕ). getD (0 ∷ w) n 0) (sym (add-one i))
 
-  -- a number is skipped
-  pub suit-skip : isNumber (getD w i 0) ≡ true → suitAfter (drop (i + 1) w) ≡ suitAfter (drop i w)
-  suit-skip e = sym (suit-next ∙ ap (λ (b : Bool). cond b (suitAfter (drop (i + 1) w)) (suitOf (getD w i 0))) e)
+  -- ---- numbers at the start of a text: one is skipped, any other character ends them
+  leading-here : leading (drop i w) ≡ cond (isNumber (getD w i 0)) (suc (leading (drop (i + 1) w))) 0
+  unfolding leading
+  leading-here = ap leading here
 
-  -- any other character says the suit
-  pub suit-here : isNumber (getD w i 0) ≡ false → suitOf (getD w i 0) ≡ suitAfter (drop i w)
-  suit-here e = sym (suit-next ∙ ap (λ (b : Bool). cond b (suitAfter (drop (i + 1) w)) (suitOf (getD w i 0))) e)
+  pub skip : isNumber (getD w i 0) ≡ true → (i + 1) + leading (drop (i + 1) w) ≡ i + leading (drop i w)
+  skip e =
+      let n = leading-here ∙ ap (λ (b : Bool). cond b (suc (leading (drop (i + 1) w))) 0) e in
+      omega arith
 
-  -- the tile that is named here
-  pub tile-here : tileOf (getD w i 0) (suitAfter (drop i w)) ≡ readAt (drop i w)
-  tile-here = subst (λ (l : List ℕ). tileOf (getD w i 0) (suitAfter l) ≡ readAt l) (sym here) refl
+  pub stop : isNumber (getD w i 0) ≡ false → i ≡ i + leading (drop i w)
+  stop e =
+      let n = leading-here ∙ ap (λ (b : Bool). cond b (suc (leading (drop (i + 1) w))) 0) e in
+      omega arith
 
-  pub count-here : (p : ℕ → Bool) → count p (tilesIn (drop i w)) ≡ one (p (readAt (drop i w))) + count p (tilesIn (drop (i + 1) w))
-  count-here p = subst (λ (l : List ℕ). count p (tilesIn l) ≡ one (p (readAt l)) + count p (tilesIn (drop (i + 1) w))) (sym here) refl
+  -- ---- what is named here: by a number; by a letter behind a number, nothing; by any other letter
+  module _ (b : ℕ) where
+    read-here :
+        readAt b (drop i w)
+        ≡ cond (isNumber (getD w i 0)) (tileOf (getD w i 0) (suitAfter (drop (i + 1) w))) (cond (isNumber b) 34 (honorOf (getD w i 0) (getD w (i + 1) 0)))
+    read-here =
+        ap (readAt b) here
+        ∙ ap (λ (n : ℕ). cond (isNumber (getD w i 0)) (tileOf (getD w i 0) (suitAfter (drop (i + 1) w))) (cond (isNumber b) 34 (honorOf (getD w i 0) n)))
+        (getD-drop (i + 1) w 0 0 ∙ ap (λ (n : ℕ). getD w n 0) (omega arith))
 
-  -- a good character: a tile, or a letter right behind a number
-  good-here : (b : ℕ) → isGood b (drop i w) ≡ ltb (readAt (drop i w)) 34 || isLetter b (getD w i 0)
-  good-here b = subst (λ (l : List ℕ). isGood b l ≡ ltb (readAt l) 34 || isLetter b (getD w i 0)) (sym here) refl
+    pub read-number : isNumber (getD w i 0) ≡ true → tileOf (getD w i 0) (suitAfter (drop (i + 1) w)) ≡ readAt b (drop i w)
+    read-number e = sym (read-here ∙ ap (λ (n : Bool). cond n (tileOf (getD w i 0) (suitAfter (drop (i + 1) w))) (cond (isNumber b) 34 (honorOf (getD w i 0) (getD w (i + 1) 0)))) e)
 
-  pub good-tile : (b : ℕ) → readAt (drop i w) < 34 → true ≡ isGood b (drop i w)
-  good-tile b k = sym (good-here b ∙ ap (λ (a : Bool). a || isLetter b (getD w i 0)) (lt-ltb (readAt (drop i w)) 34 k))
+    read-letter : isNumber (getD w i 0) ≡ false → readAt b (drop i w) ≡ cond (isNumber b) 34 (honorOf (getD w i 0) (getD w (i + 1) 0))
+    read-letter e = read-here ∙ ap (λ (n : Bool). cond n (tileOf (getD w i 0) (suitAfter (drop (i + 1) w))) (cond (isNumber b) 34 (honorOf (getD w i 0) (getD w (i + 1) 0)))) e
 
-  pub good-letter : (b : ℕ) → 34 ≤ readAt (drop i w) → isLetter b (getD w i 0) ≡ isGood b (drop i w)
-  good-letter b k = sym (good-here b ∙ ap (λ (a : Bool). a || isLetter b (getD w i 0)) (le-ltb (readAt (drop i w)) 34 k))
+    pub read-suit : isNumber (getD w i 0) ≡ false → isNumber b ≡ true → 34 ≡ readAt b (drop i w)
+    read-suit e f = sym (read-letter e ∙ ap (λ (n : Bool). cond n 34 (honorOf (getD w i 0) (getD w (i + 1) 0))) f)
 
-  -- a number that names no tile is not good
-  pub bad-number : (b : ℕ) → 34 ≤ readAt (drop i w) → isNumber (getD w i 0) ≡ true → false ≡ isGood b (drop i w)
-  bad-number b k e = let s = no-letter (getD w i 0) e in no-suit b (getD w i 0) (omega arith) ∙ good-letter b k
+    pub read-honor : isNumber (getD w i 0) ≡ false → isNumber b ≡ false → honorOf (getD w i 0) (getD w (i + 1) 0) ≡ readAt b (drop i w)
+    read-honor e f = sym (read-letter e ∙ ap (λ (n : Bool). cond n 34 (honorOf (getD w i 0) (getD w (i + 1) 0))) f)
 
-  -- the word from here on: this character, and the word from the next on
-  from-here : (b : ℕ) → goodFrom b (drop i w) ≡ isGood b (drop i w) && goodFrom (charBefore w (i + 1)) (drop (i + 1) w)
-  from-here b =
-      subst (λ (l : List ℕ). goodFrom b l ≡ isGood b l && goodFrom (getD w i 0) (drop (i + 1) w)) (sym here) refl
-      ∙ ap (λ (n : ℕ). isGood b (drop i w) && goodFrom (getD (0 ∷ w) n 0) (drop (i + 1) w)) (sym (add-one i))
+  pub count-here :
+      (b : ℕ) (p : ℕ → Bool)
+      → count p (tilesFrom b (drop i w)) ≡ one (p (readAt b (drop i w))) + count p (tilesFrom (charBefore w (i + 1)) (drop (i + 1) w))
+  count-here b p =
+      subst (λ (l : List ℕ). count p (tilesFrom b l) ≡ one (p (readAt b l)) + count p (tilesFrom (getD w i 0) (drop (i + 1) w))) (sym here) refl
+      ∙ ap (λ (c : ℕ). one (p (readAt b (drop i w))) + count p (tilesFrom c (drop (i + 1) w))) next-before
 
-  -- behind a good character, the rest decides
-  pub good-next : (b : ℕ) → isGood b (drop i w) ≡ true → goodFrom (charBefore w (i + 1)) (drop (i + 1) w) ≡ goodFrom b (drop i w)
-  good-next b e = sym (from-here b ∙ ap (λ (a : Bool). a && goodFrom (charBefore w (i + 1)) (drop (i + 1) w)) e)
+  pub red-here : isRed (drop i w) ≡ eqb (getD w i 0) 48 && ltb (suitAfter (drop (i + 1) w)) 3
+  red-here = ap isRed here
 
-  -- a character that is not good spoils it
-  pub bad-from : (b : ℕ) → isGood b (drop i w) ≡ false → false ≡ goodFrom b (drop i w)
-  bad-from b e = sym (from-here b ∙ ap (λ (a : Bool). a && goodFrom (charBefore w (i + 1)) (drop (i + 1) w)) e)
+  pub reds-here : redsIn (drop i w) ≡ one (isRed (drop i w)) + redsIn (drop (i + 1) w)
+  reds-here = subst (λ (l : List ℕ). redsIn l ≡ one (isRed l) + redsIn (drop (i + 1) w)) (sym here) refl
+
+  -- ---- good characters: one is passed, any other ends them
+  pub good-here : (b : ℕ) → isGood b (drop i w) ≡ ltb (readAt b (drop i w)) 34 || isSilent b (getD w i 0)
+  good-here b = subst (λ (l : List ℕ). isGood b l ≡ ltb (readAt b l) 34 || isSilent b (getD w i 0)) (sym here) refl
+
+  length-here :
+      (b : ℕ) → goodLength b (drop i w) ≡ cond (isGood b (drop i w)) (suc (goodLength (charBefore w (i + 1)) (drop (i + 1) w))) 0
+  unfolding goodLength
+  length-here b =
+      subst (λ (l : List ℕ). goodLength b l ≡ cond (isGood b l) (suc (goodLength (getD w i 0) (drop (i + 1) w))) 0) (sym here) refl
+      ∙ ap (λ (c : ℕ). cond (isGood b (drop i w)) (suc (goodLength c (drop (i + 1) w))) 0) next-before
+
+  pub good-next :
+      isGood (charBefore w i) (drop i w) ≡ true
+      → (i + 1) + goodLength (charBefore w (i + 1)) (drop (i + 1) w) ≡ i + goodLength (charBefore w i) (drop i w)
+  good-next e =
+      let n =
+      length-here (charBefore w i)
+      ∙ ap (λ (b : Bool). cond b (suc (goodLength (charBefore w (i + 1)) (drop (i + 1) w))) 0) e in
+      omega arith
+
+  pub good-stop : isGood (charBefore w i) (drop i w) ≡ false → i ≡ i + goodLength (charBefore w i) (drop i w)
+  good-stop e =
+      let n =
+      length-here (charBefore w i)
+      ∙ ap (λ (b : Bool). cond b (suc (goodLength (charBefore w (i + 1)) (drop (i + 1) w))) 0) e in
+      omega arith
 
 -- ---- past the word
 module _ (w : List ℕ) (i : ℕ) (h : length w ≤ i) where
-  pub suit-end : 4 ≡ suitAfter (drop i w)
-  unfolding suitAfter
-  suit-end = sym (ap suitAfter (drop-of-length-le w {i = i} h))
+  none : drop i w ≡ []
+  none = drop-of-length-le w {i = i} h
 
-  pub count-end : (p : ℕ → Bool) → count p (tilesIn (drop i w)) ≡ 0
-  count-end p = ap (λ (l : List ℕ). count p (tilesIn l)) (drop-of-length-le w {i = i} h)
+  pub stop-end : i ≡ i + leading (drop i w)
+  unfolding leading
+  stop-end = let n = ap leading none in omega arith
 
-  pub good-end : (b : ℕ) → true ≡ goodFrom b (drop i w)
-  good-end b = sym (ap (goodFrom b) (drop-of-length-le w {i = i} h))
+  pub read-end : (b : ℕ) → 34 ≡ readAt b (drop i w)
+  read-end b = sym (ap (readAt b) none)
+
+  pub count-end : (b : ℕ) (p : ℕ → Bool) → count p (tilesFrom b (drop i w)) ≡ 0
+  count-end b p = ap (λ (l : List ℕ). count p (tilesFrom b l)) none
+
+  pub reds-end : redsIn (drop i w) ≡ 0
+  reds-end = ap redsIn none
+
+  pub good-end : i ≡ i + goodLength (charBefore w i) (drop i w)
+  unfolding goodLength
+  good-end = let n = ap (goodLength (charBefore w i)) none in omega arith
+
+-- ---- a text is good where all its characters are among the good ones that it begins with
+pub whole : (b : ℕ) (cs : List ℕ) → length cs ≤ goodLength b cs → true ≡ goodFrom b cs
+unfolding goodLength
+whole b [] h = refl
+whole b (c ∷ cs) h = go (isGood b (c ∷ cs)) (whole c cs) h
+  where
+    go :
+        (g : Bool) → (length cs ≤ goodLength c cs → true ≡ goodFrom c cs) → suc (length cs) ≤ cond g (suc (goodLength c cs)) 0
+        → true ≡ g && goodFrom c cs
+    go true f h = f (omega arith)
+    go false f h = absurd (omega arith)
+
+pub broken : (b : ℕ) (cs : List ℕ) → goodLength b cs < length cs → false ≡ goodFrom b cs
+unfolding goodLength
+broken b [] h = absurd (omega arith)
+broken b (c ∷ cs) h = go (isGood b (c ∷ cs)) (broken c cs) h
+  where
+    go :
+        (g : Bool) → (goodLength c cs < length cs → false ≡ goodFrom c cs) → cond g (suc (goodLength c cs)) 0 < suc (length cs)
+        → false ≡ g && goodFrom c cs
+    go true f h = f (omega arith)
+    go false f h = refl
+
+-- ---- the character at fault: i, behind the good ones, or the strange one at n, behind numbers at i
+module _ (w : List ℕ) (i n : ℕ) (e : i ≡ goodLength 0 w) (f : n ≡ i + leading (drop i w)) where
+  strange-there : isStrange (getD w n 0) ≡ isStrange (behind (drop (goodLength 0 w) w))
+  strange-there = ap (λ (k : ℕ). isStrange (getD w k 0)) f ∙ ap isStrange (behind-at w i) ∙ ap (λ (k : ℕ). isStrange (behind (drop k w))) e
+
+  pub blame-strange : isStrange (getD w n 0) ≡ true → n ≡ faultPlace w
+  blame-strange t =
+      f ∙ ap (λ (k : ℕ). k + leading (drop k w)) e
+      ∙ sym (ap (λ (b : Bool). cond b (goodLength 0 w + leading (drop (goodLength 0 w) w)) (goodLength 0 w)) (sym strange-there ∙ t))
+
+  pub blame-first : isStrange (getD w n 0) ≡ false → i ≡ faultPlace w
+  blame-first t =
+      e ∙ sym (ap (λ (b : Bool). cond b (goodLength 0 w + leading (drop (goodLength 0 w) w)) (goodLength 0 w)) (sym strange-there ∙ t))

@@ -1,83 +1,112 @@
-// Words of tiles, as 222333444m567p88s: numbers, and behind them the letter of their suit, in any case.
+// Words of tiles, as 222333444m567p88s or ew: numbers, and behind them the letter of their suit, or letters of honors, in any case.
 ghost use mathlib.Core.Path.{_≡_};
-ghost use Prim.Native.Nat.{ℕ, _<_};
+ghost use Prim.Native.Nat.{ℕ, _+_, _<_};
 ghost use lib.ListN.{length, drop, getD};
 ghost use lib.Dec.{eqb};
 ghost use Rattle.lists.specs.Fold.{one};
 ghost use Rattle.hand.specs.Counts.{held};
-ghost use Rattle.tile_words.specs.Words.{isNumber, suitOf, suitAfter, tileOf, readAt, tilesIn, addTo, Counted, isLetter, isGood, charBefore, isGoodWord};
+ghost use Rattle.tile_words.specs.Words.{leading, behind, suitAfter, readAt, tilesIn, namedIn, isRed, redsIn, addTo, Counted, isGood, goodLength, charBefore, isGoodWord, faultPlace};
 
+pub mod chars;
 pub mod faults;
 
-// Is the character one of 0 to 9?
-pub fn is_number(c: u8) -> bool
-    ensures { λ r. ⌜ r ≡ isNumber c ⌝ }
+// ---- the characters of a word
+
+// The character at a place of a word; 0 past its end.
+fn char_at(word: &[u8], i: usize) -> u8
+    ensures { λ r. ⌜ r ≡ getD (now (word .entry)) i 0 ⌝ }
 {
-    (b'0' <= c) & (c <= b'9')
+    if i < word.len() {
+        return word[i];
+    }
+    0
 }
 
-// The suit of a letter: 0 man, 1 pin, 2 sou, 3 honors; 4 for any other character.
-fn suit_of(c: u8) -> u8
-    ensures { λ r. ⌜ r ≡ suitOf c ⌝ }
+// The character before a place of a word; 0 before the first.
+fn char_before(word: &[u8], i: usize) -> u8
+    ensures { λ r. ⌜ r ≡ charBefore (now (word .entry)) i ⌝ }
 {
-    if (c == b'm') | (c == b'M') {
+    if i == 0 {
         return 0;
     }
-    if (c == b'p') | (c == b'P') {
-        return 1;
+    char_at(word, i - 1)
+}
+
+// The first place from here on that has no number.
+fn past_numbers(word: &[u8], from: usize) -> usize
+    ensures { λ r. ⌜ r ≡ from + leading (drop from (now (word .entry))) ⌝ }
+{
+    let mut i = from;
+    while i < word.len() {
+        if !chars::is_number(word[i]) {
+            return i;
+        }
+        i += 1;
     }
-    if (c == b's') | (c == b'S') {
-        return 2;
-    }
-    if (c == b'z') | (c == b'Z') {
-        return 3;
-    }
-    4
+    i
+}
+
+// The first character from a place on that is no number; 0 where the word ends there.
+fn char_behind(word: &[u8], from: usize) -> u8
+    ensures { λ r. ⌜ r ≡ behind (drop from (now (word .entry))) ⌝ }
+{
+    char_at(word, past_numbers(word, from))
 }
 
 // The suit of the numbers at a place of a word: that of the first character behind them. 4 where it is none.
 fn suit_after(word: &[u8], from: usize) -> u8
     ensures { λ r. ⌜ r ≡ suitAfter (drop from (now (word .entry))) ⌝ }
 {
-    let mut i = from;
-    while i < word.len() {
-        if !is_number(word[i]) {
-            return suit_of(word[i]);
-        }
-        i += 1;
-    }
-    4
+    chars::suit_of(char_behind(word, from))
 }
 
-// The tile of a number in a suit; 34 where there is none.
-fn tile_of(c: u8, suit: u8) -> u8
-    ensures { λ r. ⌜ r ≡ tileOf c suit ⌝ }
-{
-    if c < b'1' {
-        return 34;
-    }
-    if b'9' < c {
-        return 34;
-    }
-    let n = c - b'1';
-    if suit < 3 {
-        return suit * 9 + n;
-    }
-    if suit != 3 {
-        return 34;
-    }
-    if 7 <= n {
-        return 34;
-    }
-    27 + n
-}
+// ---- the tiles of a word
 
 // The tile that a word names at a place; 34 where it names none.
 pub fn tile_at(word: &[u8], i: usize) -> u8
-    requires { ⌜ i < length (now word) ⌝ }
-    ensures { λ r. ⌜ r ≡ readAt (drop i (now (word .entry))) ⌝ }
+    ensures { λ r. ⌜ r ≡ readAt (charBefore (now (word .entry)) i) (drop i (now (word .entry))) ⌝ }
 {
-    tile_of(word[i], suit_after(word, i))
+    if word.len() <= i {
+        return 34;
+    }
+    let c = word[i];
+    if chars::is_number(c) {
+        return chars::tile_of(c, suit_after(word, i + 1));
+    }
+    if chars::is_number(char_before(word, i)) {
+        return 34;
+    }
+    chars::honor_of(c, char_at(word, i + 1))
+}
+
+// How many tiles a word names.
+pub fn named_in(word: &[u8]) -> usize
+    ensures { λ r. ⌜ r ≡ namedIn (now (word .entry)) ⌝ }
+{
+    let mut n = 0;
+    for i in 0..word.len() {
+        n += lists::one_if(tile_at(word, i) < 34) as usize;
+    }
+    n
+}
+
+// Does a word name a red five at a place?
+fn is_red_at(word: &[u8], i: usize) -> bool
+    requires { ⌜ i < length (now word) ⌝ }
+    ensures { λ r. ⌜ r ≡ isRed (drop i (now (word .entry))) ⌝ }
+{
+    (word[i] == b'0') & (suit_after(word, i + 1) < 3)
+}
+
+// How many red fives a word names.
+pub fn reds_in(word: &[u8]) -> usize
+    ensures { λ r. ⌜ r ≡ redsIn (now (word .entry)) ⌝ }
+{
+    let mut n = 0;
+    for i in 0..word.len() {
+        n += lists::one_if(is_red_at(word, i)) as usize;
+    }
+    n
 }
 
 // Counts a tile, up to 255 of a kind.
@@ -104,67 +133,75 @@ pub fn add_tiles(counts: &mut [u8; 34], word: &[u8])
     }
 }
 
-// What is wrong with a number that names no tile.
-fn fault_of_number(c: u8, suit: u8) -> u8
+// ---- what is wrong with a word
+
+// Is the character at a place good: does it name a tile, or is it good behind the one before it?
+fn is_good_at(word: &[u8], i: usize) -> bool
+    requires { ⌜ i < length (now word) ⌝ }
+    ensures { λ r. ⌜ r ≡ isGood (charBefore (now (word .entry)) i) (drop i (now (word .entry))) ⌝ }
+{
+    (tile_at(word, i) < 34) | chars::is_silent(char_before(word, i), word[i])
+}
+
+// How many good characters a word begins with.
+fn good_length(word: &[u8]) -> usize
+    ensures { λ r. ⌜ r ≡ goodLength 0 (now (word .entry)) ⌝ }
+{
+    let mut i = 0;
+    while i < word.len() {
+        if !is_good_at(word, i) {
+            return i;
+        }
+        i += 1;
+    }
+    i
+}
+
+// What is wrong with a number that names no tile, by the first character behind it that is none.
+fn fault_of_number(next: u8) -> u8
     ensures { λ r. ⌜ 0 < r ⌝ }
 {
-    if c == b'0' {
-        return faults::NO_HONOR;
-    }
-    if suit == 4 {
-        return faults::NO_SUIT;
-    }
-    faults::NO_HONOR
-}
-
-// Is there a number before the place?
-fn is_after_number(word: &[u8], i: usize) -> bool
-    requires { ⌜ i < length (now word) ⌝ }
-    ensures { λ r. ⌜ r ≡ isNumber (charBefore (now (word .entry)) i) ⌝ }
-{
-    if i == 0 {
-        return false;
-    }
-    is_number(word[i - 1])
-}
-
-// What is wrong with a character that is no number, or 0 for the letter of a suit right behind a number.
-fn fault_of_letter(word: &[u8], i: usize) -> u8
-    requires { ⌜ i < length (now word) ⌝ }
-    ensures { λ r. ⌜ eqb r 0 ≡ isLetter (charBefore (now (word .entry)) i) (getD (now (word .entry)) i 0) ⌝ }
-{
-    if 4 <= suit_of(word[i]) {
+    if chars::is_strange(next) {
         return faults::NO_LETTER;
     }
-    if is_after_number(word, i) {
-        return 0;
+    if chars::suit_of(next) < 4 {
+        return faults::NO_HONOR;
     }
-    faults::BARE_SUIT
+    faults::NO_SUIT
 }
 
-// What is wrong with a word of tiles at a place, or 0.
-fn fault_at(word: &[u8], i: usize) -> u8
-    requires { ⌜ i < length (now word) ⌝ }
-    ensures { λ r. ⌜ eqb r 0 ≡ isGood (charBefore (now (word .entry)) i) (drop i (now (word .entry))) ⌝ }
+// What is wrong with a letter that is not good.
+fn fault_of_letter(c: u8) -> u8
+    ensures { λ r. ⌜ 0 < r ⌝ }
 {
-    if tile_at(word, i) < 34 {
-        return 0;
+    if chars::suit_of(c) < 4 {
+        return faults::BARE_SUIT;
     }
-    if is_number(word[i]) {
-        return fault_of_number(word[i], suit_after(word, i));
-    }
-    fault_of_letter(word, i)
+    faults::NO_LETTER
 }
 
-// The first fault of a word of tiles; 0 exactly where each character names a tile or is the letter of a suit right behind a number.
+// The first fault of a word of tiles; 0 exactly where each character is good.
 pub fn check_tiles(word: &[u8]) -> u8
     ensures { λ r. ⌜ eqb r 0 ≡ isGoodWord (now (word .entry)) ⌝ }
 {
-    for i in 0..word.len() {
-        let fault = fault_at(word, i);
-        if fault != 0 {
-            return fault;
-        }
+    let i = good_length(word);
+    if word.len() <= i {
+        return 0;
     }
-    0
+    if chars::is_number(word[i]) {
+        return fault_of_number(char_behind(word, i));
+    }
+    fault_of_letter(word[i])
+}
+
+// The place of the character at fault in a word of tiles; the word's length where it is good.
+pub fn fault_place(word: &[u8]) -> usize
+    ensures { λ r. ⌜ r ≡ faultPlace (now (word .entry)) ⌝ }
+{
+    let i = good_length(word);
+    let next = past_numbers(word, i);
+    if chars::is_strange(char_at(word, next)) {
+        return next;
+    }
+    i
 }

@@ -27,7 +27,9 @@ returns-2 c =
     (simp length-set (s .pre), λ u h. add-next cs (s .args .t) u (search needs) (search needs))
 
 returns-3 : tie.Need-returns-3
-returns-3 c = let s = c .before .before .before in (s .pre, λ u h. add-full (s .args .counts .now) (s .args .t) u (search needs))
+returns-3 c =
+    let s = c .before .before .before in
+    (s .pre, λ u h. add-full (s .args .counts .now) (s .args .t) u (search needs))
 
 pub add-tile-spec : {M : Type 1} → statement M
 add-tile-spec =

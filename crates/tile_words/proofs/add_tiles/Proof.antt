@@ -7,7 +7,7 @@ use lib.Dec.{eqb}
 use lib.ListN.{length, drop}
 use Rattle.lists.specs.Fold.{one, count}
 use Rattle.hand.specs.Counts.{held}
-use Rattle.tile_words.specs.Words.{tilesIn, addTo}
+use Rattle.tile_words.specs.Words.{tilesFrom, addTo, charBefore}
 use Rattle.tile_words.proofs.Adding.{add-turn, add-end}
 use borrow.Author.Needs.{needs}
 use Rattle.tile_words.proofs.add_tiles.Statement.{statement}
@@ -15,7 +15,7 @@ use Rattle.tile_words.proofs.add_tiles.Tie as tie
 
 -- of the tile u: what is counted, with the tiles that the word names from i on
 abbrev with-rest : List ℕ → List ℕ → ℕ → ℕ → ℕ
-with-rest counts word i u = addTo (held counts u) (count (eqb u) (tilesIn (drop i word)))
+with-rest counts word i u = addTo (held counts u) (count (eqb u) (tilesFrom (charBefore word i) (drop i word)))
 
 abbrev Inv-loop : tie.InvT-loop
 Inv-loop counts₀ word i₀ i-end counts i =
@@ -59,7 +59,7 @@ returns : tie.Need-returns Inv-loop μ-loop
 returns c =
     let w = c .before .before .before .args .word .now in
     let l = c .before .loop in
-    (l .inv .0, λ u h. add-end w (l .i) (c .loop-test .left) u (held (l .counts) u) ∙ l .inv .1 .1 u h)
+    (l .inv .0, λ u h. add-end w (l .i) (c .loop-test .left) (charBefore w (l .i)) u (held (l .counts) u) ∙ l .inv .1 .1 u h)
 
 pub add-tiles-spec : {M : Type 1} → statement M
 add-tiles-spec =

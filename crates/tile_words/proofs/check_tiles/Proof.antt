@@ -1,62 +1,59 @@
--- `check_tiles` meets its contract. The loop's invariant: what is left of the word is good exactly where the word is. Assumes nothing.
-use mathlib.Core.Path.{_≡_, refl, sym, _∙_}
-use Prim.Native.Nat.{_-_}
-use lib.ListN.{length, drop}
-use borrow.Author.Tests.{eq-eqb, ne-eqb}
-use Rattle.tile_words.specs.Words.{goodFrom, charBefore, isGoodWord}
-use Rattle.tile_words.proofs.Places.{good-next, bad-from, good-end}
+-- `check_tiles` meets its contract: a word is good where its good characters are all. Assumes nothing.
+use mathlib.Core.Path.{_∙_}
+use native.Mathlib.Omega.{arith}
+use borrow.Author.Tests.{ne-eqb}
+use Rattle.tile_words.proofs.Places.{whole, broken}
 use borrow.Author.Needs.{needs}
 use Rattle.tile_words.proofs.check_tiles.Statement.{statement}
 use Rattle.tile_words.proofs.check_tiles.Tie as tie
 
-abbrev Inv-loop : tie.InvT-loop
-Inv-loop word i₀ i-end i = goodFrom (charBefore word i) (drop i word) ≡ isGoodWord word
+good-length-requires : tie.Need-good-length-requires
+good-length-requires c κs = search needs
 
-abbrev μ-loop : tie.MeasureT-loop
-μ-loop word i₀ i-end i = length word - i
-
-loop-holds : tie.Need-loop-holds Inv-loop μ-loop
-loop-holds c = refl
-
-fault-at-requires : tie.Need-fault-at-requires Inv-loop μ-loop
-fault-at-requires c κs = search needs
-
-returns : tie.Need-returns Inv-loop μ-loop
+returns : tie.Need-returns
 returns c =
-    let w = c .before .before .before .before .before .args .word .now in
-    let l = c .before .before .before .loop in
-    let bad = ne-eqb (c .before .fault-at .result) 0 (c .if1 .taken) in
-    bad ∙ bad-from w (l .i) (c .before .before .loop-test .taken) (charBefore w (l .i)) (sym (c .before .fault-at .ensures) ∙ bad) ∙ l .inv
+    let e = c .before .good-length .ensures in
+    whole 0 (c .before .before .before .args .word .now) (omega arith)
 
-add-i : tie.Need-add-i Inv-loop μ-loop
-add-i c = search needs
+shared-slice-read-is-number : tie.Need-shared-slice-read-is-number
+shared-slice-read-is-number c = search needs
 
-loop-less : tie.Need-loop-less Inv-loop μ-loop
-loop-less c = search needs
+is-number-requires : tie.Need-is-number-requires
+is-number-requires c κs = search needs
 
-loop-again : tie.Need-loop-again Inv-loop μ-loop
-loop-again c =
-    let w = c .before .before .before .before .before .args .word .now in
-    let l = c .before .before .before .loop in
-    let good = eq-eqb (c .before .fault-at .result) 0 (c .if1 .left) in
-    good-next w (l .i) (c .before .before .loop-test .taken) (charBefore w (l .i)) (sym (c .before .fault-at .ensures) ∙ good) ∙ l .inv
+char-behind-requires : tie.Need-char-behind-requires
+char-behind-requires c κs = search needs
 
-returns-2 : tie.Need-returns-2 Inv-loop μ-loop
+fault-of-number-requires : tie.Need-fault-of-number-requires
+fault-of-number-requires c κs = search needs
+
+returns-2 : tie.Need-returns-2
 returns-2 c =
-    let l = c .before .loop in
-    let w = c .before .before .before .args .word .now in
-    good-end w (l .i) (c .loop-test .left) (charBefore w (l .i)) ∙ l .inv
+    let e = c .before .before .before .before .before .before .good-length .ensures in
+    ne-eqb (c .fault-of-number .result) 0 (λ z. omega (arith, c .fault-of-number .ensures)) ∙ broken 0 (c .before .before .before .before .before .before .before .before .args .word .now) (omega arith)
+
+shared-slice-read-fault-of-letter : tie.Need-shared-slice-read-fault-of-letter
+shared-slice-read-fault-of-letter c = search needs
+
+fault-of-letter-requires : tie.Need-fault-of-letter-requires
+fault-of-letter-requires c κs = search needs
+
+returns-3 : tie.Need-returns-3
+returns-3 c =
+    let e = c .before .before .before .before .before .before .good-length .ensures in
+    ne-eqb (c .fault-of-letter .result) 0 (λ z. omega (arith, c .fault-of-letter .ensures)) ∙ broken 0 (c .before .before .before .before .before .before .before .before .args .word .now) (omega arith)
 
 pub check-tiles-spec : {M : Type 1} → statement M
 check-tiles-spec =
     tie.close
     (tie.spec
-    Inv-loop
-    μ-loop
-    loop-holds
-    fault-at-requires
+    good-length-requires
     returns
-    add-i
-    loop-less
-    loop-again
-    returns-2)
+    shared-slice-read-is-number
+    is-number-requires
+    char-behind-requires
+    fault-of-number-requires
+    returns-2
+    shared-slice-read-fault-of-letter
+    fault-of-letter-requires
+    returns-3)

@@ -5,16 +5,16 @@ use Rattle.notation.proofs.words.known.Statement.{statement}
 use Rattle.notation.proofs.words.known.Tie as tie
 
 abbrev Inv-loop : tie.InvT-loop
-Inv-loop word i₀ i = i ≤ 17
+Inv-loop word i₀ i = i ≤ 31
 
 abbrev μ-loop : tie.MeasureT-loop
-μ-loop word i₀ i = 17 - i
+μ-loop word i₀ i = 31 - i
 
 loop-holds : tie.Need-loop-holds Inv-loop μ-loop
 loop-holds c = search needs
 
-word-row-requires : tie.Need-word-row-requires Inv-loop μ-loop
-word-row-requires c κs = search needs
+any-row-requires : tie.Need-any-row-requires Inv-loop μ-loop
+any-row-requires c κs = search needs
 
 is-row-requires : tie.Need-is-row-requires Inv-loop μ-loop
 is-row-requires c κs = search needs
@@ -41,7 +41,7 @@ known-spec =
     Inv-loop
     μ-loop
     loop-holds
-    word-row-requires
+    any-row-requires
     is-row-requires
     returns
     add-i

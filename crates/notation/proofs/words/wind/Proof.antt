@@ -22,6 +22,9 @@ wind-row-requires c κs = search needs
 is-row-requires : tie.Need-is-row-requires Inv-loop μ-loop
 is-row-requires c κs = search needs
 
+is-initial-requires : tie.Need-is-initial-requires Inv-loop μ-loop
+is-initial-requires c κs = search needs
+
 returns : tie.Need-returns Inv-loop μ-loop
 returns c = search needs
 
@@ -47,6 +50,7 @@ wind-spec =
     cast-wind-row
     wind-row-requires
     is-row-requires
+    is-initial-requires
     returns
     add-i
     loop-less
