@@ -5,6 +5,7 @@ use crate::ffi;
 use crate::record::{self, ALWAYS_ENOUGH};
 use crate::refusal::{Refusal, accepted};
 use crate::tile::{NO_TILE, Tile};
+use alloc::vec::Vec;
 
 /// The kinds of kans.
 #[derive(Debug, Clone, Copy, PartialEq, Eq, Hash)]
@@ -92,7 +93,7 @@ impl Meld {
     }
 
     /// Its kind as the library numbers it.
-    fn kind(&self) -> u8 {
+    pub(crate) fn kind(&self) -> u8 {
         match self {
             Meld::Shuntsu(_, false) => 0,
             Meld::Shuntsu(_, true) => 1,

@@ -25,9 +25,19 @@
 //! println!("{:?}", decompose_hand(&counts, &[])?[win.reading]);
 //! # Ok::<(), ziwhakemo::Refusal>(())
 //! ```
+//!
+//! Without the feature `std`, which is on by default, the crate needs `alloc` alone, and leaves out
+//! `TileCounts`, `counts_of` and the module `agari`.
+#![no_std]
 #![deny(unsafe_code)]
 #![warn(missing_docs)]
 
+extern crate alloc;
+#[cfg(any(test, feature = "std"))]
+extern crate std;
+
+#[cfg(feature = "std")]
+pub mod agari;
 pub mod context;
 #[allow(unsafe_code)]
 mod ffi;
@@ -46,7 +56,9 @@ pub use scoring::{
     FuResult, Payment, ScoreLevel, ScoredWin, ScoringResult, calculate_basic_points,
     calculate_payment, determine_score_level, score_reading, score_win,
 };
-pub use tile::{Honor, Suit, Tile, TileCounts, counts_of, to_counts};
+pub use tile::{Honor, Suit, Tile, to_counts};
+#[cfg(feature = "std")]
+pub use tile::{TileCounts, counts_of};
 pub use wait::{WaitType, detect_wait_types};
 pub use yaku::{Yaku, YakuResult};
 

@@ -6,6 +6,7 @@
 
 use crate::hand::{HandStructure, Meld};
 use crate::tile::Tile;
+use alloc::vec::Vec;
 
 /// A buffer of so many bytes holds the records of any hand.
 pub const ALWAYS_ENOUGH: usize = 1467;

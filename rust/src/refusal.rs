@@ -1,8 +1,8 @@
 //! Why a call is refused.
 
 use crate::OTHER_VERSION;
-use std::error::Error;
-use std::fmt;
+use core::error::Error;
+use core::fmt;
 
 /// A refusal: the first of the checks, in this order, that the input does not pass. Nothing was scored
 /// and nothing was written.
@@ -96,12 +96,12 @@ impl fmt::Display for Refusal {
 impl Error for Refusal {}
 
 /// Whether the number of an answer is 0.
-pub(crate) fn accepted(number: usize) -> Result<(), Refusal> {
-    match number {
-        0 => Ok(()),
-        _ => {
-            let number = u8::try_from(number).ok();
-            Err(number.and_then(Refusal::from_number).expect(OTHER_VERSION))
+pub(crate) fn accepted(number: impl TryInto<u8>) -> Result<(), Refusal> {
+    match number.try_into() {
+        Ok(0) => Ok(()),
+        number => {
+            let refusal = number.ok().and_then(Refusal::from_number);
+            Err(refusal.expect(OTHER_VERSION))
         }
     }
 }
@@ -109,6 +109,7 @@ pub(crate) fn accepted(number: usize) -> Result<(), Refusal> {
 #[cfg(test)]
 mod tests {
     use super::*;
+    use alloc::string::ToString;
 
     #[test]
     fn numbers_and_refusals_are_one_to_one() {

@@ -6,6 +6,8 @@ use crate::ffi;
 use crate::hand::{Meld, lent};
 use crate::refusal::{Refusal, accepted};
 use crate::yaku::YakuResult;
+use alloc::format;
+use alloc::string::{String, ToString};
 
 /// A level.
 #[derive(Debug, Clone, Copy, PartialEq, Eq, PartialOrd, Ord)]
@@ -72,9 +74,16 @@ pub struct Payment {
     pub from_discarder: Option<u32>,
 }
 
+/// The library's amounts, in which 0 stands for who does not pay.
+struct Amounts {
+    from_non_dealer: u32,
+    from_dealer: u32,
+    from_discarder: u32,
+    total: u64,
+}
+
 impl Payment {
-    /// The payment of the library's amounts, in which 0 stands for who does not pay.
-    fn of(amounts: ffi::PaymentAnswer, is_dealer: bool, win_type: WinType) -> Payment {
+    fn of(amounts: Amounts, is_dealer: bool, win_type: WinType) -> Payment {
         let is_tsumo = win_type == WinType::Tsumo;
         Payment {
             total: amounts.total.try_into().expect(OTHER_VERSION),
@@ -117,11 +126,10 @@ pub struct ScoredWin {
 
 impl ScoredWin {
     fn of(answer: &ffi::ScoreAnswer, context: &GameContext) -> Result<ScoredWin, Refusal> {
-        accepted(answer.number as usize)?;
+        accepted(answer.number)?;
         let yaku_result = YakuResult::of(answer);
         let score_level = ScoreLevel::of(answer.level, answer.yakuman_count);
-        let amounts = ffi::PaymentAnswer {
-            number: answer.number,
+        let amounts = Amounts {
             from_non_dealer: answer.from_non_dealer,
             from_dealer: answer.from_dealer,
             from_discarder: answer.from_discarder,
@@ -190,6 +198,12 @@ pub fn calculate_payment(
     win_type: WinType,
 ) -> Result<Payment, Refusal> {
     let answer = ffi::payment(basic_points, is_dealer, win_type.number());
-    accepted(answer.number as usize)?;
-    Ok(Payment::of(answer, is_dealer, win_type))
+    accepted(answer.number)?;
+    let amounts = Amounts {
+        from_non_dealer: answer.from_non_dealer,
+        from_dealer: answer.from_dealer,
+        from_discarder: answer.from_discarder,
+        total: answer.total,
+    };
+    Ok(Payment::of(amounts, is_dealer, win_type))
 }

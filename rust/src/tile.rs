@@ -1,7 +1,8 @@
 //! Tiles (agari's `tile.rs`), and the 34 counts of a hand.
 
-use std::collections::HashMap;
-use std::fmt;
+use alloc::format;
+use alloc::string::String;
+use core::fmt;
 
 /// How many tiles there are.
 pub const TILES: usize = 34;
@@ -197,7 +198,8 @@ impl TryFrom<&str> for Tile {
 }
 
 /// How often each tile is there, as agari keeps it.
-pub type TileCounts = HashMap<Tile, u8>;
+#[cfg(feature = "std")]
+pub type TileCounts = std::collections::HashMap<Tile, u8>;
 
 /// The 34 counts of tiles, or nothing where one of them is no tile. More than 255 of a kind count as 255.
 pub fn to_counts(tiles: &[Tile]) -> Option<[u8; TILES]> {
@@ -210,6 +212,7 @@ pub fn to_counts(tiles: &[Tile]) -> Option<[u8; TILES]> {
 }
 
 /// The 34 counts of a map of counts, or nothing where one of its keys is no tile.
+#[cfg(feature = "std")]
 pub fn counts_of(map: &TileCounts) -> Option<[u8; TILES]> {
     let mut counts = [0; TILES];
     for (tile, &count) in map {
@@ -221,6 +224,7 @@ pub fn counts_of(map: &TileCounts) -> Option<[u8; TILES]> {
 #[cfg(test)]
 mod tests {
     use super::*;
+    use alloc::string::ToString;
 
     #[test]
     fn numbers_and_tiles_are_one_to_one() {
@@ -277,13 +281,19 @@ mod tests {
         let mut expected = [0; TILES];
         expected[13] = 2;
         assert_eq!(to_counts(&tiles), Some(expected));
-        assert_eq!(
-            counts_of(&TileCounts::from([(tiles[0], 2)])),
-            Some(expected)
-        );
         let none = Tile::suited(Suit::Pin, 10);
         assert_eq!(to_counts(&[none]), None);
-        assert_eq!(counts_of(&TileCounts::from([(none, 1)])), None);
         assert_eq!(to_counts(&[tiles[0]; 300]).unwrap()[13], 255);
+    }
+
+    #[cfg(feature = "std")]
+    #[test]
+    fn counts_of_a_map_are_by_tile_number() {
+        let mut expected = [0; TILES];
+        expected[13] = 2;
+        let map = TileCounts::from([(Tile::suited(Suit::Pin, 5), 2)]);
+        assert_eq!(counts_of(&map), Some(expected));
+        let none = Tile::suited(Suit::Pin, 10);
+        assert_eq!(counts_of(&TileCounts::from([(none, 1)])), None);
     }
 }

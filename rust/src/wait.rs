@@ -4,6 +4,7 @@ use crate::context::GameContext;
 use crate::ffi;
 use crate::hand::{Meld, lent};
 use crate::refusal::{Refusal, accepted};
+use alloc::vec::Vec;
 
 /// A wait.
 #[derive(Debug, Clone, Copy, PartialEq, Eq, Hash)]
@@ -58,7 +59,7 @@ pub fn detect_wait_types(
     n: usize,
 ) -> Result<Vec<WaitType>, Refusal> {
     let answer = ffi::name_waits(counts, &lent(calls), context.lent(), n);
-    accepted(answer.number as usize)?;
+    accepted(answer.number)?;
     Ok(each_as_often(&WaitType::ALL, &answer.waits))
 }
 
@@ -66,6 +67,6 @@ pub fn detect_wait_types(
 pub(crate) fn each_as_often<T: Copy>(entries: &[T], tallies: &[u8]) -> Vec<T> {
     let pairs = entries.iter().zip(tallies);
     pairs
-        .flat_map(|(&entry, &tally)| std::iter::repeat_n(entry, tally.into()))
+        .flat_map(|(&entry, &tally)| core::iter::repeat_n(entry, tally.into()))
         .collect()
 }

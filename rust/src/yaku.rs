@@ -3,6 +3,7 @@
 use crate::ffi;
 use crate::tile::Honor;
 use crate::wait::each_as_often;
+use alloc::vec::Vec;
 
 /// A yaku. Agari's three local ones are left out.
 #[derive(Debug, Clone, Copy, PartialEq, Eq, Hash)]

@@ -3,7 +3,7 @@
 
 mod common;
 
-use common::{counts, ron, tile, tiles, tsumo};
+use common::{counts, ron, tile, tsumo};
 use ziwhakemo::*;
 
 const PINFU: &str = "12355m456p234678s";
@@ -242,13 +242,4 @@ fn han_are_those_of_the_yaku() {
         let sum: u8 = win.yaku_result.yaku_list.iter().map(han).sum();
         assert_eq!((win.yaku_result.total_han, win.result.han), (sum, sum));
     }
-}
-
-#[test]
-fn hands_may_come_as_tiles_or_as_a_map() {
-    let mut map = TileCounts::new();
-    for tile in tiles(PINFU) {
-        *map.entry(tile).or_default() += 1;
-    }
-    assert_eq!(counts_of(&map), to_counts(&tiles(PINFU)));
 }
