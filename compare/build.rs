@@ -1,32 +1,19 @@
-//! Links the proved library and the probe.
+//! Links the probe. The library itself is linked by the crate in `rust/`, which tells its folder.
 
 use std::env;
-use std::path::{Path, PathBuf};
+use std::path::Path;
 
 fn main() {
-    println!("cargo::rerun-if-env-changed=ZIWHAKEMO_LIB");
-    let folder = library_folder();
-    println!("cargo::rustc-link-search=native={}", folder.display());
-    link(&folder, "ziwhakemo");
-    link(&folder, "probe");
-}
-
-/// The archives' folder: ZIWHAKEMO_LIB, or else target/staticlib. Both are read from the
-/// repository's root, which is the folder above this package.
-fn library_folder() -> PathBuf {
-    let package = PathBuf::from(env::var("CARGO_MANIFEST_DIR").unwrap());
-    let root = package.parent().unwrap();
-    root.join(env::var("ZIWHAKEMO_LIB").unwrap_or("target/staticlib".into()))
-}
-
-fn link(folder: &Path, name: &str) {
-    let archive = folder.join(format!("lib{name}.a"));
-    assert!(
-        archive.is_file(),
-        "no file {}: run `rt staticlib {name}` in the repository's root, \
-         or name the archive's folder in ZIWHAKEMO_LIB",
-        archive.display()
-    );
+    let folder = env::var("DEP_ZIWHAKEMO_FOLDER").expect("the crate ziwhakemo tells its folder");
+    let archive = Path::new(&folder).join("libprobe.a");
     println!("cargo::rerun-if-changed={}", archive.display());
-    println!("cargo::rustc-link-lib=static={name}");
+    if !archive.is_file() {
+        println!(
+            "cargo::error=no file {}: run `rt staticlib probe` in the repository's root, \
+             or name the archives' folder in ZIWHAKEMO_LIB_DIR",
+            archive.display()
+        );
+    }
+    println!("cargo::rustc-link-search=native={folder}");
+    println!("cargo::rustc-link-lib=static=probe");
 }

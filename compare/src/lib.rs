@@ -1,5 +1,8 @@
 //! The comparison of the proved score unit with agari-core.
 
+// Linked for its archive too, which `library` asks directly.
+extern crate ziwhakemo;
+
 pub mod agari;
 pub mod agari_scores;
 pub mod agari_wins;
