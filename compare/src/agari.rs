@@ -1,8 +1,8 @@
-//! agari's side: its types from the table's numbers, its readings, and their records.
+//! agari's side: its types from the table's numbers, and the records of its readings.
 
 use crate::hand::*;
 use crate::library;
-use agari_core::hand::{HandStructure, KanType, Meld, decompose_hand, decompose_hand_with_melds};
+use agari_core::hand::{HandStructure, KanType, Meld};
 use agari_core::parse::TileCounts;
 use agari_core::tile::{Honor, Suit, Tile};
 
@@ -62,15 +62,6 @@ fn called_meld(call: library::Meld) -> Meld {
         CLOSED_KAN => Meld::kan(tile, KanType::Closed),
         OPEN_KAN => Meld::kan(tile, KanType::Open),
         _ => Meld::kan(tile, KanType::Added),
-    }
-}
-
-/// agari's readings.
-pub fn readings(counts: &TileCounts, called: &[Meld]) -> Vec<HandStructure> {
-    if called.is_empty() {
-        decompose_hand(counts)
-    } else {
-        decompose_hand_with_melds(counts, called)
     }
 }
 

@@ -1,22 +1,18 @@
 //! agari's side of scores and points, in the shape in which the proved code answers.
 
-use crate::agari::{self, Record};
+use crate::agari;
+use crate::answers;
+use crate::differences::payment_refusal;
 use crate::hand::*;
-use crate::library::{Level, PaymentAnswer, RON, Score, TSUMO, WAITS, Win, YAKU};
+use crate::library::{Level, PaymentAnswer, RON, Score, WAITS, Win, YAKU};
 use crate::probe::{Reading, ReadingScore};
 use agari_core::context::{GameContext, WinType};
 use agari_core::hand::HandStructure;
 use agari_core::parse::TileCounts;
-use agari_core::scoring::{
-    Payment, ScoreLevel, calculate_basic_points, calculate_fu, calculate_payment, calculate_score,
-    determine_score_level,
-};
+use agari_core::scoring::{Payment, ScoreLevel};
 use agari_core::tile::Honor;
-use agari_core::wait::{WaitType, detect_wait_types};
-use agari_core::yaku::{Yaku, detect_yaku_with_context};
-
-/// The greatest basic points that are paid.
-pub const MOST_BASIC_POINTS: u32 = 152_000;
+use agari_core::wait::WaitType;
+use agari_core::yaku::Yaku;
 
 /// What the yaku tallies stand for: `Yaku` in its order.
 pub const YAKU_ENTRIES: [Yaku; YAKU] = [
@@ -103,12 +99,12 @@ impl ReadHand {
     /// agari's score of one of the readings, before points.
     pub fn score(&self, reading: &HandStructure, win: &Win) -> ReadingScore {
         let context = context(win, self.is_open);
-        let yaku = detect_yaku_with_context(reading, &self.agari_counts, &context);
+        let yaku = answers::yaku(reading, &self.agari_counts, &context);
         ReadingScore {
             tallies: yaku_tallies(&yaku.yaku_list),
             waits: waits(reading, win),
             han: yaku.total_han,
-            fu: calculate_fu(reading, &context).total,
+            fu: answers::fu(reading, &context),
             is_yakuman: u8::from(yaku.is_yakuman),
         }
     }
@@ -123,8 +119,8 @@ impl ReadHand {
     }
 
     fn whole_score(&self, number: usize, reading: &HandStructure, context: &GameContext) -> Score {
-        let yaku = detect_yaku_with_context(reading, &self.agari_counts, context);
-        let result = calculate_score(reading, &yaku, context);
+        let yaku = answers::yaku(reading, &self.agari_counts, context);
+        let result = answers::score(reading, &yaku, context);
         let level = level_numbers(result.score_level);
         let paid = paid(&result.payment);
         Score {
@@ -152,19 +148,13 @@ impl ReadHand {
 }
 
 fn waits(reading: &HandStructure, win: &Win) -> [u8; WAITS] {
-    wait_tallies(&detect_wait_types(reading, agari::tile(win.winning_tile)))
+    wait_tallies(&answers::waits(reading, agari::tile(win.winning_tile)))
 }
 
 fn readings(hand: &Hand) -> Vec<(Reading, HandStructure)> {
     let counts = agari::tile_counts(hand.counts());
-    let found = agari::readings(&counts, &agari::called_melds(hand.called()));
-    let mut found: Vec<(Record, HandStructure)> = found
-        .into_iter()
-        .map(|reading| (agari::record(&reading), reading))
-        .collect();
-    found.sort_by(|(one, _), (other, _)| one.cmp(other));
-    found.dedup_by(|(one, _), (other, _)| one == other);
-    found
+    let readings = answers::readings(&counts, &agari::called_melds(hand.called()));
+    readings
         .into_iter()
         .map(|(record, reading)| (Reading::of(&record), reading))
         .collect()
@@ -214,7 +204,7 @@ fn wait_tallies(list: &[WaitType]) -> [u8; WAITS] {
 }
 
 pub fn level(han: u8, fu: u8, is_yakuman: bool) -> Level {
-    level_numbers(determine_score_level(han, fu, is_yakuman))
+    level_numbers(answers::level(han, fu, is_yakuman))
 }
 
 fn level_numbers(level: ScoreLevel) -> Level {
@@ -230,22 +220,19 @@ fn level_numbers(level: ScoreLevel) -> Level {
 }
 
 pub fn basic_points(han: u8, fu: u8, is_yakuman: bool) -> u32 {
-    calculate_basic_points(han, fu, is_yakuman)
+    answers::basic_points(han, fu, is_yakuman)
 }
 
 /// agari's payment, or the refusal as the scope paper lists them.
 pub fn payment(basic_points: u32, is_dealer: bool, win_type: u8) -> PaymentAnswer {
-    if win_type > TSUMO {
-        return refused(8);
+    match payment_refusal(basic_points, win_type) {
+        Some(number) => refused(number),
+        None => paid(&answers::payment(
+            basic_points,
+            is_dealer,
+            self::win_type(win_type),
+        )),
     }
-    if basic_points > MOST_BASIC_POINTS {
-        return refused(13);
-    }
-    paid(&calculate_payment(
-        basic_points,
-        is_dealer,
-        self::win_type(win_type),
-    ))
 }
 
 fn paid(payment: &Payment) -> PaymentAnswer {
@@ -268,7 +255,7 @@ fn refused(number: u32) -> PaymentAnswer {
 #[cfg(test)]
 mod tests {
     use super::*;
-    use crate::library::Meld;
+    use crate::library::{Meld, TSUMO};
 
     const MAN_4: u8 = 3;
     const SOU_8: u8 = 25;

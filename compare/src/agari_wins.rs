@@ -3,12 +3,13 @@
 
 use crate::agari;
 use crate::agari_scores;
+use crate::answers;
 use crate::hand::*;
 use crate::library::Win;
 use agari_core::context::GameContext;
 use agari_core::hand::Meld;
-use agari_core::scoring::{ScoringResult, calculate_score};
-use agari_core::yaku::{YakuResult, detect_yaku_with_context};
+use agari_core::scoring::ScoringResult;
+use agari_core::yaku::YakuResult;
 
 /// A win that passes the checks, with what agari takes made ready: its melds of the calls, the counts
 /// of hand and calls together, and the circumstances.
@@ -39,9 +40,9 @@ impl AgariWin {
         let together = together.as_ref().unwrap_or(&counts);
         let mut most = None;
         let mut chosen = None;
-        for reading in agari::readings(&counts, &self.called) {
-            let yaku = detect_yaku_with_context(&reading, together, &self.context);
-            let score = calculate_score(&reading, &yaku, &self.context);
+        for reading in answers::found(&counts, &self.called) {
+            let yaku = answers::yaku(&reading, together, &self.context);
+            let score = answers::score(&reading, &yaku, &self.context);
             let total = score.payment.total;
             let worth = Some((total, yaku.is_yakuman, score.han, score.fu.total));
             if !yaku.yaku_list.is_empty() && worth > most {

@@ -1,8 +1,8 @@
 //! Hands that have to be refused: one or two faults put into a winning hand.
 
+use crate::differences::FAULTS;
 use crate::hand::*;
 use crate::library::Meld;
-use crate::oracle::FAULTS;
 use crate::random::{held_tile, other_held_tile, winning, winning_with_calls};
 use crate::rng::Rng;
 

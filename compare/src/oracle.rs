@@ -1,11 +1,11 @@
 //! What the library has to answer: the refusals as the scope paper lists them, and agari's readings.
 
 use crate::agari::{self, Record};
-use crate::hand::*;
-use crate::library::{Listing, Meld};
+use crate::answers;
+use crate::differences::{FAULTS, hand_faults};
+use crate::hand::Hand;
+use crate::library::Listing;
 
-/// The number of refusals that do not depend on the lent buffer.
-pub const FAULTS: usize = 6;
 /// The refusal of a buffer that is too short.
 pub const TOO_SHORT: usize = 7;
 
@@ -21,7 +21,7 @@ pub struct Expected {
 
 impl Expected {
     pub fn of(hand: &Hand) -> Expected {
-        let faults = faults(hand);
+        let faults = hand_faults(hand);
         let records = if faults.contains(&true) {
             Vec::new()
         } else {
@@ -64,36 +64,11 @@ impl Expected {
     }
 }
 
-/// The grounds for the refusals 1 to 6, each looked at by itself.
-pub fn faults(hand: &Hand) -> [bool; FAULTS] {
-    let counts = hand.counts();
-    let tiles: u128 = counts.iter().map(|&count| u128::from(count)).sum();
-    [
-        counts.len() != KINDS,
-        hand.calls.count > 4,
-        hand.called().iter().any(|&meld| !is_call(meld)),
-        counts.iter().any(|&count| count > 4),
-        hand.with_calls().iter().any(|&number| number > 4),
-        tiles + 3 * hand.calls.count as u128 != 14,
-    ]
-}
-
-fn is_call(meld: Meld) -> bool {
-    match meld.kind {
-        OPEN_SEQUENCE => starts_sequence(meld.tile),
-        OPEN_TRIPLET | CLOSED_KAN | OPEN_KAN | ADDED_KAN => usize::from(meld.tile) < KINDS,
-        _ => false,
-    }
-}
-
 /// The records of agari's readings, ascending, each once.
 fn records(hand: &Hand) -> Vec<Record> {
     let counts = agari::tile_counts(hand.counts());
-    let readings = agari::readings(&counts, &agari::called_melds(hand.called()));
-    let mut records: Vec<Record> = readings.iter().map(agari::record).collect();
-    records.sort();
-    records.dedup();
-    records
+    let readings = answers::readings(&counts, &agari::called_melds(hand.called()));
+    readings.into_iter().map(|(record, _)| record).collect()
 }
 
 /// The record as it is written: its length, its kind, its content.
@@ -110,6 +85,8 @@ pub fn bytes(record: &Record) -> Vec<u8> {
 #[cfg(test)]
 mod tests {
     use super::*;
+    use crate::hand::*;
+    use crate::library::Meld;
 
     fn answer(hand: &Hand) -> (usize, usize) {
         let listing = Expected::of(hand).listing(1467);

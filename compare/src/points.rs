@@ -1,6 +1,7 @@
 //! The comparison of level, basic points and payments.
 
 use crate::agari_scores as agari;
+use crate::differences::MOST_BASIC_POINTS;
 use crate::library;
 use std::fmt::Debug;
 
@@ -9,7 +10,7 @@ const PRINTED: u64 = 5;
 /// Basic points above the greatest and the first refused: the next, the least that overflow when
 /// they are multiplied, and the greatest.
 const FAR: [u32; 5] = [
-    agari::MOST_BASIC_POINTS + 2,
+    MOST_BASIC_POINTS + 2,
     u32::MAX / 6 + 1,
     u32::MAX / 4 + 1,
     u32::MAX / 2 + 1,
@@ -88,7 +89,7 @@ fn compare_basic_points() -> Compared {
 
 fn compare_payments() -> Compared {
     let mut compared = Compared::new("payment");
-    for basic_points in (0..=agari::MOST_BASIC_POINTS + 1).chain(FAR) {
+    for basic_points in (0..=MOST_BASIC_POINTS + 1).chain(FAR) {
         for is_dealer in [false, true] {
             for win_type in WIN_TYPES {
                 let want = agari::payment(basic_points, is_dealer, win_type);

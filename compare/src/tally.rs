@@ -1,8 +1,9 @@
 //! Counts of what was compared.
 
+use crate::differences::FAULTS;
 use crate::faults::{FaultTally, add_each, listed_from};
 use crate::library::Listing;
-use crate::oracle::{Expected, FAULTS};
+use crate::oracle::Expected;
 use std::fmt;
 
 /// An input is a hand, its calls and a number of bytes lent. Answers are counted as expected.

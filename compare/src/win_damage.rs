@@ -1,9 +1,9 @@
 //! Wins that have to be refused: one or two faults put into a win.
 
 use crate::damage;
+use crate::differences::FAULTS;
 use crate::hand::*;
 use crate::library::Win;
-use crate::oracle::FAULTS;
 use crate::random;
 use crate::rng::Rng;
 use crate::win_oracle::CHECKS;

@@ -2,9 +2,9 @@
 //! scores of the readings, and the choice that the paper adds.
 
 use crate::agari_scores::ReadHand;
+use crate::differences::{FAULTS, hand_faults, ranking, win_faults, worth};
 use crate::hand::Hand;
-use crate::library::{Score, TSUMO, WAITS, Waits, Win, YAKU};
-use crate::oracle::{self, FAULTS};
+use crate::library::{Score, WAITS, Waits, Win, YAKU};
 
 /// The refusals of a win that do not depend on its readings, in their order.
 pub const CHECKS: [usize; FAULTS + 2] = [1, 2, 3, 4, 5, 6, 8, 9];
@@ -23,7 +23,7 @@ pub struct ExpectedHand {
 
 impl ExpectedHand {
     pub fn of(hand: &Hand) -> ExpectedHand {
-        let faults = oracle::faults(hand);
+        let faults = hand_faults(hand);
         let is_refused = faults.contains(&true);
         ExpectedHand {
             faults,
@@ -43,16 +43,6 @@ impl ExpectedHand {
             waits: read.map_or(Vec::new(), |read| read.waits(win)),
         }
     }
-}
-
-/// The grounds for the refusals 8 and 9, each looked at by itself.
-fn win_faults(hand: &Hand, win: &Win) -> [bool; 2] {
-    let is_wind = |tile: u8| (27..=30).contains(&tile);
-    let held = hand.counts().get(usize::from(win.winning_tile));
-    [
-        win.win_type > TSUMO || !is_wind(win.round_wind) || !is_wind(win.seat_wind),
-        win.winning_tile > 33 || held.is_none_or(|&count| count == 0),
-    ]
 }
 
 /// What is expected for a win.
@@ -83,7 +73,7 @@ impl ExpectedWin {
         if self.scores.is_empty() {
             return refused(NO_READING);
         }
-        match self.ranking().first() {
+        match ranking(&self.scores).first() {
             Some(&chosen) => *chosen,
             None => refused(NO_YAKU),
         }
@@ -108,34 +98,15 @@ impl ExpectedWin {
         }
     }
 
-    /// The scores with at least one yaku, the one to choose first. Where no rule of the choice tells
-    /// two apart, the earlier record stays before the later.
-    fn ranking(&self) -> Vec<&Score> {
-        let mut ranking: Vec<&Score> = self.scores.iter().collect();
-        ranking.retain(|score| score.tallies != [0; YAKU]);
-        ranking.sort_by_key(|score| std::cmp::Reverse(worth(score)));
-        ranking
-    }
-
     /// The number of the rule that decides between the chosen reading and the next: 0 the total, 1 a
     /// yakuman before none, 2 more han, 3 more fu, 4 the earlier record. Nothing where there is no
     /// other reading with a yaku.
     pub fn deciding_rule(&self) -> Option<usize> {
-        let ranking = self.ranking();
+        let ranking = ranking(&self.scores);
         let (chosen, next) = (worth(ranking.first()?), worth(ranking.get(1)?));
         let differing = (0..chosen.len()).find(|&rule| chosen[rule] != next[rule]);
         Some(differing.unwrap_or(chosen.len()))
     }
-}
-
-/// What the choice looks at, in its order; more is better.
-fn worth(score: &Score) -> [u64; 4] {
-    [
-        score.total,
-        score.is_yakuman.into(),
-        score.han.into(),
-        score.fu.into(),
-    ]
 }
 
 /// A refusal's number alone.

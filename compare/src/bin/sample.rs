@@ -17,8 +17,9 @@
 //! Before the call, byte i of the buffer is (7 i + 3) mod 256.
 
 use compare::damage::with_faults;
+use compare::differences::FAULTS;
 use compare::hand::Hand;
-use compare::oracle::{Expected, FAULTS};
+use compare::oracle::Expected;
 use compare::random;
 use compare::rng::Rng;
 use compare::stored::{self, MOST_CALLS, Sample, put_hand, put_u16};

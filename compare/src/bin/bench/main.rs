@@ -7,6 +7,7 @@ mod worst;
 use cases::{CASES, Case, Won};
 use compare::agari;
 use compare::agari_wins::AgariWin;
+use compare::answers;
 use compare::arguments;
 use compare::hand::Hand;
 use compare::library::{list_readings, score_win};
@@ -60,7 +61,7 @@ fn measure_readings() {
             &theirs,
             |(counts, called)| {
                 let counts = agari::tile_counts(black_box(counts));
-                black_box(agari::readings(&counts, called));
+                black_box(answers::found(&counts, called));
             },
             &hands,
             |hand| list(hand, &mut out),
