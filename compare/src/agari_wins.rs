@@ -4,6 +4,7 @@
 use crate::agari;
 use crate::agari_scores;
 use crate::answers;
+use crate::differences;
 use crate::hand::*;
 use crate::library::Win;
 use agari_core::context::GameContext;
@@ -32,8 +33,8 @@ impl AgariWin {
         }
     }
 
-    /// The reading to choose: of those with a yaku the greatest total, then a yakuman before none,
-    /// more han, more fu. Maps of counts are made here, one where nothing is called, else two.
+    /// The reading to choose: of those with a yaku one of the greatest worth. Maps of counts are made
+    /// here, one where nothing is called, else two.
     pub fn score(&self) -> Option<(YakuResult, ScoringResult)> {
         let counts = agari::tile_counts(&self.counts);
         let together = (!self.called.is_empty()).then(|| agari::tile_counts(&self.with_calls));
@@ -43,10 +44,10 @@ impl AgariWin {
         for reading in answers::found(&counts, &self.called) {
             let yaku = answers::yaku(&reading, together, &self.context);
             let score = answers::score(&reading, &yaku, &self.context);
-            let total = score.payment.total;
-            let worth = Some((total, yaku.is_yakuman, score.han, score.fu.total));
-            if !yaku.yaku_list.is_empty() && worth > most {
-                most = worth;
+            let total = score.payment.total.into();
+            let worth = differences::worth(total, yaku.is_yakuman, score.han, score.fu.total);
+            if !yaku.yaku_list.is_empty() && Some(worth) > most {
+                most = Some(worth);
                 chosen = Some((yaku, score));
             }
         }

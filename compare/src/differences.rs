@@ -14,7 +14,7 @@
 
 use crate::agari::{self, Record};
 use crate::hand::*;
-use crate::library::{Meld, Score, TSUMO, Win, YAKU};
+use crate::library::{Meld, TSUMO, Win};
 use agari_core::context::{GameContext, WinType};
 use agari_core::hand::HandStructure;
 use agari_core::parse::TileCounts;
@@ -91,23 +91,21 @@ pub fn payment(
 
 // ---- the choice
 
-/// The scores with at least one yaku, the one to choose first. Where nothing in `worth` tells two apart,
-/// the earlier record stays before the later. Row 'Which reading counts'.
-pub fn ranking(scores: &[Score]) -> Vec<&Score> {
-    let mut ranking: Vec<&Score> = scores.iter().collect();
-    ranking.retain(|score| score.tallies != [0; YAKU]);
-    ranking.sort_by_key(|score| Reverse(worth(score)));
-    ranking
+/// What the choice looks at, in its order; more is better.
+pub type Worth = [u64; 4];
+
+/// The worth of a reading with a yaku. Row 'Which reading counts'.
+pub fn worth(total: u64, is_yakuman: bool, han: u8, fu: u8) -> Worth {
+    [total, is_yakuman.into(), han.into(), fu.into()]
 }
 
-/// What the choice looks at, in its order; more is better.
-pub fn worth(score: &Score) -> [u64; 4] {
-    [
-        score.total,
-        score.is_yakuman.into(),
-        score.han.into(),
-        score.fu.into(),
-    ]
+/// The readings with a worth, the one to choose first. Of two with the same worth the earlier record
+/// stays before the later. Row 'Which reading counts'.
+pub fn ranking<T>(readings: &[T], worth: impl Fn(&T) -> Option<Worth>) -> Vec<&T> {
+    let mut ranking: Vec<&T> = readings.iter().collect();
+    ranking.retain(|reading| worth(reading).is_some());
+    ranking.sort_by_key(|reading| Reverse(worth(reading)));
+    ranking
 }
 
 // ---- refusals

@@ -1,8 +1,5 @@
 //! The comparison of the proved score unit with agari-core.
 
-// Linked for its archive too, which `library` asks directly.
-extern crate ziwhakemo;
-
 pub mod agari;
 pub mod agari_scores;
 pub mod agari_wins;
@@ -10,6 +7,7 @@ pub mod agreement;
 pub mod answers;
 pub mod arguments;
 pub mod checker;
+pub mod convert;
 pub mod damage;
 pub mod differences;
 pub mod every;
@@ -27,6 +25,7 @@ pub mod rows;
 pub mod score_tally;
 pub mod scored_wins;
 pub mod scores;
+pub mod shadow;
 pub mod stored;
 pub mod tally;
 pub mod twins;

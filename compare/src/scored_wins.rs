@@ -115,7 +115,7 @@ pub fn random_wins(rng: &mut Rng, most: u64) -> (Hand, Vec<Win>) {
 }
 
 /// A hand with no fault, most often with a reading.
-fn sound_hand(rng: &mut Rng) -> Hand {
+pub fn sound_hand(rng: &mut Rng) -> Hand {
     match rng.share(&[86, 8, 1, 1, 4]) {
         0 => wins::hand(rng),
         1 => random::near_winning(rng),

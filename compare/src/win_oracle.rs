@@ -2,7 +2,7 @@
 //! scores of the readings, and the choice that the paper adds.
 
 use crate::agari_scores::ReadHand;
-use crate::differences::{FAULTS, hand_faults, ranking, win_faults, worth};
+use crate::differences::{self, FAULTS, Worth, hand_faults, ranking, win_faults};
 use crate::hand::Hand;
 use crate::library::{Score, WAITS, Waits, Win, YAKU};
 
@@ -73,7 +73,7 @@ impl ExpectedWin {
         if self.scores.is_empty() {
             return refused(NO_READING);
         }
-        match ranking(&self.scores).first() {
+        match ranking(&self.scores, worth).first() {
             Some(&chosen) => *chosen,
             None => refused(NO_YAKU),
         }
@@ -102,11 +102,18 @@ impl ExpectedWin {
     /// yakuman before none, 2 more han, 3 more fu, 4 the earlier record. Nothing where there is no
     /// other reading with a yaku.
     pub fn deciding_rule(&self) -> Option<usize> {
-        let ranking = ranking(&self.scores);
-        let (chosen, next) = (worth(ranking.first()?), worth(ranking.get(1)?));
+        let ranking = ranking(&self.scores, worth);
+        let (chosen, next) = (worth(ranking.first()?)?, worth(ranking.get(1)?)?);
         let differing = (0..chosen.len()).find(|&rule| chosen[rule] != next[rule]);
         Some(differing.unwrap_or(chosen.len()))
     }
+}
+
+/// What a score is worth for the choice; nothing where there is no yaku.
+fn worth(score: &Score) -> Option<Worth> {
+    let is_yakuman = score.is_yakuman == 1;
+    let worth = differences::worth(score.total, is_yakuman, score.han, score.fu);
+    (score.tallies != [0; YAKU]).then_some(worth)
 }
 
 /// A refusal's number alone.

@@ -1,0 +1,354 @@
+//! agari's types as those of the crate `ziwhakemo`, and back, for a table that has both for a while.
+//!
+//! All but the win have the same shapes on both sides, so that the one macro below makes both directions.
+//! What the library leaves out is told: a local yaku, and a win with dora or with other rules.
+
+use ziwhakemo as ours;
+
+/// agari's types by their names alone.
+pub mod theirs {
+    pub use agari_core::context::{GameContext, WinType};
+    pub use agari_core::hand::{HandStructure, KanType, Meld};
+    pub use agari_core::parse::TileCounts;
+    pub use agari_core::rules::Rules;
+    pub use agari_core::scoring::{Payment, ScoreLevel};
+    pub use agari_core::tile::{Honor, Suit, Tile};
+    pub use agari_core::wait::WaitType;
+    pub use agari_core::yaku::Yaku;
+}
+
+/// The value of the same name, of those that have nothing inside.
+macro_rules! same_name {
+    ($value:expr, $from:ident, $to:ident, $type:ident: $($name:ident)*) => {
+        match $value {
+            $($from::$type::$name => $to::$type::$name,)*
+        }
+    };
+}
+
+/// The yaku of the same name. Behind the types stands what to do with those that one side has alone.
+macro_rules! same_yaku {
+    ($yaku:expr, $from:ident, $to:ident $(, $alone:pat => $otherwise:expr)?; $($name:ident)*) => {
+        match $yaku {
+            $from::Yaku::Yakuhai(of) => $to::Yaku::Yakuhai(honor(of)),
+            $($from::Yaku::$name => $to::Yaku::$name,)*
+            $($alone => $otherwise,)?
+        }
+    };
+}
+
+/// Hands the names of all yaku but Yakuhai on to `same_yaku`.
+macro_rules! each_yaku {
+    ($($asked:tt)*) => {
+        same_yaku!($($asked)*;
+            Riichi Ippatsu MenzenTsumo Tanyao Pinfu Iipeikou RinshanKaihou Chankan HaiteiRaoyue
+            HouteiRaoyui DoubleRiichi Toitoi SanshokuDoujun SanshokuDoukou Ittsu Chiitoitsu Chanta
+            SanAnkou SanKantsu Honroutou Shousangen Honitsu Junchan Ryanpeikou Chinitsu Tenhou Chiihou
+            KokushiMusou Suuankou Daisangen Shousuushii Daisuushii Tsuuiisou Chinroutou Ryuuiisou
+            ChuurenPoutou SuuKantsu Kokushi13Wait SuuankouTanki JunseiChuurenPoutou)
+    };
+}
+
+/// The conversions that need nothing to be left out.
+macro_rules! conversions {
+    ($from:ident, $to:ident) => {
+        /// A suit.
+        pub fn suit(suit: $from::Suit) -> $to::Suit {
+            same_name!(suit, $from, $to, Suit: Man Pin Sou)
+        }
+
+        /// A wind or a dragon.
+        pub fn honor(honor: $from::Honor) -> $to::Honor {
+            same_name!(honor, $from, $to, Honor: East South West North White Green Red)
+        }
+
+        /// A tile, with a value from 1 to 9 or without.
+        pub fn tile(tile: $from::Tile) -> $to::Tile {
+            match tile {
+                $from::Tile::Suited { suit: of, value } => $to::Tile::suited(suit(of), value),
+                $from::Tile::Honor(of) => $to::Tile::honor(honor(of)),
+            }
+        }
+
+        /// A map of counts.
+        pub fn tile_counts(counts: &$from::TileCounts) -> $to::TileCounts {
+            counts.iter().map(|(&of, &count)| (tile(of), count)).collect()
+        }
+
+        /// A kind of kan.
+        pub fn kan_type(kan_type: $from::KanType) -> $to::KanType {
+            same_name!(kan_type, $from, $to, KanType: Closed Open Added)
+        }
+
+        /// A meld.
+        pub fn meld(meld: &$from::Meld) -> $to::Meld {
+            match *meld {
+                $from::Meld::Shuntsu(of, is_open) => $to::Meld::Shuntsu(tile(of), is_open),
+                $from::Meld::Koutsu(of, is_open) => $to::Meld::Koutsu(tile(of), is_open),
+                $from::Meld::Kan(of, kind) => $to::Meld::Kan(tile(of), kan_type(kind)),
+            }
+        }
+
+        /// Melds in the order in which they stand.
+        pub fn melds(melds: &[$from::Meld]) -> Vec<$to::Meld> {
+            melds.iter().map(meld).collect()
+        }
+
+        /// A reading, its melds or pairs in the order in which they stand.
+        pub fn hand_structure(reading: &$from::HandStructure) -> $to::HandStructure {
+            match reading {
+                $from::HandStructure::Standard { melds: of, pair } => $to::HandStructure::Standard {
+                    melds: melds(of),
+                    pair: tile(*pair),
+                },
+                $from::HandStructure::Chiitoitsu { pairs } => $to::HandStructure::Chiitoitsu {
+                    pairs: pairs.iter().copied().map(tile).collect(),
+                },
+                $from::HandStructure::Kokushi { pair } => $to::HandStructure::Kokushi {
+                    pair: tile(*pair),
+                },
+            }
+        }
+
+        /// Ron or tsumo.
+        pub fn win_type(win_type: $from::WinType) -> $to::WinType {
+            same_name!(win_type, $from, $to, WinType: Ron Tsumo)
+        }
+
+        /// A wait.
+        pub fn wait_type(wait: $from::WaitType) -> $to::WaitType {
+            same_name!(wait, $from, $to, WaitType:
+                Ryanmen Kanchan Penchan Shanpon Tanki Kokushi13)
+        }
+
+        /// A level.
+        pub fn score_level(level: $from::ScoreLevel) -> $to::ScoreLevel {
+            match level {
+                $from::ScoreLevel::Normal => $to::ScoreLevel::Normal,
+                $from::ScoreLevel::Mangan => $to::ScoreLevel::Mangan,
+                $from::ScoreLevel::Haneman => $to::ScoreLevel::Haneman,
+                $from::ScoreLevel::Baiman => $to::ScoreLevel::Baiman,
+                $from::ScoreLevel::Sanbaiman => $to::ScoreLevel::Sanbaiman,
+                $from::ScoreLevel::Yakuman(count) => $to::ScoreLevel::Yakuman(count),
+            }
+        }
+
+        /// Who pays what.
+        pub fn payment(payment: &$from::Payment) -> $to::Payment {
+            $to::Payment {
+                total: payment.total,
+                from_non_dealer: payment.from_non_dealer,
+                from_dealer: payment.from_dealer,
+                from_discarder: payment.from_discarder,
+            }
+        }
+    };
+}
+
+/// From agari's types to those of the crate.
+pub mod to_ziwhakemo {
+    use super::{ours, theirs};
+
+    conversions!(theirs, ours);
+
+    /// A yaku, or nothing for agari's local ones.
+    pub fn yaku(yaku: theirs::Yaku) -> Option<ours::Yaku> {
+        use theirs::Yaku::{OpenDoubleRiichi, OpenRiichi, Renhou};
+        let turned = each_yaku!(yaku, theirs, ours,
+            OpenRiichi | OpenDoubleRiichi | Renhou(_) => return None);
+        Some(turned)
+    }
+
+    /// What the library leaves out, so that it would score the win otherwise.
+    #[derive(Clone, Copy, Debug, PartialEq, Eq)]
+    pub enum LeftOut {
+        /// Dora, red fives or pulled Norths.
+        Dora,
+        /// Other rules than agari's default ones.
+        Rules,
+    }
+
+    /// A win. Whether the hand is open is not carried over: the calls say it. Nor are the flags of open
+    /// riichi and renhou, which score nothing under the default rules.
+    pub fn game_context(context: &theirs::GameContext) -> Result<ours::GameContext, LeftOut> {
+        let indicators = [&context.dora_indicators, &context.ura_dora_indicators];
+        let has_indicators = indicators.iter().any(|tiles| !tiles.is_empty());
+        if has_indicators || context.aka_count > 0 || context.nukidora > 0 {
+            return Err(LeftOut::Dora);
+        }
+        if context.rules != theirs::Rules::default() {
+            return Err(LeftOut::Rules);
+        }
+        Ok(ours::GameContext {
+            win_type: win_type(context.win_type),
+            winning_tile: context.winning_tile.map(tile),
+            round_wind: honor(context.round_wind),
+            seat_wind: honor(context.seat_wind),
+            is_riichi: context.is_riichi,
+            is_double_riichi: context.is_double_riichi,
+            is_ippatsu: context.is_ippatsu,
+            is_rinshan: context.is_rinshan,
+            is_chankan: context.is_chankan,
+            is_last_tile: context.is_last_tile,
+            is_tenhou: context.is_tenhou,
+            is_chiihou: context.is_chiihou,
+        })
+    }
+}
+
+/// From the crate's types to agari's.
+pub mod to_agari {
+    use super::{ours, theirs};
+
+    conversions!(ours, theirs);
+
+    /// A yaku.
+    pub fn yaku(yaku: ours::Yaku) -> theirs::Yaku {
+        each_yaku!(yaku, ours, theirs)
+    }
+
+    /// A win with these calls, which say whether the hand is open. No dora, and agari's default rules.
+    pub fn game_context(context: &ours::GameContext, calls: &[ours::Meld]) -> theirs::GameContext {
+        let [round_wind, seat_wind] = [context.round_wind, context.seat_wind].map(honor);
+        let plain = theirs::GameContext::new(win_type(context.win_type), round_wind, seat_wind);
+        theirs::GameContext {
+            winning_tile: context.winning_tile.map(tile),
+            is_open: calls.iter().any(ours::Meld::is_open),
+            is_riichi: context.is_riichi,
+            is_double_riichi: context.is_double_riichi,
+            is_ippatsu: context.is_ippatsu,
+            is_rinshan: context.is_rinshan,
+            is_chankan: context.is_chankan,
+            is_last_tile: context.is_last_tile,
+            is_tenhou: context.is_tenhou,
+            is_chiihou: context.is_chiihou,
+            ..plain
+        }
+    }
+}
+
+#[cfg(test)]
+mod tests {
+    use super::to_ziwhakemo::LeftOut;
+    use super::*;
+    use crate::agari_scores::{WAIT_ENTRIES, YAKU_ENTRIES};
+    use crate::rng::Rng;
+    use crate::{agari, agari_scores, answers, random, wins};
+    use std::fmt::Debug;
+
+    /// How a value is written, which is the same on both sides where the value is.
+    fn text(value: impl Debug) -> String {
+        format!("{value:?}")
+    }
+
+    #[test]
+    fn tiles_there_and_back() {
+        for number in 0..34 {
+            let tile = agari::tile(number);
+            let turned = to_ziwhakemo::tile(tile);
+            assert_eq!(turned.number(), Some(number));
+            assert_eq!(to_agari::tile(turned), tile);
+            assert_eq!(text(turned), text(tile));
+        }
+        let none = theirs::Tile::suited(theirs::Suit::Sou, 10);
+        assert_eq!(to_ziwhakemo::tile(none).number(), None);
+        assert_eq!(to_agari::tile(to_ziwhakemo::tile(none)), none);
+    }
+
+    #[test]
+    fn yaku_and_waits_there_and_back() {
+        for (place, &yaku) in YAKU_ENTRIES.iter().enumerate() {
+            let turned = to_ziwhakemo::yaku(yaku).unwrap();
+            assert_eq!(turned, ours::Yaku::ALL[place]);
+            assert_eq!((to_agari::yaku(turned), text(turned)), (yaku, text(yaku)));
+            let han = (yaku.han(), yaku.han_open(), yaku.is_yakuman());
+            assert_eq!(han, (turned.han(), turned.han_open(), turned.is_yakuman()));
+        }
+        for local in [theirs::Yaku::OpenRiichi, theirs::Yaku::OpenDoubleRiichi] {
+            assert_eq!(to_ziwhakemo::yaku(local), None);
+        }
+        for (place, &wait) in WAIT_ENTRIES.iter().enumerate() {
+            let turned = to_ziwhakemo::wait_type(wait);
+            assert_eq!(turned, ours::WaitType::ALL[place]);
+            assert_eq!(to_agari::wait_type(turned), wait);
+            assert_eq!((turned.fu(), text(turned)), (wait.fu(), text(wait)));
+        }
+    }
+
+    #[test]
+    fn hands_readings_and_wins_there_and_back() {
+        let mut rng = Rng::new(8);
+        for _ in 0..1000 {
+            let hand = wins::hand(&mut rng);
+            let counts = agari::tile_counts(hand.counts());
+            let turned = to_ziwhakemo::tile_counts(&counts);
+            assert_eq!(ours::counts_of(&turned).unwrap(), hand.counts());
+            assert_eq!(to_agari::tile_counts(&turned), counts);
+
+            let calls = agari::called_melds(hand.called());
+            let turned_calls = to_ziwhakemo::melds(&calls);
+            assert_eq!(to_agari::melds(&turned_calls), calls);
+            for reading in answers::found(&counts, &calls) {
+                let turned = to_ziwhakemo::hand_structure(&reading);
+                assert_eq!(to_agari::hand_structure(&turned), reading);
+                assert_eq!(text(turned), text(reading));
+            }
+
+            let tile = random::held_tile(&mut rng, &hand) as u8;
+            let win = wins::win(&mut rng, &hand, tile);
+            let context = agari_scores::context(&win, hand.is_open());
+            let turned = to_ziwhakemo::game_context(&context).unwrap();
+            let back = to_agari::game_context(&turned, &turned_calls);
+            assert_eq!(text(back), text(context));
+        }
+    }
+
+    #[test]
+    fn levels_and_payments_there_and_back() {
+        for (han, is_yakuman) in (0..=52).flat_map(|han| [(han, false), (han, true)]) {
+            let level = answers::level(han, 30, is_yakuman);
+            let turned = to_ziwhakemo::score_level(level);
+            assert_eq!(turned, ours::determine_score_level(han, 30, is_yakuman));
+            assert_eq!(to_agari::score_level(turned), level);
+            assert_eq!((turned.name(), text(turned)), (level.name(), text(level)));
+        }
+        for win_type in [theirs::WinType::Ron, theirs::WinType::Tsumo] {
+            for is_dealer in [false, true] {
+                let payment = answers::payment(1920, is_dealer, win_type);
+                let turned = to_ziwhakemo::payment(&payment);
+                let by_library = to_ziwhakemo::win_type(win_type);
+                let by_library = ours::calculate_payment(1920, is_dealer, by_library);
+                assert_eq!(Ok(turned), by_library);
+                assert_eq!(text(to_agari::payment(&turned)), text(payment));
+            }
+        }
+    }
+
+    #[test]
+    fn what_the_library_leaves_out_is_told() {
+        let east = agari::honor(27);
+        let tile = agari::tile(27);
+        let plain = || theirs::GameContext::new(theirs::WinType::Ron, east, east);
+        let dora = [
+            plain().with_dora(vec![tile]),
+            plain().with_ura_dora(vec![tile]),
+            plain().with_aka(1),
+            plain().with_nukidora(1),
+        ];
+        for context in dora {
+            let turned = to_ziwhakemo::game_context(&context);
+            assert_eq!(turned, Err(LeftOut::Dora));
+        }
+        let rules = [
+            theirs::Rules::sanma(),
+            theirs::Rules::default().open_riichi(true),
+        ];
+        for rules in rules {
+            let turned = to_ziwhakemo::game_context(&plain().with_rules(rules));
+            assert_eq!(turned, Err(LeftOut::Rules));
+        }
+        // Without its rule, an open riichi is a riichi.
+        let open_riichi = to_ziwhakemo::game_context(&plain().open_riichi()).unwrap();
+        assert!(open_riichi.is_riichi);
+    }
+}
