@@ -11,7 +11,6 @@ use crate::hand::{self, HandStructure, Meld};
 use crate::tile::{self, Honor, TILES, Tile, TileCounts, counts_of};
 use crate::wait::{self, WaitType};
 use alloc::string::{String, ToString};
-use alloc::vec;
 use alloc::vec::Vec;
 
 pub use crate::scoring::{calculate_basic_points, determine_score_level};

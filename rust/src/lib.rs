@@ -32,6 +32,7 @@
 #![deny(unsafe_code)]
 #![warn(missing_docs)]
 
+#[macro_use]
 extern crate alloc;
 #[cfg(any(test, feature = "std"))]
 extern crate std;

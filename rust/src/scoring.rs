@@ -6,7 +6,6 @@ use crate::ffi;
 use crate::hand::{Meld, lent};
 use crate::refusal::{Refusal, accepted};
 use crate::yaku::YakuResult;
-use alloc::format;
 use alloc::string::{String, ToString};
 
 /// A level.

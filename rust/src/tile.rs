@@ -1,6 +1,5 @@
 //! Tiles (agari's `tile.rs`), and the 34 counts of a hand.
 
-use alloc::format;
 use alloc::string::String;
 use core::fmt;
 
