@@ -73,16 +73,9 @@ pub struct Payment {
     pub from_discarder: Option<u32>,
 }
 
-/// The library's amounts, in which 0 stands for who does not pay.
-struct Amounts {
-    from_non_dealer: u32,
-    from_dealer: u32,
-    from_discarder: u32,
-    total: u64,
-}
-
 impl Payment {
-    fn of(amounts: Amounts, is_dealer: bool, win_type: WinType) -> Payment {
+    /// The payment of the library's amounts, in which 0 stands for who does not pay.
+    fn of(amounts: ffi::PaymentAnswer, is_dealer: bool, win_type: WinType) -> Payment {
         let is_tsumo = win_type == WinType::Tsumo;
         Payment {
             total: amounts.total.try_into().expect(OTHER_VERSION),
@@ -128,7 +121,8 @@ impl ScoredWin {
         accepted(answer.number)?;
         let yaku_result = YakuResult::of(answer);
         let score_level = ScoreLevel::of(answer.level, answer.yakuman_count);
-        let amounts = Amounts {
+        let amounts = ffi::PaymentAnswer {
+            number: answer.number,
             from_non_dealer: answer.from_non_dealer,
             from_dealer: answer.from_dealer,
             from_discarder: answer.from_discarder,
@@ -198,11 +192,5 @@ pub fn calculate_payment(
 ) -> Result<Payment, Refusal> {
     let answer = ffi::payment(basic_points, is_dealer, win_type.number());
     accepted(answer.number)?;
-    let amounts = Amounts {
-        from_non_dealer: answer.from_non_dealer,
-        from_dealer: answer.from_dealer,
-        from_discarder: answer.from_discarder,
-        total: answer.total,
-    };
-    Ok(Payment::of(amounts, is_dealer, win_type))
+    Ok(Payment::of(answer, is_dealer, win_type))
 }
