@@ -63,31 +63,49 @@ pub fn payment(basic_points: u32, is_dealer: bool, win_type: WinType) -> Payment
     differences::payment(theirs, basic_points, is_dealer, win_type)
 }
 
-/// The whole score of a reading: agari's own, as long as its fu count here. Where others do, or other
-/// basic points, agari says what follows from these.
+/// The whole score of a reading: agari's own, and where other fu or other basic points count here, what
+/// agari makes of these.
 pub fn score(reading: &HandStructure, yaku: &YakuResult, context: &GameContext) -> ScoringResult {
-    let mut score = calculate_score(reading, yaku, context);
-    let (han, is_yakuman) = (score.han, yaku.is_yakuman);
-    let their_points = score.basic_points;
-    let fu = differences::fu(score.fu.total, reading, context);
-    if fu != score.fu.total {
-        score.fu.total = fu;
-        score.score_level = determine_score_level(han, fu, is_yakuman);
-        score.basic_points = calculate_basic_points(han, fu, is_yakuman);
-    }
+    let theirs = calculate_score(reading, yaku, context);
+    let (han, is_yakuman, win_type) = (theirs.han, yaku.is_yakuman, context.win_type);
+    let fu = differences::fu(theirs.fu.total, reading, context);
+    let score = with_fu(theirs, fu, is_yakuman, win_type);
+    let points = differences::basic_points(score.basic_points, han, fu, is_yakuman);
+    let mut score = with_points(score, points, win_type);
     score.score_level = differences::level(score.score_level, han, fu, is_yakuman);
-    score.basic_points = differences::basic_points(score.basic_points, han, fu, is_yakuman);
-    let (points, is_dealer, win_type) = (score.basic_points, score.is_dealer, context.win_type);
-    if points != their_points {
-        score.payment = calculate_payment(points, is_dealer, win_type);
-    }
-    score.payment = differences::payment(score.payment, points, is_dealer, win_type);
     score.is_counted_yakuman = matches!(score.score_level, ScoreLevel::Yakuman(_)) && !is_yakuman;
+    score.payment = differences::payment(score.payment, points, score.is_dealer, win_type);
+    score
+}
+
+/// A score with these fu.
+fn with_fu(mut score: ScoringResult, fu: u8, is_yakuman: bool, win_type: WinType) -> ScoringResult {
+    if fu == score.fu.total {
+        return score;
+    }
+    let han = score.han;
+    score.fu.total = fu;
+    score.score_level = determine_score_level(han, fu, is_yakuman);
+    with_points(score, calculate_basic_points(han, fu, is_yakuman), win_type)
+}
+
+/// A score with these basic points.
+fn with_points(mut score: ScoringResult, points: u32, win_type: WinType) -> ScoringResult {
+    if points != score.basic_points {
+        score.basic_points = points;
+        score.payment = calculate_payment(points, score.is_dealer, win_type);
+    }
     score
 }
 
 #[cfg(test)]
 mod tests {
+    use super::*;
+    use crate::agari;
+    use crate::agari_scores::context;
+    use crate::random;
+    use crate::rng::Rng;
+    use crate::wins;
     use std::fs;
     use std::path::{Path, PathBuf};
 
@@ -114,6 +132,47 @@ mod tests {
         let words = lists.flat_map(|list| list.split([' ', '\n', ',', '{', '}']));
         let last = words.filter_map(|word| word.rsplit("::").next());
         last.filter(|name| !name.is_empty()).collect()
+    }
+
+    #[test]
+    fn what_follows_from_other_fu_is_agaris() {
+        let mut rng = Rng::new(6);
+        for _ in 0..2000 {
+            let hand = wins::hand(&mut rng);
+            let tile = random::held_tile(&mut rng, &hand) as u8;
+            let context = context(&wins::win(&mut rng, &hand, tile), hand.is_open());
+            let all = agari::tile_counts(&hand.with_calls().map(|count| count as u8));
+            let counts = agari::tile_counts(hand.counts());
+            let (_, reading) = &readings(&counts, &agari::called_melds(hand.called()))[0];
+            let yaku = detect_yaku_with_context(reading, &all, &context);
+            let theirs = calculate_score(reading, &yaku, &context);
+            let (fu, is_yakuman, win_type) = (theirs.fu.total, yaku.is_yakuman, context.win_type);
+
+            let other = with_fu(theirs.clone(), fu + 10, is_yakuman, win_type);
+            let level = determine_score_level(theirs.han, fu + 10, is_yakuman);
+            let points = calculate_basic_points(theirs.han, fu + 10, is_yakuman);
+            let payment = calculate_payment(points, context.is_dealer(), win_type);
+            assert_eq!((other.fu.total, other.score_level), (fu + 10, level));
+            assert_eq!(other.basic_points, points);
+            assert_eq!(format!("{:?}", other.payment), format!("{payment:?}"));
+
+            let back = with_fu(other, fu, is_yakuman, win_type);
+            assert_eq!(format!("{back:?}"), format!("{theirs:?}"));
+        }
+    }
+
+    #[test]
+    fn every_answer_is_passed_through() {
+        let (answers, _) = include_str!("differences.rs")
+            .split_once("// ---- the choice")
+            .unwrap();
+        let names = answers.split("\npub fn ").skip(1);
+        let names: Vec<&str> = names.filter_map(|rest| rest.split('(').next()).collect();
+        assert_eq!(names.len(), 8, "{names:?}");
+        let (asking, _) = include_str!("answers.rs").split_once("cfg(test)").unwrap();
+        for name in names {
+            assert!(asking.contains(&format!("differences::{name}(")), "{name}");
+        }
     }
 
     #[test]
