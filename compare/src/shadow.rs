@@ -9,7 +9,6 @@ use crate::random;
 use crate::rng::Rng;
 use crate::scored_wins::sound_hand;
 use crate::wins;
-use std::collections::BTreeMap;
 use std::fmt;
 use ziwhakemo::{Payment, Refusal, ScoreLevel, Yaku};
 
@@ -66,8 +65,8 @@ pub struct Settled {
     pub payment: Payment,
 }
 
-/// A settled win, or why there is none.
-pub type Answer = Result<Settled, Refusal>;
+/// What a win may be settled by, the best first, or why there is nothing.
+pub type Ranked = Result<Vec<Settled>, Refusal>;
 
 /// What a shadow run has seen.
 #[derive(Default)]
@@ -75,17 +74,21 @@ pub struct Log {
     wins: u64,
     pub differ: u64,
     /// Wins by the corners that they are in.
-    corners: BTreeMap<&'static str, u64>,
+    corners: Vec<(&'static str, u64)>,
 }
 
 impl Log {
-    /// Holds the library's answer to agari's, and prints both where they differ.
-    pub fn hold(&mut self, win: &TableWin, agari: &Answer, library: &Answer) {
+    /// Holds the library's answer to the best of agari's, and prints both where they differ.
+    pub fn hold(&mut self, win: &TableWin, agari: &Ranked, library: &Result<Settled, Refusal>) {
         self.wins += 1;
-        for (corner, is_in_it) in corners(win, agari) {
-            *self.corners.entry(corner).or_default() += u64::from(is_in_it);
+        let corners = corners(win, agari);
+        self.corners.resize(corners.len(), ("", 0));
+        for ((name, wins), (corner, is_in_it)) in self.corners.iter_mut().zip(corners) {
+            *name = corner;
+            *wins += u64::from(is_in_it);
         }
-        if agari != library {
+        let agari = agari.as_ref().map(|ranked| &ranked[0]);
+        if agari != library.as_ref() {
             self.differ += 1;
             if self.differ <= PRINTED {
                 println!("DIFFERS: {win}");
@@ -107,44 +110,61 @@ impl fmt::Display for Log {
 }
 
 /// Where a win is easily scored wrong, and whether this one is there.
-fn corners(win: &TableWin, answer: &Answer) -> Vec<(&'static str, bool)> {
-    let found = answers::found(&win.counts, &win.calls);
-    let readings = answers::readings(&win.counts, &win.calls);
-    let is_in_order = || found.iter().eq(readings.iter().map(|(_, reading)| reading));
-    let is_twice = found.len() > readings.len();
-    let is_settled = |fits: fn(&Settled) -> bool| answer.as_ref().is_ok_and(fits);
+fn corners(win: &TableWin, agari: &Ranked) -> Vec<(&'static str, bool)> {
+    let none = Vec::new();
+    let ranked = agari.as_ref().unwrap_or(&none);
+    let is_best = |fits: fn(&Settled) -> bool| ranked.first().is_some_and(fits);
+    let is_tied = |are_same: fn(&Settled, &Settled) -> bool| match &ranked[..] {
+        [best, next, ..] => are_same(best, next),
+        _ => false,
+    };
+    let is_open = win.context.is_open;
+    let [are_several, is_twice, is_reordered] = listed(win);
     vec![
+        ("several readings", are_several),
         ("agari lists a reading twice", is_twice),
-        (
-            "agari lists readings in another order",
-            !is_twice && !is_in_order(),
-        ),
-        ("several readings", readings.len() > 1),
-        ("no reading", *answer == Err(Refusal::NoReading)),
-        ("no yaku", *answer == Err(Refusal::NoYaku)),
-        ("open", win.context.is_open),
-        (
-            "closed kans alone",
-            !win.context.is_open && !win.calls.is_empty(),
-        ),
-        ("a wind counts twice", is_settled(has_double_wind)),
-        ("yakuman by yaku", is_settled(|settled| settled.is_yakuman)),
-        (
-            "yakuman several times",
-            is_settled(|settled| settled.level > ScoreLevel::Yakuman(1)),
-        ),
-        ("yakuman by 13 or more han", is_settled(is_counted_yakuman)),
+        ("agari lists them in another order", is_reordered),
+        ("two readings pay the same", is_tied(pay_the_same)),
+        ("and have the same han and fu", is_tied(are_worth_the_same)),
+        ("no reading", *agari == Err(Refusal::NoReading)),
+        ("no yaku", *agari == Err(Refusal::NoYaku)),
+        ("open", is_open),
+        ("closed kans alone", !is_open && !win.calls.is_empty()),
+        ("a wind counts twice", is_best(has_double_wind)),
+        ("yakuman by yaku", is_best(|best| best.is_yakuman)),
+        ("yakuman several times", is_best(is_several_yakuman)),
+        ("yakuman by 13 or more han", is_best(is_counted_yakuman)),
     ]
 }
 
-fn has_double_wind(settled: &Settled) -> bool {
-    let is_wind = |yaku: &Yaku| matches!(yaku, Yaku::Yakuhai(_));
-    settled
-        .yaku
-        .windows(2)
-        .any(|two| two[0] == two[1] && is_wind(&two[0]))
+/// Whether there are several readings, and whether agari lists one of them twice, or only in another order.
+fn listed(win: &TableWin) -> [bool; 3] {
+    let found = answers::found(&win.counts, &win.calls);
+    let readings = answers::readings(&win.counts, &win.calls);
+    let is_twice = found.len() > readings.len();
+    let is_in_order = found.iter().eq(readings.iter().map(|(_, reading)| reading));
+    [readings.len() > 1, is_twice, !is_twice && !is_in_order]
 }
 
-fn is_counted_yakuman(settled: &Settled) -> bool {
-    settled.level == ScoreLevel::Yakuman(1) && !settled.is_yakuman
+fn pay_the_same(best: &Settled, next: &Settled) -> bool {
+    best.payment == next.payment
+}
+
+fn are_worth_the_same(best: &Settled, next: &Settled) -> bool {
+    let worth = |of: &Settled| (of.payment.total, of.is_yakuman, of.han, of.fu);
+    worth(best) == worth(next)
+}
+
+/// Whether a Yakuhai, which can only be that of a wind, stands twice.
+fn has_double_wind(best: &Settled) -> bool {
+    let mut pairs = best.yaku.windows(2);
+    pairs.any(|two| two[0] == two[1] && matches!(two[0], Yaku::Yakuhai(_)))
+}
+
+fn is_several_yakuman(best: &Settled) -> bool {
+    best.level > ScoreLevel::Yakuman(1)
+}
+
+fn is_counted_yakuman(best: &Settled) -> bool {
+    best.level == ScoreLevel::Yakuman(1) && !best.is_yakuman
 }

@@ -7,49 +7,55 @@
 
 use compare::answers;
 use compare::arguments::{self, Options};
+use compare::convert::theirs::HandStructure;
 use compare::convert::to_ziwhakemo;
 use compare::differences::{ranking, worth};
 use compare::rng::Rng;
-use compare::shadow::{Answer, Log, Settled, TableWin};
+use compare::shadow::{Log, Ranked, Settled, TableWin};
 use std::process::ExitCode;
 use ziwhakemo::{Refusal, Yaku};
 
 const USAGE: &str = "usage: shadow [--seed N] [--wins N] [--wrong]";
 const WINS: u64 = 1_000_000;
 
-/// As before: agari's readings, each scored, and the best that has a yaku. `answers` asks agari, and
+/// As before: agari's readings, each scored, the best that has a yaku first. `answers` asks agari, and
 /// puts in the listed differences: each reading once, in the order of records.
-fn by_agari(win: &TableWin) -> Answer {
-    let mut scored = Vec::new();
-    for (_, reading) in answers::readings(&win.counts, &win.calls) {
-        let yaku = answers::yaku(&reading, &win.all_counts, &win.context);
-        let score = answers::score(&reading, &yaku, &win.context);
-        let list = yaku.yaku_list.into_iter();
-        let mut list: Vec<Yaku> = list.filter_map(to_ziwhakemo::yaku).collect();
-        list.sort_by_key(|yaku| Yaku::ALL.iter().position(|other| other == yaku));
-        scored.push(Settled {
-            yaku: list,
-            is_yakuman: yaku.is_yakuman,
-            han: score.han,
-            fu: score.fu.total,
-            level: to_ziwhakemo::score_level(score.score_level),
-            basic_points: score.basic_points,
-            payment: to_ziwhakemo::payment(&score.payment),
-        });
-    }
-    let best = ranking(&scored, |of| {
+fn by_agari(win: &TableWin) -> Ranked {
+    let readings = answers::readings(&win.counts, &win.calls).into_iter();
+    let scored: Vec<Settled> = readings
+        .map(|(_, reading)| settled(win, &reading))
+        .collect();
+    let ranked = ranking(&scored, |of| {
         let worth = worth(of.payment.total.into(), of.is_yakuman, of.han, of.fu);
         (!of.yaku.is_empty()).then_some(worth)
     });
-    match best.first() {
-        Some(&chosen) => Ok(chosen.clone()),
-        None if scored.is_empty() => Err(Refusal::NoReading),
-        None => Err(Refusal::NoYaku),
+    match (scored.is_empty(), ranked.is_empty()) {
+        (true, _) => Err(Refusal::NoReading),
+        (false, true) => Err(Refusal::NoYaku),
+        (false, false) => Ok(ranked.into_iter().cloned().collect()),
+    }
+}
+
+/// What agari makes of a reading.
+fn settled(win: &TableWin, reading: &HandStructure) -> Settled {
+    let yaku = answers::yaku(reading, &win.all_counts, &win.context);
+    let score = answers::score(reading, &yaku, &win.context);
+    let list = yaku.yaku_list.into_iter();
+    let mut list: Vec<Yaku> = list.filter_map(to_ziwhakemo::yaku).collect();
+    list.sort_by_key(|yaku| Yaku::ALL.iter().position(|other| other == yaku));
+    Settled {
+        yaku: list,
+        is_yakuman: yaku.is_yakuman,
+        han: score.han,
+        fu: score.fu.total,
+        level: to_ziwhakemo::score_level(score.score_level),
+        basic_points: score.basic_points,
+        payment: to_ziwhakemo::payment(&score.payment),
     }
 }
 
 /// By the library: all of it is one call.
-fn by_library(win: &TableWin) -> Answer {
+fn by_library(win: &TableWin) -> Result<Settled, Refusal> {
     let counts = ziwhakemo::counts_of(&to_ziwhakemo::tile_counts(&win.counts));
     let counts = counts.expect("the table deals tiles alone");
     let calls = to_ziwhakemo::melds(&win.calls);
@@ -75,9 +81,8 @@ fn main() -> ExitCode {
         let mut log = Log::default();
         for _ in 0..options.number("--wins").unwrap_or(WINS) {
             let win = TableWin::dealt(&mut rng);
-            // The table settles by this,
+            // The table settles by the first of these, and has the library's answer beside it.
             let agari = by_agari(&win);
-            // and has this beside it.
             let mut library = by_library(&win);
             // On request, the first win that is settled is broken, to see that it is told.
             if let (true, Ok(settled)) = (is_wrong, &mut library) {
