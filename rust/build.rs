@@ -15,6 +15,7 @@ fn main() {
     }
 }
 
+/// What cargo says; nothing where it does not.
 fn given(variable: &str) -> String {
     env::var(variable).unwrap_or_default()
 }
@@ -51,6 +52,7 @@ fn library_folder() -> PathBuf {
     root.join(env::var("ZIWHAKEMO_LIB_DIR").unwrap_or("target/staticlib".into()))
 }
 
+/// Links the archive. The folder reaches a direct dependent as DEP_ZIWHAKEMO_FOLDER.
 fn link(folder: &Path) {
     println!("cargo::rustc-link-search=native={}", folder.display());
     println!("cargo::rustc-link-lib=static=ziwhakemo");

@@ -5,6 +5,19 @@
 //! each once, in the order of records, and waits in the order of [`WaitType::ALL`].
 //!
 //! The levels and basic points of han and fu need no other signature, and stand here too.
+//!
+//! ```
+//! use ziwhakemo::agari::{decompose_hand, is_winning_hand, to_counts};
+//! use ziwhakemo::{Suit, Tile};
+//!
+//! // man 11123456789999: nine gates
+//! let values = [1, 1, 1, 2, 3, 4, 5, 6, 7, 8, 9, 9, 9, 9];
+//! let tiles = values.map(|value| Tile::suited(Suit::Man, value));
+//! let counts = to_counts(&tiles);
+//! assert_eq!(decompose_hand(&counts).len(), 1);
+//! // 13 tiles are refused, and so have no reading.
+//! assert!(is_winning_hand(&counts) && !is_winning_hand(&to_counts(&tiles[1..])));
+//! ```
 
 use crate::context::{GameContext, WinType};
 use crate::hand::{self, HandStructure, Meld};
