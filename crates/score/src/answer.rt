@@ -80,18 +80,18 @@ fn say_sizes(counts: &[u8; 34], count: usize) {
     }
     text::say(b": ");
     text::say_number(hand::sum_range(counts, 0, 34));
-    text::say(b" tiles, and beside ");
+    text::say(b" tiles; with ");
     say_call_count(count);
     text::say_byte(b' ');
     text::say_number((14 - 3 * count) as u64);
-    text::say(b" are needed, the winning tile among them and tiles of calls not");
+    text::say(b" are needed, the winning tile among them, called tiles not");
 }
 
 // Writes which winning tile the hand does not hold.
 fn say_not_held(t: u8) {
     text::say(b": ");
     print::say_alike(t, 1);
-    text::say(b" is not among its tiles; tiles of calls do not count");
+    text::say(b" is to be typed among its tiles too; tiles of calls do not count");
 }
 
 // Writes what exactly is wrong, behind the meaning of a refusal.
