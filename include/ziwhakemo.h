@@ -1,13 +1,16 @@
 /*
- * Ziwhakemo: a score unit for riichi mahjong tables.
+ * Ziwhakemo: a score unit for riichi mahjong tables. For x86-64 only: Linux, System V calling
+ * convention.
  *
  * It lists every reading of a finished hand, scores a win by the reading that pays most, scores any
  * reading by its number, names its waits, and gives level, basic points and payments. Each function
  * is proved to answer as its definition says on every input: every call comes back, and malformed
  * input gets a number (see "Refusals") instead of a score. This file is not part of the proof;
- * examples/c/boundary.c and the tests in rust/ hold it to the library.
+ * examples/c/boundary.c and the tests in rust/ hold it to the library. ziwhakemo_names.h, which
+ * nobody has to use, has names to print: of yaku, waits, levels, settlements and refusals.
  *
- * C99 and later, and C++. Link with libziwhakemo.a (x86-64, System V calling convention).
+ * C99 and later, and C++. Link with libziwhakemo.a. All that the archive needs from outside is
+ * memset, of any C library or your own.
  *
  * What is asked of a caller, and cannot be checked here:
  *   - A pointer leads to as many elements as the count after it says. A null or dangling pointer is
@@ -17,6 +20,9 @@
  *     is lent before the call returns.
  *   - A bool holds 0 or 1. C stores one of these in every assignment; memcpy or a cast may not.
  *     Bools cross this boundary in ziwhakemo_game_context, and as `is_yakuman` and `is_dealer`.
+ *
+ * What an answer has between its fields, where a compiler leaves room (padding), is not written. To
+ * compare two answers compare their fields, not their bytes (memcmp).
  *
  * No function keeps anything between calls or allocates memory, so any number of threads may call
  * at the same time. Of stack, the deepest calls on a million random hands used 2,594 bytes in
@@ -33,6 +39,23 @@
 #ifdef __cplusplus
 extern "C" {
 #endif
+
+/* ---- The version --------------------------------------------------------------------------------
+ *
+ * The version of the interface, which rises with each change of what stands in this file. A program
+ * that is compiled with the header of one version and linked with the archive of another reads wrong
+ * values: let it stop where ziwhakemo_version() is not ZIWHAKEMO_VERSION.
+ *
+ * What changed in which version:
+ *   1   The first.
+ *   2   `number` is a uint32_t in every answer (in ziwhakemo_listing_answer it was a size_t). The
+ *       answers of payments and scores have `settlement` after `number`. ziwhakemo_version. The
+ *       header ziwhakemo_names.h.
+ */
+#define ZIWHAKEMO_VERSION 2
+
+/* The version of the archive. An archive of version 1 does not have this function. */
+uint32_t ziwhakemo_version(void);
 
 /* ---- Tiles --------------------------------------------------------------------------------------
  *
@@ -102,9 +125,9 @@ typedef struct ziwhakemo_game_context {
 
 /* ---- Refusals -----------------------------------------------------------------------------------
  *
- * An answer that may be a refusal begins with a number: 0 where the call is accepted, else the
- * first of these that applies, in this order and of those that stand beside the function. A refusal
- * has its number, and 0 in every other field.
+ * An answer that may be a refusal begins with `number`: 0 where the call is accepted, else the first
+ * of these that applies, in this order and of those that stand beside the function. A refusal has its
+ * number, and 0 in every other field.
  */
 enum {
     ZIWHAKEMO_ACCEPTED = 0,
@@ -153,7 +176,7 @@ enum {
 #define ZIWHAKEMO_ALWAYS_ENOUGH 1467
 
 typedef struct ziwhakemo_listing_answer {
-    size_t number;   /* 0, or the refusal */
+    uint32_t number; /* 0, or the refusal */
     size_t readings; /* how many readings there are */
     size_t bytes;    /* how many bytes were written, from out[0] on */
 } ziwhakemo_listing_answer;
@@ -194,9 +217,20 @@ uint32_t ziwhakemo_basic_points(uint8_t han, uint8_t fu, bool is_yakuman);
 /* The greatest basic points for which a payment is given. */
 #define ZIWHAKEMO_MOST_BASIC_POINTS 152000
 
+/* The settlements: who pays, by win type and seat of the winner. Go by these and not by which
+ * amounts are 0. */
+enum {
+    ZIWHAKEMO_SETTLEMENT_NONE = 0,         /* a refusal: nobody pays */
+    ZIWHAKEMO_SETTLEMENT_RON = 1,          /* the discarder pays `from_discarder` */
+    ZIWHAKEMO_SETTLEMENT_DEALER_TSUMO = 2, /* each of the three others pays `from_non_dealer` */
+    ZIWHAKEMO_SETTLEMENT_TSUMO = 3         /* the dealer pays `from_dealer`, and each of the two
+                                            * others `from_non_dealer` */
+};
+
 /* Who pays what, at a table of four; 0 for who does not pay. */
 typedef struct ziwhakemo_payment_answer {
     uint32_t number;          /* 0, or the refusal */
+    uint32_t settlement;      /* one of the settlements above */
     uint32_t from_non_dealer; /* by tsumo: what each other player pays who is not the dealer */
     uint32_t from_dealer;     /* by tsumo of another than the dealer: what the dealer pays */
     uint32_t from_discarder;  /* by ron: what the discarder pays */
@@ -272,6 +306,7 @@ enum {
 /* The score of a reading. */
 typedef struct ziwhakemo_score_answer {
     uint32_t number;                 /* 0, or the refusal */
+    uint32_t settlement;             /* one of the settlements above */
     size_t reading;                  /* the number of the reading, counted from 0 */
     uint8_t tallies[ZIWHAKEMO_YAKU]; /* how often each yaku stands */
     uint8_t han;
@@ -335,7 +370,7 @@ ZIWHAKEMO_FITS(ziwhakemo_meld, 2);
 ZIWHAKEMO_FITS(ziwhakemo_game_context, 12);
 ZIWHAKEMO_FITS(ziwhakemo_listing_answer, 24);
 ZIWHAKEMO_FITS(ziwhakemo_level_answer, 2);
-ZIWHAKEMO_FITS(ziwhakemo_payment_answer, 24);
+ZIWHAKEMO_FITS(ziwhakemo_payment_answer, 32);
 ZIWHAKEMO_FITS(ziwhakemo_score_answer, 96);
 ZIWHAKEMO_FITS(ziwhakemo_waits_answer, 12);
 #undef ZIWHAKEMO_FITS

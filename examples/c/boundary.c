@@ -142,8 +142,10 @@ static void standard_hand(input *in) {
         unsigned kind;
         if (starts_sequence(tile) && percent(60))
             kind = called ? ZIWHAKEMO_MELD_OPEN_SEQUENCE : ZIWHAKEMO_MELD_CLOSED_SEQUENCE;
+        else if (called)
+            kind = ZIWHAKEMO_MELD_OPEN_TRIPLET + below(4);
         else
-            kind = called ? ZIWHAKEMO_MELD_OPEN_TRIPLET + below(4) : ZIWHAKEMO_MELD_CLOSED_TRIPLET;
+            kind = ZIWHAKEMO_MELD_CLOSED_TRIPLET;
         add_meld(in, tile, kind);
     }
     in->counts[any_tile()] += 2;
@@ -309,7 +311,7 @@ typedef struct {
 /* ---- Listing ---- */
 
 static uint64_t listed[NUMBERS], won[NUMBERS], scored[NUMBERS], named[NUMBERS], paid[NUMBERS];
-static uint64_t levels[NUMBERS], with_readings[MANY + 1];
+static uint64_t levels[NUMBERS], settled[NUMBERS], with_readings[MANY + 1];
 
 /* Do the bytes hold so many records and nothing else? */
 static bool are_records(const uint8_t *bytes, size_t size, size_t readings) {
@@ -350,7 +352,7 @@ static void list_exactly(const input *in, lent from, const uint8_t *all, size_t 
                          size_t readings) {
     uint8_t noise[MOST_BYTES];
     for (int i = 0; i < MOST_BYTES; i++) noise[i] = byte();
-    uint8_t *out = lend(noise, in->out_length);
+    uint8_t *out = (uint8_t *)lend(noise, in->out_length);
     ziwhakemo_listing_answer answer = ziwhakemo_list_readings(
         from.counts, in->counts_length, from.calls, in->calls_length, out, in->out_length);
     unsigned number = hand_check(in);
@@ -379,10 +381,16 @@ static unsigned tally(const ziwhakemo_score_answer *a) {
     return sum;
 }
 
+/* The settlement of what is accepted, by win type and seat. */
+static uint32_t settlement(uint8_t win_type, bool is_dealer) {
+    if (win_type == ZIWHAKEMO_RON) return ZIWHAKEMO_SETTLEMENT_RON;
+    return is_dealer ? ZIWHAKEMO_SETTLEMENT_DEALER_TSUMO : ZIWHAKEMO_SETTLEMENT_TSUMO;
+}
+
 /* Does the refusal have its number alone? */
 static bool is_alone(const ziwhakemo_score_answer *a) {
     return a->reading == 0 && tally(a) == 0 && a->han == 0 && a->fu == 0 && !a->is_yakuman &&
-           a->level == 0 && a->yakuman_count == 0 && a->basic_points == 0 &&
+           a->level == 0 && a->yakuman_count == 0 && a->basic_points == 0 && a->settlement == 0 &&
            a->from_non_dealer == 0 && a->from_dealer == 0 && a->from_discarder == 0 &&
            a->total == 0;
 }
@@ -395,6 +403,8 @@ static bool follows(const input *in, const ziwhakemo_score_answer *a) {
     ziwhakemo_payment_answer pay = ziwhakemo_payment(points, dealer, in->win.win_type);
     return a->level == level.level && a->yakuman_count == level.count &&
            a->basic_points == points && pay.number == 0 &&
+           a->settlement == settlement(in->win.win_type, dealer) &&
+           a->settlement == pay.settlement &&
            a->from_non_dealer == pay.from_non_dealer &&
            a->from_dealer == pay.from_dealer && a->from_discarder == pay.from_discarder &&
            a->total == pay.total;
@@ -476,6 +486,9 @@ static void points(const input *in) {
     unsigned number = win_type > 1 ? 8 : in->basic_points > ZIWHAKEMO_MOST_BASIC_POINTS ? 13 : 0;
     uint64_t others = in->flag ? 3 : 2;
     hold(pay.number == number, "the number of a payment", in);
+    hold(pay.settlement == (number == 0 ? settlement(win_type, in->flag) : 0),
+         "the settlement of a payment", in);
+    if (pay.settlement < NUMBERS) settled[pay.settlement]++;
     hold(pay.total == pay.from_discarder + pay.from_dealer + others * pay.from_non_dealer,
          "the total of a payment", in);
     hold(number == 0 || pay.total == 0, "a refusal with more than its number", in);
@@ -486,12 +499,13 @@ static void points(const input *in) {
 
 static void run(const input *in) {
     uint8_t all[ZIWHAKEMO_ALWAYS_ENOUGH];
-    lent from = {lend(in->counts, in->counts_length),
-                 lend(in->calls, in->calls_length * sizeof(ziwhakemo_meld))};
+    lent from;
+    from.counts = (uint8_t *)lend(in->counts, in->counts_length);
+    from.calls = (ziwhakemo_meld *)lend(in->calls, in->calls_length * sizeof(ziwhakemo_meld));
     size_t readings = list_guarded(in, from, all);
     size_t bytes = 0;
     for (size_t i = 0; i < readings; i++) bytes += all[bytes] + 256u * all[bytes + 1];
-    if (hand_check(in) == 0) with_readings[readings < MANY ? readings : MANY]++;
+    if (hand_check(in) == 0) with_readings[readings < MANY ? readings : (size_t)MANY]++;
     list_exactly(in, from, all, bytes, readings);
     score(in, from, readings);
     by_number(in, from, readings);
@@ -511,6 +525,11 @@ static void print(const char *name, const uint64_t *answers) {
 }
 
 int main(int words, char **arguments) {
+    if (ziwhakemo_version() != ZIWHAKEMO_VERSION) {
+        printf("the library is of version %lu, the header of version %d\n",
+               (unsigned long)ziwhakemo_version(), ZIWHAKEMO_VERSION);
+        return 2;
+    }
     unsigned long inputs = words > 1 ? strtoul(arguments[1], NULL, 10) : 100000;
     unsigned long seed = words > 2 ? strtoul(arguments[2], NULL, 10) : 1;
     state = seed;
@@ -524,6 +543,7 @@ int main(int words, char **arguments) {
     print("ziwhakemo_score_reading", scored);
     print("ziwhakemo_name_waits", named);
     print("ziwhakemo_payment", paid);
+    print("ziwhakemo_payment, by settlement", settled);
     print("ziwhakemo_score_level and ziwhakemo_basic_points, by level", levels);
     printf("accepted hands with 0, 1, 2, 3, 4, more readings:");
     for (int i = 0; i <= MANY; i++) printf(" %lu", (unsigned long)with_readings[i]);

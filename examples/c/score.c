@@ -2,17 +2,25 @@
 
      cc -std=c99 -Iinclude examples/c/score.c target/staticlib/libziwhakemo.a -o target/score
      target/score
-*/
+
+   It prints examples/c/score.out. */
 #include "ziwhakemo.h"
 #include <stdio.h>
+#include <string.h>
 
 int main(void) {
+    if (ziwhakemo_version() != ZIWHAKEMO_VERSION) {
+        printf("the library is of version %lu, the header of version %d\n",
+               (unsigned long)ziwhakemo_version(), ZIWHAKEMO_VERSION);
+        return 2;
+    }
     uint8_t counts[ZIWHAKEMO_TILES] = {0};
     counts[ZIWHAKEMO_MAN(2)] = counts[ZIWHAKEMO_MAN(3)] = counts[ZIWHAKEMO_MAN(4)] = 3;
     counts[ZIWHAKEMO_PIN(5)] = counts[ZIWHAKEMO_PIN(6)] = counts[ZIWHAKEMO_PIN(7)] = 1;
     counts[ZIWHAKEMO_SOU(8)] = 2;
 
-    ziwhakemo_game_context win = {0}; /* no flag is set */
+    ziwhakemo_game_context win;
+    memset(&win, 0, sizeof win); /* no flag is set */
     win.win_type = ZIWHAKEMO_RON;
     win.winning_tile = ZIWHAKEMO_SOU(8);
     win.round_wind = ZIWHAKEMO_EAST;
@@ -22,7 +30,7 @@ int main(void) {
     ziwhakemo_listing_answer listing =
         ziwhakemo_list_readings(counts, ZIWHAKEMO_TILES, NULL, 0, records, sizeof records);
     if (listing.number != ZIWHAKEMO_ACCEPTED) {
-        printf("the hand is refused with %zu\n", listing.number);
+        printf("the hand is refused with %lu\n", (unsigned long)listing.number);
         return 1;
     }
     for (size_t n = 0; n < listing.readings; n++) {

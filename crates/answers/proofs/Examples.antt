@@ -8,7 +8,7 @@ use Rattle.scoring.specs.declared.Payment.the-variants.{Tsumo}
 use Rattle.scoring.specs.Level.{level}
 use Rattle.scoring.specs.Payment.{payment, paymentAnswer}
 use Rattle.reading_score.specs.declared.ScoringResult.{ScoringResult}
-use Rattle.choice.specs.Choice.{scored}
+use Rattle.choice.specs.Choice.{refused, scored}
 use Rattle.answers.specs.declared.LevelAnswer.{LevelAnswer}
 use Rattle.answers.specs.declared.PaymentValues.{PaymentValues}
 use Rattle.answers.specs.Answers.{levelAnswer, paymentValues, scoreValues}
@@ -16,8 +16,8 @@ use Rattle.answers.specs.Answers.{levelAnswer, paymentValues, scoreValue
 abbrev leveled : ℕ → ℕ → LevelAnswer
 leveled l n = record { level = l; count = n }
 
-abbrev pays : ℕ → ℕ → ℕ → ℕ → PaymentValues
-pays other dealer discarder total = record { number = 0; «from_non_dealer» = other; «from_dealer» = dealer; «from_discarder» = discarder; total = total }
+abbrev pays : ℕ → ℕ → ℕ → ℕ → ℕ → PaymentValues
+pays settlement other dealer discarder total = record { number = 0; settlement = settlement; «from_non_dealer» = other; «from_dealer» = dealer; «from_discarder» = discarder; total = total }
 
 -- ---- the six levels by their names; only a yakuman has a count
 pub normal-is-0 : levelAnswer Normal ≡ leveled 0 0
@@ -119,39 +119,39 @@ pub level-39-han-30-fu-yakuman : levelAnswer (level 39 30 true) ≡ leveled 5 3
 unfolding level
 level-39-han-30-fu-yakuman = refl
 
--- ---- who pays what: each other player, the dealer, the discarder, and the total
+-- ---- who pays what: the settlement, each other player, the dealer, the discarder, and the total
 -- 4 han 30 fu by ron
-pub pays-ron : paymentValues (paymentAnswer 1920 false 0) ≡ pays 0 0 7700 7700
+pub pays-ron : paymentValues (paymentAnswer 1920 false 0) ≡ pays 1 0 0 7700 7700
 unfolding paymentAnswer payment
 pays-ron = refl
 
 -- by ron of the dealer
-pub pays-dealer-ron : paymentValues (paymentAnswer 1920 true 0) ≡ pays 0 0 11600 11600
+pub pays-dealer-ron : paymentValues (paymentAnswer 1920 true 0) ≡ pays 1 0 0 11600 11600
 unfolding paymentAnswer payment
 pays-dealer-ron = refl
 
 -- by tsumo: 3,840 from the dealer and 1,920 from others, each rounded up
-pub pays-tsumo : paymentValues (paymentAnswer 1920 false 1) ≡ pays 2000 3900 0 7900
+pub pays-tsumo : paymentValues (paymentAnswer 1920 false 1) ≡ pays 3 2000 3900 0 7900
 unfolding paymentAnswer payment
 pays-tsumo = refl
 
 -- by tsumo of the dealer: each pays as much
-pub pays-dealer-tsumo : paymentValues (paymentAnswer 1920 true 1) ≡ pays 3900 0 0 11700
+pub pays-dealer-tsumo : paymentValues (paymentAnswer 1920 true 1) ≡ pays 2 3900 0 0 11700
 unfolding paymentAnswer payment
 pays-dealer-tsumo = refl
 
 -- a mangan by ron
-pub pays-mangan-ron : paymentValues (paymentAnswer 2000 false 0) ≡ pays 0 0 8000 8000
+pub pays-mangan-ron : paymentValues (paymentAnswer 2000 false 0) ≡ pays 1 0 0 8000 8000
 unfolding paymentAnswer payment
 pays-mangan-ron = refl
 
 -- a mangan by tsumo
-pub pays-mangan-tsumo : paymentValues (paymentAnswer 2000 false 1) ≡ pays 2000 4000 0 8000
+pub pays-mangan-tsumo : paymentValues (paymentAnswer 2000 false 1) ≡ pays 3 2000 4000 0 8000
 unfolding paymentAnswer payment
 pays-mangan-tsumo = refl
 
 -- a mangan by tsumo of the dealer
-pub pays-mangan-dealer-tsumo : paymentValues (paymentAnswer 2000 true 1) ≡ pays 4000 0 0 12000
+pub pays-mangan-dealer-tsumo : paymentValues (paymentAnswer 2000 true 1) ≡ pays 2 4000 0 0 12000
 unfolding paymentAnswer payment
 pays-mangan-dealer-tsumo = refl
 
@@ -167,6 +167,13 @@ fourHan =
       «basic_points» = 1920;
       payment = Tsumo 3900 2000;
     }
+
+-- its settlement is the tsumo of another than the dealer; there is none beside a refusal, whatever fills the place of its payment
+pub score-settlement : scoreValues (scored 0 fourHan) .settlement ≡ 3
+score-settlement = refl
+
+pub refused-settlement : scoreValues (refused 11) .settlement ≡ 0
+refused-settlement = refl
 
 pub score-total : scoreValues (scored 0 fourHan) .total ≡ 7900
 score-total = refl

@@ -1,12 +1,14 @@
--- The numbers that are answered: who pays what and the total, level and basic points, and what stands beside a refusal. Assumes nothing.
+-- The numbers that are answered: which settlement it is, who pays what and the total, level and basic points, and what stands beside a refusal. Assumes nothing.
 use mathlib.Core.Path.{_≡_, refl, sym, ap, subst, _∙_}
-use mathlib.Core.Bool.{Bool, true, false, cond}
+use mathlib.Core.Logic.{_↔_}
+use mathlib.Core.Bool.{Bool, true, false, cond, true≢false, false≢true}
 use mathlib.Core.List.{List, [], _∷_}
 use Prim.Native.Nat.{ℕ, zero, suc, _+_, _*_}
 use native.Mathlib.Decide.{ℕ-discrete}
 use native.Mathlib.Omega.{arith}
 use lib.Dec.{eqb, ltb}
 use lib.ListN.{replicate}
+use borrow.Author.Tests.{eq-eqb, ne-eqb}
 use Rattle.context.specs.declared.GameContext.{GameContext}
 use Rattle.context.specs.Context.{isDealer, isTsumo}
 use Rattle.hand.specs.Reading.{Reading}
@@ -29,28 +31,56 @@ use Rattle.win_promises.proofs.Winning.{chosen-has-yaku}
 use Rattle.win_promises.proofs.Refusals.{score-refused, number-refused, waits-refused-alone}
 use Rattle.answers.specs.declared.PaymentValues.{PaymentValues}
 use Rattle.answers.specs.declared.ScoreValues.{ScoreValues}
-use Rattle.answers.specs.Answers.{levelAnswer, paid, paymentValues, scoreValues, waitsValues}
+use Rattle.answers.specs.Answers.{levelAnswer, paid, paymentValues, settlementBeside, scoreValues, waitsValues}
+
+-- ---- the settlement: 1 exactly by ron, 2 exactly by tsumo of the dealer, 3 exactly by tsumo of another
+pub record Which (tsumo dealer : Bool) (settlement : ℕ) : Type 0 where
+  pub ron-is-1 : (settlement ≡ 1) ↔ (tsumo ≡ false)
+  pub dealer-tsumo-is-2 : (settlement ≡ 2) ↔ ((tsumo ≡ true) × (dealer ≡ true))
+  pub tsumo-is-3 : (settlement ≡ 3) ↔ ((tsumo ≡ true) × (dealer ≡ false))
+
+settlement-by : (tsumo dealer : Bool) → Which tsumo dealer (cond tsumo (cond dealer 2 3) 1)
+settlement-by false dealer =
+    record {
+      ron-is-1 = (λ e. refl, λ e. refl);
+      dealer-tsumo-is-2 = (λ e. absurd (omega arith), λ e. absurd (false≢true (e .0)));
+      tsumo-is-3 = (λ e. absurd (omega arith), λ e. absurd (false≢true (e .0)));
+    }
+settlement-by true false =
+    record {
+      ron-is-1 = (λ e. absurd (omega arith), λ e. absurd (true≢false e));
+      dealer-tsumo-is-2 = (λ e. absurd (omega arith), λ e. absurd (false≢true (e .1)));
+      tsumo-is-3 = (λ e. (refl, refl), λ e. refl);
+    }
+settlement-by true true =
+    record {
+      ron-is-1 = (λ e. absurd (omega arith), λ e. absurd (true≢false e));
+      dealer-tsumo-is-2 = (λ e. (refl, refl), λ e. refl);
+      tsumo-is-3 = (λ e. absurd (omega arith), λ e. absurd (true≢false (e .1)));
+    }
 
 -- ---- who pays what, for these basic points: by ron the discarder pays 4 × basic, to the dealer 6 ×, and nobody else pays; by tsumo each
 -- other player pays the dealer 2 × basic, and to another winner the dealer pays 2 × and each other player 1 ×; each amount is rounded up
--- to 100. The total is what they pay together; of the other players there are three where the dealer wins, else two.
-pub record Settled (tsumo dealer : Bool) (basic discarder theDealer other total : ℕ) : Type 0 where
+-- to 100. The total is what they pay together; of the other players there are three where the dealer wins, else two. The settlement says
+-- which of these it is.
+pub record Settled (tsumo dealer : Bool) (basic settlement discarder theDealer other total : ℕ) : Type 0 where
+  pub which : Which tsumo dealer settlement
   pub from-discarder : discarder ≡ cond tsumo 0 (cond dealer (roundUpTo100 (basic * 6)) (roundUpTo100 (basic * 4)))
   pub from-dealer : theDealer ≡ cond tsumo (cond dealer 0 (roundUpTo100 (basic * 2))) 0
   pub from-others : other ≡ cond tsumo (cond dealer (roundUpTo100 (basic * 2)) (roundUpTo100 basic)) 0
   pub together : total ≡ discarder + theDealer + other * cond dealer 3 2
 
--- the amounts and the total of a payment that is given
+-- settlement, amounts and total of a payment that is given
 abbrev SettledBy : Bool → Bool → ℕ → PaymentValues → Type 0
-SettledBy tsumo dealer basic v = Settled tsumo dealer basic (v .«from_discarder») (v .«from_dealer») (v .«from_non_dealer») (v .total)
+SettledBy tsumo dealer basic v = Settled tsumo dealer basic (v .settlement) (v .«from_discarder») (v .«from_dealer») (v .«from_non_dealer») (v .total)
 
 -- so a payment that is given is answered
 pub paid-settled : (tsumo dealer : Bool) (basic : ℕ) → SettledBy tsumo dealer basic (paid (payment tsumo dealer basic))
 unfolding payment
-paid-settled false false basic = record { from-discarder = refl; from-dealer = refl; from-others = refl; together = omega arith }
-paid-settled false true basic = record { from-discarder = refl; from-dealer = refl; from-others = refl; together = omega arith }
-paid-settled true false basic = record { from-discarder = refl; from-dealer = refl; from-others = refl; together = omega arith }
-paid-settled true true basic = record { from-discarder = refl; from-dealer = refl; from-others = refl; together = omega arith }
+paid-settled false false basic = record { which = settlement-by false false; from-discarder = refl; from-dealer = refl; from-others = refl; together = omega arith }
+paid-settled false true basic = record { which = settlement-by false true; from-discarder = refl; from-dealer = refl; from-others = refl; together = omega arith }
+paid-settled true false basic = record { which = settlement-by true false; from-discarder = refl; from-dealer = refl; from-others = refl; together = omega arith }
+paid-settled true true basic = record { which = settlement-by true true; from-discarder = refl; from-dealer = refl; from-others = refl; together = omega arith }
 
 -- ---- a payment for any numbers
 module _ (basic : ℕ) (dealer : Bool) (winType : ℕ) where
@@ -71,15 +101,23 @@ pub record Worth (tsumo dealer : Bool) (v : ScoreValues) : Type 0 where
   pub level-is : v .level ≡ levelAnswer (level (v .han) (v .fu) (v .«is_yakuman»)) .level
   pub count-is : v .«yakuman_count» ≡ levelAnswer (level (v .han) (v .fu) (v .«is_yakuman»)) .count
   pub basic-points-are : v .«basic_points» ≡ basicPoints (v .han) (v .fu) (v .«is_yakuman»)
-  pub settled : Settled tsumo dealer (v .«basic_points») (v .«from_discarder») (v .«from_dealer») (v .«from_non_dealer») (v .total)
+  pub settled : Settled tsumo dealer (v .«basic_points») (v .settlement) (v .«from_discarder») (v .«from_dealer») (v .«from_non_dealer») (v .total)
 
-worth : (tsumo dealer : Bool) (a : ScoreAnswer) → Priced tsumo dealer (a .score) → Worth tsumo dealer (scoreValues a)
-worth tsumo dealer a p =
+-- beside the number 0 stands the settlement of the payment
+beside-accepted : (n s : ℕ) → n ≡ 0 → settlementBeside n s ≡ s
+beside-accepted n s e = simp (eq-eqb n 0 e)
+
+worth : (tsumo dealer : Bool) (a : ScoreAnswer) → a .number ≡ 0 → Priced tsumo dealer (a .score) → Worth tsumo dealer (scoreValues a)
+worth tsumo dealer a e p =
+    let v = paid (a .score .payment) in
     record {
       level-is = ap (λ l. levelAnswer l .level) (p .level-is);
       count-is = ap (λ l. levelAnswer l .count) (p .level-is);
       basic-points-are = p .basic-points-are;
-      settled = subst (λ (q : Payment). SettledBy tsumo dealer (a .score .«basic_points») (paid q)) (sym (p .payment-is)) (paid-settled tsumo dealer (a .score .«basic_points»));
+      settled =
+          subst (λ (s : ℕ). Settled tsumo dealer (a .score .«basic_points») s (v .«from_discarder») (v .«from_dealer») (v .«from_non_dealer») (v .total))
+          (sym (beside-accepted (a .number) (v .settlement) e))
+          (subst (λ (q : Payment). SettledBy tsumo dealer (a .score .«basic_points») (paid q)) (sym (p .payment-is)) (paid-settled tsumo dealer (a .score .«basic_points»)));
     }
 
 -- ---- what stands beside a refusal's number: 0 in every other place
@@ -87,6 +125,7 @@ abbrev pub refusal : ℕ → ScoreValues
 refusal n =
     record {
       number = n;
+      settlement = 0;
       reading = 0;
       tallies = replicate 47 0;
       han = 0;
@@ -100,6 +139,10 @@ refusal n =
       «from_discarder» = 0;
       total = 0;
     }
+
+-- so a refused score is answered: its settlement too is 0
+refused-values : (n : ℕ) → (n ≡ 0 → ⊥) → scoreValues (refused n) ≡ refusal n
+refused-values n f = simp (ne-eqb n 0 f)
 
 module _ (cs : List ℕ) (k : Calls) (w : GameContext) where
   abbrev Scored : ScoreAnswer → Type 0
@@ -119,11 +162,11 @@ module _ (cs : List ℕ) (k : Calls) (w : GameContext) where
 
   -- where it is not refused: its worth
   pub win-worth : scoreValues (scoreWin cs k w) .number ≡ 0 → Worth (isTsumo w) (isDealer w) (scoreValues (scoreWin cs k w))
-  win-worth e = worth (isTsumo w) (isDealer w) (scoreWin cs k w) (of-win e)
+  win-worth e = worth (isTsumo w) (isDealer w) (scoreWin cs k w) e (of-win e)
 
   -- refused: the number, and 0 in every other place
   pub win-refusal : (scoreValues (scoreWin cs k w) .number ≡ 0 → ⊥) → scoreValues (scoreWin cs k w) ≡ refusal (scoreValues (scoreWin cs k w) .number)
-  win-refusal f = ap scoreValues (score-refused cs k w f)
+  win-refusal f = ap scoreValues (score-refused cs k w f) ∙ refused-values (scoreWin cs k w .number) f
 
   -- ---- a reading by its number
   module _ (n : ℕ) where
@@ -141,12 +184,12 @@ module _ (cs : List ℕ) (k : Calls) (w : GameContext) where
 
     -- where it is not refused: its worth
     pub reading-worth : scoreValues (scoreReading cs k w n) .number ≡ 0 → Worth (isTsumo w) (isDealer w) (scoreValues (scoreReading cs k w n))
-    reading-worth e = worth (isTsumo w) (isDealer w) (scoreReading cs k w n) (of-reading e)
+    reading-worth e = worth (isTsumo w) (isDealer w) (scoreReading cs k w n) e (of-reading e)
 
     -- refused: the number, and 0 in every other place
     pub reading-refusal :
         (scoreValues (scoreReading cs k w n) .number ≡ 0 → ⊥) → scoreValues (scoreReading cs k w n) ≡ refusal (scoreValues (scoreReading cs k w n) .number)
-    reading-refusal f = ap scoreValues (number-refused cs k w n f)
+    reading-refusal f = ap scoreValues (number-refused cs k w n f) ∙ refused-values (scoreReading cs k w n .number) f
 
     -- its waits, refused: the number, and six times 0
     pub waits-refusal : (waitsValues (nameWaits cs k w n) .number ≡ 0 → ⊥) → waitsValues (nameWaits cs k w n) .waits ≡ replicate 6 0
@@ -155,7 +198,7 @@ module _ (cs : List ℕ) (k : Calls) (w : GameContext) where
 -- a payment that is refused: the number, and 0 in every other place
 pub payment-refusal :
     (a : PaymentAnswer) → (paymentValues a .number ≡ 0 → ⊥)
-    → paymentValues a ≡ record { number = paymentValues a .number; «from_non_dealer» = 0; «from_dealer» = 0; «from_discarder» = 0; total = 0 }
+    → paymentValues a ≡ record { number = paymentValues a .number; settlement = 0; «from_non_dealer» = 0; «from_dealer» = 0; «from_discarder» = 0; total = 0 }
 payment-refusal (Refused n) f = refl
 payment-refusal (Paid (Ron n)) f = absurd (f refl)
 payment-refusal (Paid (DealerTsumo n)) f = absurd (f refl)

@@ -1,4 +1,7 @@
 -- The operations' answers as plain numbers, for C. These are definitions.
+use mathlib.Core.Bool.{cond}
+use Prim.Native.Nat.{ℕ}
+use lib.Dec.{eqb}
 use Rattle.unit.specs.declared.Listing.{Listing}
 use Rattle.unit.specs.Listing.{numberOf, readingsOf, bytesOf}
 use Rattle.scoring.specs.declared.ScoreLevel.{ScoreLevel}
@@ -16,6 +19,10 @@ use Rattle.answers.specs.declared.PaymentValues.{PaymentValues}
 use Rattle.answers.specs.declared.ScoreValues.{ScoreValues}
 use Rattle.answers.specs.declared.WaitsValues.{WaitsValues}
 
+-- the version of the interface: rises with each change of it
+abbrev pub version : ℕ
+version = 2
+
 -- the refusal's number, or 0 with how many readings and how many bytes were written
 abbrev pub listingAnswer : Listing → ListingAnswer
 listingAnswer a = record { number = numberOf a; readings = readingsOf a; bytes = bytesOf a }
@@ -29,21 +36,27 @@ levelAnswer Baiman = record { level = 3; count = 0 }
 levelAnswer Sanbaiman = record { level = 4; count = 0 }
 levelAnswer (Yakuman n) = record { level = 5; count = n }
 
--- what each non-dealer, the dealer and the discarder pays, and the total at a table of four
+-- the settlement, 1 ron, 2 tsumo of the dealer, 3 tsumo of another; what each non-dealer, the dealer and the discarder pays; and the total
+-- at a table of four
 abbrev pub paid : Payment → PaymentValues
-paid (Ron n) = record { number = 0; «from_non_dealer» = 0; «from_dealer» = 0; «from_discarder» = n; total = totalAt 4 (Ron n) }
-paid (DealerTsumo n) = record { number = 0; «from_non_dealer» = n; «from_dealer» = 0; «from_discarder» = 0; total = totalAt 4 (DealerTsumo n) }
-paid (Tsumo d n) = record { number = 0; «from_non_dealer» = n; «from_dealer» = d; «from_discarder» = 0; total = totalAt 4 (Tsumo d n) }
+paid (Ron n) = record { number = 0; settlement = 1; «from_non_dealer» = 0; «from_dealer» = 0; «from_discarder» = n; total = totalAt 4 (Ron n) }
+paid (DealerTsumo n) = record { number = 0; settlement = 2; «from_non_dealer» = n; «from_dealer» = 0; «from_discarder» = 0; total = totalAt 4 (DealerTsumo n) }
+paid (Tsumo d n) = record { number = 0; settlement = 3; «from_non_dealer» = n; «from_dealer» = d; «from_discarder» = 0; total = totalAt 4 (Tsumo d n) }
 
 abbrev pub paymentValues : PaymentAnswer → PaymentValues
-paymentValues (Refused n) = record { number = n; «from_non_dealer» = 0; «from_dealer» = 0; «from_discarder» = 0; total = 0 }
+paymentValues (Refused n) = record { number = n; settlement = 0; «from_non_dealer» = 0; «from_dealer» = 0; «from_discarder» = 0; total = 0 }
 paymentValues (Paid p) = paid p
+
+-- the settlement beside an answer's number: 0, none, beside a refusal
+abbrev pub settlementBeside : ℕ → ℕ → ℕ
+settlementBeside number settlement = cond (eqb number 0) settlement 0
 
 -- a score, its level and its payment in plain numbers; a refusal has its number, and 0 in every other place
 abbrev pub scoreValues : ScoreAnswer → ScoreValues
 scoreValues a =
     record {
       number = a .number;
+      settlement = settlementBeside (a .number) (paid (a .score .payment) .settlement);
       reading = a .reading;
       tallies = a .score .tallies;
       han = a .score .han;

@@ -1,11 +1,11 @@
 // The unit's answers as plain numbers, for C: a struct for each answer, and the function that makes it.
 ghost use mathlib.Core.Path.{_≡_};
-ghost use Rattle.answers.specs.Answers.{listingAnswer, levelAnswer, paid, paymentValues, scoreValues, waitsValues};
+ghost use Rattle.answers.specs.Answers.{listingAnswer, levelAnswer, paid, paymentValues, settlementBeside, scoreValues, waitsValues};
 
 // The answer to a listing: number 0 where accepted, else the refusal; the count of readings; the count of bytes written.
 #[repr(C)]
 pub struct ListingAnswer {
-    pub number: usize,
+    pub number: u32,
     pub readings: usize,
     pub bytes: usize,
 }
@@ -15,8 +15,8 @@ pub fn listing_of(a: unit::Listing) -> ListingAnswer
     ensures { λ r. ⌜ r ≡ listingAnswer a ⌝ }
 {
     match a {
-        unit::Listing::Refused(number) => ListingAnswer {
-            number: number as usize,
+        unit::Listing::Refused(refusal) => ListingAnswer {
+            number: refusal as u32,
             readings: 0,
             bytes: 0,
         },
@@ -49,11 +49,12 @@ pub fn level_of(l: scoring::ScoreLevel) -> LevelAnswer
     }
 }
 
-// A payment: number 0 where it is given, else the refusal; what each non-dealer, the dealer and the discarder pays (0 for who does not),
-// and the total.
+// A payment: number 0 where it is given, else the refusal; the kind of settlement: 0 none, beside a refusal, 1 ron, 2 tsumo of the dealer,
+// 3 tsumo of another; what each non-dealer, the dealer and the discarder pays (0 for who does not), and the total.
 #[repr(C)]
 pub struct PaymentValues {
     pub number: u32,
+    pub settlement: u32,
     pub from_non_dealer: u32,
     pub from_dealer: u32,
     pub from_discarder: u32,
@@ -68,6 +69,7 @@ fn values_of(p: scoring::Payment) -> PaymentValues
     match p {
         scoring::Payment::Ron { from_discarder } => PaymentValues {
             number: 0,
+            settlement: 1,
             from_non_dealer: 0,
             from_dealer: 0,
             from_discarder: from_discarder,
@@ -75,6 +77,7 @@ fn values_of(p: scoring::Payment) -> PaymentValues
         },
         scoring::Payment::DealerTsumo { from_each } => PaymentValues {
             number: 0,
+            settlement: 2,
             from_non_dealer: from_each,
             from_dealer: 0,
             from_discarder: 0,
@@ -85,6 +88,7 @@ fn values_of(p: scoring::Payment) -> PaymentValues
             from_non_dealer,
         } => PaymentValues {
             number: 0,
+            settlement: 3,
             from_non_dealer: from_non_dealer,
             from_dealer: from_dealer,
             from_discarder: 0,
@@ -100,6 +104,7 @@ pub fn payment_values(a: scoring::PaymentAnswer) -> PaymentValues
     match a {
         scoring::PaymentAnswer::Refused(number) => PaymentValues {
             number: number as u32,
+            settlement: 0,
             from_non_dealer: 0,
             from_dealer: 0,
             from_discarder: 0,
@@ -109,11 +114,13 @@ pub fn payment_values(a: scoring::PaymentAnswer) -> PaymentValues
     }
 }
 
-// A score: number 0, the number of the reading, counted from 0, a tally for each yaku, han and fu, whether there is a yakuman, the level
-// and how many times a yakuman counts, basic points, what each pays and the total; or a refusal's number alone.
+// A score: number 0, the kind of settlement as in PaymentValues, the number of the reading, counted from 0, a tally for each yaku, han and
+// fu, whether there is a yakuman, the level and how many times a yakuman counts, basic points, what each pays and the total; or a refusal's
+// number alone.
 #[repr(C)]
 pub struct ScoreValues {
     pub number: u32,
+    pub settlement: u32,
     pub reading: usize,
     pub tallies: [u8; 47],
     pub han: u8,
@@ -128,6 +135,13 @@ pub struct ScoreValues {
     pub total: u64,
 }
 
+// The settlement beside an answer's number: none beside a refusal.
+fn settlement_beside(number: u8, settlement: u32) -> u32
+    ensures { λ r. ⌜ r ≡ settlementBeside number settlement ⌝ }
+{
+    if number == 0 { settlement } else { 0 }
+}
+
 // The values of a scored win or reading.
 pub fn score_values(a: choice::ScoreAnswer) -> ScoreValues
     ensures { λ r. ⌜ r ≡ scoreValues a ⌝ }
@@ -138,8 +152,10 @@ pub fn score_values(a: choice::ScoreAnswer) -> ScoreValues
     let payment = score.payment;
     let level = level_of(score_level);
     let pays = values_of(payment);
+    let settlement = settlement_beside(a.number, pays.settlement);
     ScoreValues {
         number: a.number as u32,
+        settlement: settlement,
         reading: a.reading,
         tallies: tallies,
         han: score.han,

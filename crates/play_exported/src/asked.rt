@@ -18,7 +18,12 @@ const BASIC: usize = 5;
 
 const PAYMENT: usize = 6;
 
-const DIFFER: usize = 7;
+const VERSION: usize = 7;
+
+const DIFFER: usize = 8;
+
+// The version of the interface that is asked here.
+const WRITTEN_FOR: u32 = 2;
 
 // ---- what is lent
 
@@ -60,6 +65,28 @@ pub fn five_at(s: &[u8], at: usize) -> [meld::Meld; 5]
 
 // ---- is an answer the stored one?
 
+// A byte as an answer's number.
+pub fn number(x: u8) -> u32 {
+    x as u32
+}
+
+// The settlement beside an answer's number: none beside a refusal, else by win type and seat 1 ron, 2 tsumo of the dealer, 3 tsumo of
+// another.
+pub fn settlement(number: u8, dealer: bool, win_type: u8) -> u32 {
+    if number != 0 {
+        return 0;
+    }
+    if win_type == 0 {
+        return 1;
+    }
+    if dealer { 2 } else { 3 }
+}
+
+// The same of a win.
+pub fn settlement_of(number: u8, w: context::GameContext) -> u32 {
+    settlement(number, w.seat_wind == 27, w.win_type)
+}
+
 // Are these the level and how many times a yakuman counts?
 fn same_level(s: &[u8], at: usize, level: u8, count: u8) -> bool
     requires { ⌜ at + 2 ≤ length (now s) ⌝ }
@@ -84,19 +111,21 @@ fn same_amounts(
         & (total == stored::u32_at(s, at + 12) as u64)
 }
 
-// Are these the values of a score? `at` is the place of the tallies, `numbers` that of han, fu, yakuman and level, and `points` that of
-// basic points and payment.
+// Are these the values of a score, with this settlement? `at` is the place of the tallies, `numbers` that of han, fu, yakuman and level,
+// and `points` that of basic points and payment.
 pub fn same_values(
     s: &[u8],
     at: usize,
     numbers: usize,
     points: usize,
+    settlement: u32,
     v: answers::ScoreValues,
 ) -> bool
     requires { ⌜ (at + 47 ≤ length (now s)) × ((numbers + 5 ≤ length (now s)) × (points + 20 ≤ length (now s))) ⌝ }
 {
     let tallies = v.tallies;
-    stored::same_tallies(s, at, tallies)
+    (v.settlement == settlement)
+        & stored::same_tallies(s, at, tallies)
         & stored::same_numbers(s, numbers, v.han, v.fu, v.is_yakuman)
         & same_level(s, numbers + 3, v.level, v.yakuman_count)
         & (v.basic_points == stored::u32_at(s, points))
@@ -156,13 +185,14 @@ fn print_operation(operation: usize) {
         WAITS => stored::print(b"ziwhakemo_name_waits"),
         LEVEL => stored::print(b"ziwhakemo_score_level"),
         BASIC => stored::print(b"ziwhakemo_basic_points"),
-        _ => stored::print(b"ziwhakemo_payment"),
+        PAYMENT => stored::print(b"ziwhakemo_payment"),
+        _ => stored::print(b"ziwhakemo_version"),
     }
 }
 
 // The tally after an operation answered what is stored, or something else: then the row is named.
 pub fn count(t: stored::Tally, operation: usize, agrees: bool, row: &[u8]) -> stored::Tally
-    requires { ⌜ operation < 7 ⌝ }
+    requires { ⌜ operation < 8 ⌝ }
 {
     let asked = t.kind(operation);
     if agrees {
@@ -190,6 +220,7 @@ pub fn ask_payment(
 {
     let p = ziwhakemo::ziwhakemo_payment(stored::u32_at(s, points), dealer, win_type);
     let agrees = (p.number == number as u32)
+        & (p.settlement == settlement(number, dealer, win_type))
         & same_amounts(
             s,
             points + 4,
@@ -225,9 +256,19 @@ pub fn ask_level(
     count(leveled, BASIC, basic == stored::u32_at(s, points), row)
 }
 
+// The tally after the version is asked.
+pub fn ask_version(t: stored::Tally) -> stored::Tally {
+    count(
+        t,
+        VERSION,
+        ziwhakemo::ziwhakemo_version() == WRITTEN_FOR,
+        b"the version",
+    )
+}
+
 // Writes how often an operation was asked and how often its answer differs.
 fn print_kind(kinds: [u64; 16], operation: usize)
-    requires { ⌜ operation < 7 ⌝ }
+    requires { ⌜ operation < 8 ⌝ }
 {
     print_operation(operation);
     stored::print(b": ");
@@ -246,5 +287,6 @@ pub fn print(t: stored::Tally, what: &[u8]) {
     print_kind(kinds, LEVEL);
     print_kind(kinds, BASIC);
     print_kind(kinds, PAYMENT);
+    print_kind(kinds, VERSION);
     stored::print_count(t.differ, b" answers differ\n");
 }

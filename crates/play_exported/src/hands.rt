@@ -11,7 +11,7 @@ fn list_hand(rec: &[u8], row: &[u8], t: stored::Tally) -> stored::Tally
     let mut buf = [asked::FILLED; 1468];
     let calls = asked::lent(stored::wide(rec[162]));
     let a = lending::list(&rec[128..162], asked::five_at(rec, 163), calls, &mut buf);
-    let agrees = (a.number == stored::wide(rec[183]))
+    let agrees = (a.number == asked::number(rec[183]))
         & (a.readings == stored::wide(rec[184]))
         & asked::same_records(&buf, a.readings, a.bytes);
     asked::count(t, asked::LIST, agrees, row)
@@ -27,10 +27,13 @@ fn ask_hand(rec: &[u8], k: usize) -> lending::Asked
 }
 
 // Are these values the score in the slot, for the reading with this number?
-fn is_scored(s: &[u8], at: usize, k: usize, v: answers::ScoreValues) -> bool
-    requires { ⌜ at + 96 ≤ length (now s) ⌝ }
+fn is_scored(rec: &[u8], at: usize, k: usize, v: answers::ScoreValues) -> bool
+    requires { ⌜ (length (now rec) ≡ 1024) × (at + 96 ≤ 1024) ⌝ }
 {
-    (v.number == 0) & (v.reading == k) & asked::same_values(s, at, at + 53, at + 60, v)
+    let settlement = asked::settlement_of(0, stored::win_at(rec, 171));
+    (v.number == 0)
+        & (v.reading == k)
+        & asked::same_values(rec, at, at + 53, at + 60, settlement, v)
 }
 
 // Are they a refusal with this number, and nothing else? An empty slot is what a refusal holds.
@@ -39,7 +42,7 @@ fn is_refused(number: u8, v: answers::ScoreValues) -> bool {
     (number != 0)
         & (v.number == number as u32)
         & (v.reading == 0)
-        & asked::same_values(&empty, 0, 53, 60, v)
+        & asked::same_values(&empty, 0, 53, 60, 0, v)
 }
 
 // Is the answer to a record's win the stored one?

@@ -28,7 +28,7 @@ fn same_buffer(rec: &[u8], bytes: usize, buf: &[u8; 120]) -> bool
 fn same_answer(rec: &[u8], a: answers::ListingAnswer) -> bool
     requires { ⌜ length (now rec) ≡ 256 ⌝ }
 {
-    (a.number == stored::wide(rec[53]))
+    (a.number == asked::number(rec[53]))
         & (a.readings == stored::u16_at(rec, 54))
         & (a.bytes == stored::u16_at(rec, 56))
 }

@@ -1,5 +1,5 @@
 // Plays the hands of `play` (data/hands), and of the wins of `replay_wins` (data/wins) and the listings of `replay` (data/listings) each
-// sixteenth record, through the seven exported operations, the calls lent to them as slices, and says how often each was asked and how
+// sixteenth record, through the exported operations, the calls lent to them as slices, and says how often each was asked and how
 // many answers differ from the stored ones; of a stored listing every byte of the buffer is compared too, of the others count and lengths of the records. A difference is written with the row's
 // name.
 mod asked;
@@ -71,7 +71,7 @@ fn play_file(path: &[u8], file: usize, what: &[u8]) {
     if fd < 0 {
         return;
     }
-    let t = run(fd, file);
+    let t = asked::ask_version(run(fd, file));
     libc::close(fd);
     asked::print(t, what);
 }

@@ -4,18 +4,14 @@ ghost use Prim.Native.Nat.{_+_, _≤_};
 ghost use lib.ListN.{length};
 use crate::asked;
 
-// A byte as an answer's number.
-fn number(x: u8) -> u32 {
-    x as u32
-}
-
 // Is the answer the one at a place: its number, that of the reading, and the score?
 fn same_answer(rec: &[u8], at: usize, v: answers::ScoreValues) -> bool
-    requires { ⌜ at + 74 ≤ length (now rec) ⌝ }
+    requires { ⌜ (length (now rec) ≡ 256) × (at + 74 ≤ 256) ⌝ }
 {
-    (v.number == number(rec[at]))
+    let settlement = asked::settlement_of(rec[at], stored::win_at(rec, 51));
+    (v.number == asked::number(rec[at]))
         & (v.reading == stored::wide(rec[at + 1]))
-        & asked::same_values(rec, at + 2, at + 49, at + 54, v)
+        & asked::same_values(rec, at + 2, at + 49, at + 54, settlement, v)
 }
 
 // The tally after the hand of a win is listed: refused with 1 to 6 like the win, else accepted, and without a reading where the win is
@@ -27,7 +23,7 @@ fn list_win(rec: &[u8], counts: &[u8], row: &[u8], t: stored::Tally) -> stored::
     let calls = asked::lent(stored::u16_at(rec, 41));
     let a = lending::list(counts, asked::five_at(rec, 43), calls, &mut buf);
     let written = asked::same_records(&buf, a.readings, a.bytes);
-    let number = stored::wide(rec[65]);
+    let number = asked::number(rec[65]);
     if number > 0 && number < 7 {
         let refused = (a.number == number) & (a.readings == 0) & written;
         return asked::count(t, asked::LIST, refused, row);

@@ -6,7 +6,15 @@ ghost use Rattle.lent.specs.Lent.{callsOf};
 ghost use Rattle.scoring.specs.Level.{level, basicPoints};
 ghost use Rattle.scoring.specs.Payment.{paymentAnswer};
 ghost use Rattle.win.specs.Win.{scoreWin, scoreReading, nameWaits};
-ghost use Rattle.answers.specs.Answers.{listingAnswer, levelAnswer, paymentValues, scoreValues, waitsValues};
+ghost use Rattle.answers.specs.Answers.{version, listingAnswer, levelAnswer, paymentValues, scoreValues, waitsValues};
+
+// The version of this interface, for a caller that was written for one.
+#[no_mangle]
+pub extern "C" fn ziwhakemo_version() -> u32
+    ensures { λ r. ⌜ r ≡ version ⌝ }
+{
+    2
+}
 
 // Lists the readings of a finished hand, its calls given by value, into the lent buffer.
 fn list_values(counts: &[u8], k: checks::Calls, out: &mut [u8]) -> answers::ListingAnswer
