@@ -125,6 +125,7 @@ impl ReadHand {
         let paid = paid(&result.payment);
         Score {
             number: 0,
+            settlement: paid.settlement,
             reading: number,
             tallies: yaku_tallies(&yaku.yaku_list),
             han: result.han,
@@ -235,9 +236,19 @@ pub fn payment(basic_points: u32, is_dealer: bool, win_type: u8) -> PaymentAnswe
     }
 }
 
+/// The settlement by who pays in agari's payment.
+fn settlement(payment: &Payment) -> u32 {
+    match (payment.from_discarder, payment.from_dealer) {
+        (Some(_), _) => 1,
+        (None, None) => 2,
+        (None, Some(_)) => 3,
+    }
+}
+
 fn paid(payment: &Payment) -> PaymentAnswer {
     PaymentAnswer {
         number: 0,
+        settlement: settlement(payment),
         total: payment.total.into(),
         from_non_dealer: payment.from_non_dealer.unwrap_or(0),
         from_dealer: payment.from_dealer.unwrap_or(0),

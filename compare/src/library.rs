@@ -1,5 +1,8 @@
 //! The proved library, by its C interface.
 
+/// The version of the interface that is declared here.
+pub const VERSION: u32 = 2;
+
 /// The number of yaku tallies: one for each entry of `Yaku`, Yakuhai apart for each honour, without
 /// the three local entries.
 pub const YAKU: usize = 47;
@@ -74,7 +77,7 @@ impl Win {
 #[repr(C)]
 #[derive(Clone, Copy, Debug, PartialEq, Eq)]
 pub struct Listing {
-    pub number: usize,
+    pub number: u32,
     pub readings: usize,
     pub bytes: usize,
 }
@@ -88,11 +91,13 @@ pub struct Level {
     pub count: u8,
 }
 
-/// The answer to a payment: 0 with the amounts, 0 where nobody pays, or a refusal's number alone.
+/// The answer to a payment: 0 with the settlement (1 ron, 2 tsumo of the dealer, 3 tsumo of another) and
+/// the amounts, 0 where nobody pays, or a refusal's number alone.
 #[repr(C)]
 #[derive(Clone, Copy, Debug, Default, PartialEq, Eq)]
 pub struct PaymentAnswer {
     pub number: u32,
+    pub settlement: u32,
     pub from_non_dealer: u32,
     pub from_dealer: u32,
     pub from_discarder: u32,
@@ -106,6 +111,7 @@ pub struct PaymentAnswer {
 #[derive(Clone, Copy, Debug, PartialEq, Eq)]
 pub struct Score {
     pub number: u32,
+    pub settlement: u32,
     pub reading: usize,
     pub tallies: [u8; YAKU],
     pub han: u8,
@@ -129,6 +135,7 @@ pub struct Waits {
 }
 
 unsafe extern "C" {
+    fn ziwhakemo_version() -> u32;
     pub fn ziwhakemo_list_readings(
         counts: *const u8,
         counts_len: usize,
@@ -181,6 +188,11 @@ fn lend<T>(calls: &Calls, ask: impl FnOnce(*const Meld, usize) -> T) -> T {
     ask(many.as_ptr(), many.len())
 }
 
+/// The version of the archive.
+pub fn version() -> u32 {
+    unsafe { ziwhakemo_version() }
+}
+
 /// Lists the readings of a hand into `out`.
 pub fn list_readings(counts: &[u8], calls: Calls, out: &mut [u8]) -> Listing {
     let (place, length) = (out.as_mut_ptr(), out.len());
@@ -220,4 +232,14 @@ pub fn basic_points(han: u8, fu: u8, is_yakuman: bool) -> u32 {
 
 pub fn payment(basic_points: u32, is_dealer: bool, win_type: u8) -> PaymentAnswer {
     unsafe { ziwhakemo_payment(basic_points, is_dealer, win_type) }
+}
+
+#[cfg(test)]
+mod tests {
+    use super::*;
+
+    #[test]
+    fn the_archive_is_of_this_version() {
+        assert_eq!(version(), VERSION);
+    }
 }

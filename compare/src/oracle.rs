@@ -7,7 +7,7 @@ use crate::hand::Hand;
 use crate::library::Listing;
 
 /// The refusal of a buffer that is too short.
-pub const TOO_SHORT: usize = 7;
+pub const TOO_SHORT: u32 = 7;
 
 /// What is expected for a hand, whatever buffer is lent.
 pub struct Expected {
@@ -38,7 +38,7 @@ impl Expected {
     pub fn listing(&self, lent: usize) -> Listing {
         let fault = self.faults.iter().position(|&fault| fault);
         let number = match fault {
-            Some(place) => place + 1,
+            Some(place) => place as u32 + 1,
             None if self.records.len() > lent => TOO_SHORT,
             None => 0,
         };
@@ -88,7 +88,7 @@ mod tests {
     use crate::hand::*;
     use crate::library::Meld;
 
-    fn answer(hand: &Hand) -> (usize, usize) {
+    fn answer(hand: &Hand) -> (u32, usize) {
         let listing = Expected::of(hand).listing(1467);
         (listing.number, listing.readings)
     }

@@ -37,7 +37,7 @@ impl Tally {
 
     pub fn count_answer(&mut self, want: &Listing) {
         self.inputs += 1;
-        self.answers[want.number] += 1;
+        self.answers[want.number as usize] += 1;
         if want.number == 0 {
             self.readings[want.readings.min(5)] += 1;
             self.most_bytes = self.most_bytes.max(want.bytes);

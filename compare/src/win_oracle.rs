@@ -120,6 +120,7 @@ fn worth(score: &Score) -> Option<Worth> {
 fn refused(number: u32) -> Score {
     Score {
         number,
+        settlement: 0,
         reading: 0,
         tallies: [0; YAKU],
         han: 0,

@@ -241,6 +241,7 @@ impl fmt::Display for Score {
         write!(f, "yakuman {}, level {} ", self.is_yakuman, self.level)?;
         write!(f, "count {}, ", self.yakuman_count)?;
         write!(f, "basic points {}, ", self.basic_points)?;
+        write!(f, "settlement {}, ", self.settlement)?;
         write!(f, "from non-dealer {}, ", self.from_non_dealer)?;
         write!(f, "dealer {}, ", self.from_dealer)?;
         write!(f, "discarder {}, ", self.from_discarder)?;

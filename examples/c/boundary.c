@@ -222,6 +222,8 @@ static void draw_win(input *in) {
 
 /* Any bytes in one of the places. */
 static void damage(input *in) {
+    unsigned tile = below(ZIWHAKEMO_TILES);
+    bool round = percent(50);
     switch (below(9)) {
     case 0:
         in->counts_length = below(MOST_COUNTS + 1);
@@ -235,11 +237,11 @@ static void damage(input *in) {
             in->calls[i].kind = percent(50) ? (uint8_t)below(8) : byte();
         }
         break;
-    case 3: in->counts[below(ZIWHAKEMO_TILES)] = byte(); break;
-    case 4: in->counts[below(ZIWHAKEMO_TILES)] = (uint8_t)below(6); break;
+    case 3: in->counts[tile] = byte(); break;
+    case 4: in->counts[tile] = (uint8_t)below(6); break;
     case 5: in->win.win_type = byte(); break;
     case 6: in->win.winning_tile = percent(50) ? (uint8_t)below(36) : byte(); break;
-    case 7: *(percent(50) ? &in->win.round_wind : &in->win.seat_wind) = byte(); break;
+    case 7: *(round ? &in->win.round_wind : &in->win.seat_wind) = byte(); break;
     default:
         for (int i = 0; i < MOST_COUNTS; i++) in->counts[i] = byte();
     }

@@ -1,6 +1,11 @@
 //! The library as C sees it (`include/ziwhakemo.h`), and a safe function for each of its own. All
 //! `unsafe` of this crate is here.
 
+use crate::OTHER_VERSION;
+
+/// The version of the interface that is declared here: `ZIWHAKEMO_VERSION` of the header.
+pub const VERSION: u32 = 2;
+
 /// A meld: the number of its lowest tile, and its kind.
 #[repr(C)]
 #[derive(Clone, Copy, Debug, PartialEq, Eq)]
@@ -31,7 +36,7 @@ pub struct GameContext {
 #[repr(C)]
 #[derive(Clone, Copy, Debug, PartialEq, Eq)]
 pub struct ListingAnswer {
-    pub number: usize,
+    pub number: u32,
     pub readings: usize,
     pub bytes: usize,
 }
@@ -44,11 +49,13 @@ pub struct LevelAnswer {
     pub count: u8,
 }
 
-/// The answer to a payment: 0 with the amounts, or a refusal's number alone.
+/// The answer to a payment: 0 with the amounts, or a refusal's number alone. The settlement is 1 by ron,
+/// 2 by tsumo of the dealer, 3 by tsumo of another.
 #[repr(C)]
 #[derive(Clone, Copy, Debug, PartialEq, Eq)]
 pub struct PaymentAnswer {
     pub number: u32,
+    pub settlement: u32,
     pub from_non_dealer: u32,
     pub from_dealer: u32,
     pub from_discarder: u32,
@@ -61,6 +68,7 @@ pub struct PaymentAnswer {
 #[derive(Clone, Copy, Debug, PartialEq, Eq)]
 pub struct ScoreAnswer {
     pub number: u32,
+    pub settlement: u32,
     pub reading: usize,
     pub tallies: [u8; 47],
     pub han: u8,
@@ -118,15 +126,27 @@ unsafe extern "C" {
     ) -> WaitsAnswer;
 
     // Safe: these take plain values, any of them, and no pointer.
+    safe fn ziwhakemo_version() -> u32;
     safe fn ziwhakemo_score_level(han: u8, fu: u8, is_yakuman: bool) -> LevelAnswer;
     safe fn ziwhakemo_basic_points(han: u8, fu: u8, is_yakuman: bool) -> u32;
     safe fn ziwhakemo_payment(basic_points: u32, is_dealer: bool, win_type: u8) -> PaymentAnswer;
 }
 
+/// The version of the archive.
+pub fn version() -> u32 {
+    ziwhakemo_version()
+}
+
+/// Stops where the archive is of another version: its answers may be laid out otherwise.
+fn check_version() {
+    assert!(version() == VERSION, "{OTHER_VERSION}");
+}
+
 /// Lists the readings of a hand into the lent buffer.
 pub fn list_readings(counts: &[u8], calls: &[Meld], out: &mut [u8]) -> ListingAnswer {
+    check_version();
     // SAFETY: three slices, each handed over as its pointer and its length. `out` is borrowed alone, so
-    // it overlaps neither of the others. The library keeps no pointer.
+    // it overlaps neither of the others. The library keeps no pointer and is of the version declared here.
     unsafe {
         ziwhakemo_list_readings(
             counts.as_ptr(),
@@ -141,8 +161,9 @@ pub fn list_readings(counts: &[u8], calls: &[Meld], out: &mut [u8]) -> ListingAn
 
 /// Scores a win.
 pub fn score_win(counts: &[u8], calls: &[Meld], win: GameContext) -> ScoreAnswer {
+    check_version();
     // SAFETY: two slices, each handed over as its pointer and its length, which are only read. The
-    // flags of a `GameContext` are bools. The library keeps no pointer.
+    // flags of a `GameContext` are bools. The library keeps no pointer and is of the version declared here.
     unsafe {
         ziwhakemo_score_win(
             counts.as_ptr(),
@@ -161,6 +182,7 @@ pub fn score_reading(
     win: GameContext,
     reading: usize,
 ) -> ScoreAnswer {
+    check_version();
     // SAFETY: as for `score_win`. Any number may be asked for.
     unsafe {
         ziwhakemo_score_reading(
@@ -176,6 +198,7 @@ pub fn score_reading(
 
 /// Names the waits of the reading with a number.
 pub fn name_waits(counts: &[u8], calls: &[Meld], win: GameContext, reading: usize) -> WaitsAnswer {
+    check_version();
     // SAFETY: as for `score_win`. Any number may be asked for.
     unsafe {
         ziwhakemo_name_waits(
@@ -191,16 +214,19 @@ pub fn name_waits(counts: &[u8], calls: &[Meld], win: GameContext, reading: usiz
 
 /// The level of han and fu.
 pub fn score_level(han: u8, fu: u8, is_yakuman: bool) -> LevelAnswer {
+    check_version();
     ziwhakemo_score_level(han, fu, is_yakuman)
 }
 
 /// The basic points of han and fu.
 pub fn basic_points(han: u8, fu: u8, is_yakuman: bool) -> u32 {
+    check_version();
     ziwhakemo_basic_points(han, fu, is_yakuman)
 }
 
 /// The payment of basic points.
 pub fn payment(basic_points: u32, is_dealer: bool, win_type: u8) -> PaymentAnswer {
+    check_version();
     ziwhakemo_payment(basic_points, is_dealer, win_type)
 }
 
@@ -239,15 +265,26 @@ mod tests {
     }
 
     #[test]
+    fn library_header_and_this_file_are_of_one_version() {
+        let header = include_str!("../../include/ziwhakemo.h");
+        let define = format!("#define ZIWHAKEMO_VERSION {VERSION}");
+        assert!(header.lines().any(|line| line == define));
+        assert_eq!(version(), VERSION);
+    }
+
+    #[test]
     fn structs_are_laid_out_as_in_c() {
         assert_eq!((size_of::<Meld>(), align_of::<Meld>()), (2, 1));
         let context = (size_of::<GameContext>(), align_of::<GameContext>());
         assert_eq!(context, (12, 1));
         assert_eq!(size_of::<ListingAnswer>(), 24);
         assert_eq!(size_of::<LevelAnswer>(), 2);
-        assert_eq!(size_of::<PaymentAnswer>(), 24);
+        assert_eq!(size_of::<PaymentAnswer>(), 32);
+        assert_eq!(offset_of!(PaymentAnswer, settlement), 4);
+        assert_eq!(offset_of!(PaymentAnswer, total), 24);
         assert_eq!(size_of::<WaitsAnswer>(), 12);
         assert_eq!(size_of::<ScoreAnswer>(), 96);
+        assert_eq!(offset_of!(ScoreAnswer, settlement), 4);
         assert_eq!(offset_of!(ScoreAnswer, tallies), 16);
         assert_eq!(offset_of!(ScoreAnswer, han), 63);
         assert_eq!(offset_of!(ScoreAnswer, basic_points), 68);
@@ -324,6 +361,7 @@ mod tests {
         tallies[24] = 1; // SanAnkou
         let expected = ScoreAnswer {
             number: 0,
+            settlement: 1,
             reading: 1,
             tallies,
             han: 3,
@@ -352,6 +390,7 @@ mod tests {
         tallies[45] = 1; // SuuankouTanki
         let expected = ScoreAnswer {
             number: 0,
+            settlement: 3,
             reading: 1,
             tallies,
             han: 26,
@@ -369,9 +408,30 @@ mod tests {
     }
 
     #[test]
+    fn settlements_go_by_win_type_and_seat() {
+        for (win_type, is_dealer, settlement) in
+            [(0, false, 1), (0, true, 1), (1, true, 2), (1, false, 3)]
+        {
+            let seat_wind = if is_dealer { 27 } else { 28 };
+            let win = GameContext {
+                win_type,
+                seat_wind,
+                ..ron(SOU_8)
+            };
+            let score = score_win(&spring_final(), &[], win);
+            assert_eq!((score.number, score.settlement), (0, settlement));
+            let pay = payment(2000, is_dealer, win_type);
+            assert_eq!((pay.number, pay.settlement), (0, settlement));
+            let refused = payment(152_001, is_dealer, win_type);
+            assert_eq!((refused.number, refused.settlement), (13, 0));
+        }
+    }
+
+    #[test]
     fn a_refused_answer_is_its_number_alone() {
         let nothing = ScoreAnswer {
             number: 9,
+            settlement: 0,
             reading: 0,
             tallies: [0; 47],
             han: 0,

@@ -175,7 +175,7 @@ pub fn decompose_hand(counts: &[u8], calls: &[Meld]) -> Result<Vec<HandStructure
 /// Refuses with 1 to 7.
 pub fn list_readings(counts: &[u8], calls: &[Meld], out: &mut [u8]) -> Result<Listing, Refusal> {
     let answer = ffi::list_readings(counts, &lent(calls), out);
-    accepted(answer.number)?;
+    accepted(answer.number as usize)?;
     Ok(Listing {
         readings: answer.readings,
         bytes: answer.bytes,

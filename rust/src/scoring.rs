@@ -123,6 +123,7 @@ impl ScoredWin {
         let score_level = ScoreLevel::of(answer.level, answer.yakuman_count);
         let amounts = ffi::PaymentAnswer {
             number: answer.number,
+            settlement: answer.settlement,
             from_non_dealer: answer.from_non_dealer,
             from_dealer: answer.from_dealer,
             from_discarder: answer.from_discarder,

@@ -106,6 +106,7 @@ fn settlement(win_type: u8, dealer: bool, paid: &PaymentAnswer) -> String {
 fn paid(score: &Score) -> PaymentAnswer {
     PaymentAnswer {
         number: 0,
+        settlement: score.settlement,
         from_non_dealer: score.from_non_dealer,
         from_dealer: score.from_dealer,
         from_discarder: score.from_discarder,

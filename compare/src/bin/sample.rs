@@ -71,7 +71,7 @@ fn one_refusal(number: usize, records: usize) -> Part {
     let title = format!("refusal {number}");
     let deal = move |rng: &mut Rng| with_faults(rng, number, number);
     Part::new(&title, records, deal, move |expected| {
-        expected.listing(0).number == number
+        expected.listing(0).number as usize == number
     })
 }
 
@@ -79,7 +79,7 @@ fn two_faults(earlier: usize, later: usize, records: usize) -> Part {
     let title = format!("refusal {earlier}, ground for {later} too");
     let deal = move |rng: &mut Rng| with_faults(rng, earlier, later);
     Part::new(&title, records, deal, move |expected| {
-        expected.listing(0).number == earlier && expected.faults[later - 1]
+        expected.listing(0).number as usize == earlier && expected.faults[later - 1]
     })
 }
 
