@@ -49,8 +49,17 @@ pub fn level_of(l: scoring::ScoreLevel) -> LevelAnswer
     }
 }
 
-// A payment: number 0 where it is given, else the refusal; the kind of settlement: 0 none, beside a refusal, 1 ron, 2 tsumo of the dealer,
-// 3 tsumo of another; what each non-dealer, the dealer and the discarder pays (0 for who does not), and the total.
+// The settlements: none, beside a refusal; by ron; by tsumo of the dealer; by tsumo of another.
+const NONE: u32 = 0;
+
+const RON: u32 = 1;
+
+const DEALER_TSUMO: u32 = 2;
+
+const TSUMO: u32 = 3;
+
+// A payment: number 0 where it is given, else the refusal; the settlement; what each non-dealer, the dealer and the discarder pays (0 for
+// who does not), and the total.
 #[repr(C)]
 pub struct PaymentValues {
     pub number: u32,
@@ -69,7 +78,7 @@ fn values_of(p: scoring::Payment) -> PaymentValues
     match p {
         scoring::Payment::Ron { from_discarder } => PaymentValues {
             number: 0,
-            settlement: 1,
+            settlement: RON,
             from_non_dealer: 0,
             from_dealer: 0,
             from_discarder: from_discarder,
@@ -77,7 +86,7 @@ fn values_of(p: scoring::Payment) -> PaymentValues
         },
         scoring::Payment::DealerTsumo { from_each } => PaymentValues {
             number: 0,
-            settlement: 2,
+            settlement: DEALER_TSUMO,
             from_non_dealer: from_each,
             from_dealer: 0,
             from_discarder: 0,
@@ -88,7 +97,7 @@ fn values_of(p: scoring::Payment) -> PaymentValues
             from_non_dealer,
         } => PaymentValues {
             number: 0,
-            settlement: 3,
+            settlement: TSUMO,
             from_non_dealer: from_non_dealer,
             from_dealer: from_dealer,
             from_discarder: 0,
@@ -104,7 +113,7 @@ pub fn payment_values(a: scoring::PaymentAnswer) -> PaymentValues
     match a {
         scoring::PaymentAnswer::Refused(number) => PaymentValues {
             number: number as u32,
-            settlement: 0,
+            settlement: NONE,
             from_non_dealer: 0,
             from_dealer: 0,
             from_discarder: 0,
@@ -114,7 +123,7 @@ pub fn payment_values(a: scoring::PaymentAnswer) -> PaymentValues
     }
 }
 
-// A score: number 0, the kind of settlement as in PaymentValues, the number of the reading, counted from 0, a tally for each yaku, han and
+// A score: number 0, the settlement, the number of the reading, counted from 0, a tally for each yaku, han and
 // fu, whether there is a yakuman, the level and how many times a yakuman counts, basic points, what each pays and the total; or a refusal's
 // number alone.
 #[repr(C)]
@@ -139,7 +148,7 @@ pub struct ScoreValues {
 fn settlement_beside(number: u8, settlement: u32) -> u32
     ensures { λ r. ⌜ r ≡ settlementBeside number settlement ⌝ }
 {
-    if number == 0 { settlement } else { 0 }
+    if number == 0 { settlement } else { NONE }
 }
 
 // The values of a scored win or reading.
