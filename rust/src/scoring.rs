@@ -74,14 +74,29 @@ pub struct Payment {
 }
 
 impl Payment {
-    /// The payment of the library's amounts, in which 0 stands for who does not pay.
-    fn of(amounts: ffi::PaymentAnswer, is_dealer: bool, win_type: WinType) -> Payment {
-        let is_tsumo = win_type == WinType::Tsumo;
-        Payment {
+    /// The payment of the library's amounts. Who pays is the settlement's to say.
+    fn of(amounts: ffi::PaymentAnswer) -> Payment {
+        let payment = Payment {
             total: amounts.total.try_into().expect(OTHER_VERSION),
-            from_non_dealer: is_tsumo.then_some(amounts.from_non_dealer),
-            from_dealer: (is_tsumo && !is_dealer).then_some(amounts.from_dealer),
-            from_discarder: (!is_tsumo).then_some(amounts.from_discarder),
+            from_non_dealer: None,
+            from_dealer: None,
+            from_discarder: None,
+        };
+        match amounts.settlement {
+            1 => Payment {
+                from_discarder: Some(amounts.from_discarder),
+                ..payment
+            },
+            2 => Payment {
+                from_non_dealer: Some(amounts.from_non_dealer),
+                ..payment
+            },
+            3 => Payment {
+                from_non_dealer: Some(amounts.from_non_dealer),
+                from_dealer: Some(amounts.from_dealer),
+                ..payment
+            },
+            _ => panic!("{OTHER_VERSION}"),
         }
     }
 }
@@ -139,7 +154,7 @@ impl ScoredWin {
                 han: answer.han,
                 score_level,
                 basic_points: answer.basic_points,
-                payment: Payment::of(amounts, context.is_dealer(), context.win_type),
+                payment: Payment::of(amounts),
                 is_dealer: context.is_dealer(),
                 is_counted_yakuman,
             },
@@ -193,5 +208,5 @@ pub fn calculate_payment(
 ) -> Result<Payment, Refusal> {
     let answer = ffi::payment(basic_points, is_dealer, win_type.number());
     accepted(answer.number)?;
-    Ok(Payment::of(answer, is_dealer, win_type))
+    Ok(Payment::of(answer))
 }
