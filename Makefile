@@ -4,7 +4,8 @@
 #   make examples   a C compiler (CC) as well: the programs of examples/c, in target/c
 #   make test       a C++ compiler (CXX) as well: the examples as C99, C17 and C++17 without a warning;
 #                   runs them and compares what they print with what is stored
-#   make memcheck   valgrind as well: every function on INPUTS random inputs, lent at exactly its size
+#   make memcheck   valgrind as well: the examples, and every function on INPUTS random inputs, each
+#                   region lent at exactly its size
 #   make install    nothing more: archive, headers and ziwhakemo.pc under PREFIX
 #   make uninstall  removes them
 #
@@ -66,7 +67,10 @@ test: $(foreach standard,$(STANDARDS),$(PROGRAMS:%=target/c/%.$(standard)))
 	    tail -n 1 target/c/boundary.out; \
 	done
 
-memcheck: target/c/boundary.c99
+memcheck: $(PROGRAMS:%=target/c/%.c99)
+	set -e; for program in score calls names; do \
+	    valgrind --error-exitcode=9 target/c/$$program.c99 > /dev/null; \
+	done
 	valgrind --error-exitcode=9 target/c/boundary.c99 $(INPUTS)
 
 install: $(ARCHIVE)
