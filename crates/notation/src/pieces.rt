@@ -1,6 +1,7 @@
 // An argument is split into words at blanks, and a word of tiles into pieces at brackets.
 ghost use mathlib.Core.Path.{_≡_};
-ghost use Prim.Native.Nat.{_≤_, _<_};
+ghost use mathlib.Core.Bool.{true};
+ghost use Prim.Native.Nat.{_+_, _≤_, _<_};
 ghost use lib.ListN.{length};
 use tile_words::chars;
 use tile_words::faults;
@@ -158,13 +159,18 @@ pub fn piece_end(word: &[u8], from: usize) -> usize
     next_of(word, from, BRACKETS)
 }
 
-// Does a piece that begins with a bracket end with this one?
-pub fn is_closed(piece: &[u8], bracket: u8) -> bool {
-    let n = piece.len();
-    if n < 2 {
+// Does a piece that begins with a bracket end with the one that closes it?
+pub fn is_closed(word: &[u8], from: usize, end: usize, round: bool) -> bool
+    requires { ⌜ (from < end) × (end ≤ length (now word)) ⌝ }
+    ensures { λ r. ⌜ (r ≡ true → from + 2 ≤ end) ⌝ }
+{
+    if end - from < 2 {
         return false;
     }
-    piece[n - 1] == bracket
+    if round {
+        return word[end - 1] == b')';
+    }
+    word[end - 1] == b']'
 }
 
 // ---- pieces that are no tiles

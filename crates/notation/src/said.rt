@@ -60,6 +60,37 @@ fn more_reds(reds: usize, word: &[u8]) -> usize
     reds + n
 }
 
+// The kind of the call behind chi, pon, kan, ankan or kakan, from 1 on.
+fn kind_of(wanted: usize) -> u8 {
+    match wanted {
+        1 => 1,
+        2 => 3,
+        3 => 5,
+        4 => 4,
+        _ => 6,
+    }
+}
+
+// What is wrong where there is no such call.
+fn no_call(wanted: usize) -> u8 {
+    match wanted {
+        1 => faults::NO_CHI,
+        2 => faults::NO_PON,
+        _ => faults::NO_KAN,
+    }
+}
+
+// What is wrong with the word for the last tile, or 0: haitei is drawn, houtei discarded.
+fn last_tile_fault(tsumo: bool, haitei: bool, houtei: bool) -> u8 {
+    if haitei & !tsumo {
+        return faults::HAITEI_RON;
+    }
+    if houtei & tsumo {
+        return faults::HOUTEI_TSUMO;
+    }
+    0
+}
+
 impl Said {
     // Before the first word: round East, seat South.
     pub fn nothing() -> Said {
@@ -141,10 +172,11 @@ impl Said {
         ensures { λ r. ⌜ 0 < r .fault ⌝ }
     {
         let number = pieces::fault_of(piece, fault);
-        if number == faults::UNKNOWN {
-            return self.faulty(number);
+        let mut at = 0;
+        if number != faults::UNKNOWN {
+            at = tile_words::fault_place(piece);
         }
-        self.faulty_at(number, tile_words::fault_place(piece))
+        self.faulty_at(number, at)
     }
 
     // Tiles of the hand.
@@ -217,14 +249,11 @@ impl Said {
 
     // ---- the pieces of a word that is not known
 
-    // A call in brackets, of a kind that its tiles must make; `from` and `end` are its places in the word.
-    fn bracketed(self, word: &[u8], from: usize, end: usize, bracket: u8) -> Said
+    // A call in brackets, round ones for an open call, square ones for a closed kan; `from` and `end` are its places in the word.
+    fn bracketed(self, word: &[u8], from: usize, end: usize, round: bool) -> Said
         requires { ⌜ (from < end) × (end ≤ length (now word)) ⌝ }
     {
-        if !pieces::is_closed(&word[from..end], bracket) {
-            return self.faulty(faults::UNCLOSED);
-        }
-        if end < from + 2 {
+        if !pieces::is_closed(word, from, end, round) {
             return self.faulty(faults::UNCLOSED);
         }
         let tiles = &word[from + 1..end - 1];
@@ -233,7 +262,7 @@ impl Said {
             return self.looking(from + 1, end - 1)
                 .faulty_at(fault, tile_words::fault_place(tiles));
         }
-        if bracket == b')' {
+        if round {
             return self.called(tiles, 0, faults::NO_OPEN_CALL);
         }
         self.called(tiles, 4, faults::NO_CLOSED_KAN)
@@ -248,11 +277,8 @@ impl Said {
         }
         let first = word[from];
         let said = self.looking(from, end);
-        if first == b'(' {
-            return said.bracketed(word, from, end, b')');
-        }
-        if first == b'[' {
-            return said.bracketed(word, from, end, b']');
+        if (first == b'(') | (first == b'[') {
+            return said.bracketed(word, from, end, first == b'(');
         }
         if (first == b')') | (first == b']') {
             return said.faulty(faults::LOOSE);
@@ -274,30 +300,25 @@ impl Said {
 
     // ---- winds, flags and other circumstances
 
-    // The round wind.
-    fn with_round(mut self, wind: u8) -> Said {
-        self.round = wind;
-        self.round_said = true;
+    // The wind of the seat or of the round, 0 for East.
+    fn with_wind(mut self, wind: u8, is_seat: bool) -> Said {
+        if is_seat {
+            self.seat = wind;
+            self.seat_said = true;
+        } else {
+            self.round = wind;
+            self.round_said = true;
+        }
         self
     }
 
-    // The seat wind.
-    fn with_seat(mut self, wind: u8) -> Said {
-        self.seat = wind;
-        self.seat_said = true;
-        self
-    }
-
-    // The wind of the round or of the seat.
-    fn with_wind(self, word: &[u8], is_seat: bool) -> Said {
+    // The word for a wind.
+    fn with_wind_word(self, word: &[u8], is_seat: bool) -> Said {
         let wind = words::wind(word);
         if 4 <= wind {
             return self.faulty(faults::NO_WIND);
         }
-        if is_seat {
-            return self.with_seat(wind);
-        }
-        self.with_round(wind)
+        self.with_wind(wind, is_seat)
     }
 
     // The dealer, who sits East.
@@ -305,7 +326,7 @@ impl Said {
         if self.seat_said {
             return self.faulty(faults::TWICE);
         }
-        self.with_seat(0)
+        self.with_wind(0, true)
     }
 
     // A flag. Double riichi is riichi too.
@@ -384,22 +405,18 @@ impl Said {
             return self.with_flag(i - 9);
         }
         match i {
-            17 => self.asking(2),
-            18 => self.asking(4),
-            19 => self.as_dealer(),
-            20 => self.with_last_tile(true),
-            21 => self.with_last_tile(false),
-            22 => self.wanting(10),
-            23 | 24 => self.wanting(11),
-            25 | 26 | 27 => self,
-            _ => self.with_help(),
+            17 => self.as_dealer(),
+            18 | 19 => self.with_last_tile(i == 18),
+            20 | 21 => self.wanting(i - 10),
+            22 => self.with_help(),
+            _ => self,
         }
     }
 
     // A word that may be anything.
     fn with_any(self, word: &[u8]) -> Said {
         let i = words::known(word);
-        if i < 31 {
+        if i < 24 {
             return self.with_known(i);
         }
         self.with_pieces(word)
@@ -407,19 +424,19 @@ impl Said {
 
     // The word that the one before asked for.
     fn with_wanted(self, word: &[u8], wanted: usize) -> Said {
-        match wanted {
-            1 => self.called(word, 1, faults::NO_CHI),
-            2 => self.called(word, 3, faults::NO_PON),
-            3 => self.called(word, 5, faults::NO_KAN),
-            4 => self.called(word, 4, faults::NO_KAN),
-            5 => self.called(word, 6, faults::NO_KAN),
-            6 => self.won_on(word, false),
-            7 => self.won_on(word, true),
-            8 => self.with_wind(word, false),
-            9 => self.with_wind(word, true),
-            10 => self.with_riichi(word),
-            _ => self.with_dora(word),
+        if wanted < 6 {
+            return self.called(word, kind_of(wanted), no_call(wanted));
         }
+        if wanted < 8 {
+            return self.won_on(word, wanted == 7);
+        }
+        if wanted < 10 {
+            return self.with_wind_word(word, wanted == 9);
+        }
+        if wanted == 10 {
+            return self.with_riichi(word);
+        }
+        self.with_dora(word)
     }
 
     // One word more, without blanks.
@@ -470,13 +487,7 @@ impl Said {
         if !self.won {
             return self.faulty(faults::NO_WIN);
         }
-        if self.haitei & !self.tsumo {
-            return self.faulty(faults::HAITEI_RON);
-        }
-        if self.houtei & self.tsumo {
-            return self.faulty(faults::HOUTEI_TSUMO);
-        }
-        self
+        self.faulty(last_tile_fault(self.tsumo, self.haitei, self.houtei))
     }
 
     // The win. Its type and its winds are always in range.

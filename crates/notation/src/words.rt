@@ -24,8 +24,8 @@ const WORDS: [[u8; 13]; 17] = [
     *b"chiihou      ",
 ];
 
-// Other words, numbered behind those: for an open and an added kan, the dealer's seat, the last tile drawn or discarded, riichi, dora; three that say
-// nothing, as the program writes them; and three that ask how to use it.
+// Other words: an open and an added kan, the dealer, the last tile drawn or discarded, double riichi, dora, how to use the program; and three
+// that say nothing, as the program writes them.
 const OTHERS: [[u8; 13]; 14] = [
     *b"daiminkan    ",
     *b"shouminkan   ",
@@ -35,13 +35,16 @@ const OTHERS: [[u8; 13]; 14] = [
     *b"double       ",
     *b"dora         ",
     *b"ura          ",
-    *b"hand:        ",
-    *b"(open)       ",
-    *b"(closed)     ",
     *b"help         ",
     *b"-h           ",
     *b"--help       ",
+    *b"hand:        ",
+    *b"(open)       ",
+    *b"(closed)     ",
 ];
+
+// What each of them means: the number of the known word that says the same, or one behind those.
+const MEANINGS: [usize; 14] = [2, 4, 17, 18, 19, 20, 21, 21, 22, 22, 22, 23, 23, 23];
 
 // The winds, in the order of their tiles.
 const WINDS: [[u8; 13]; 4] = [
@@ -66,6 +69,16 @@ fn any_row(i: usize) -> [u8; 13]
         return WORDS[i];
     }
     OTHERS[i - 17]
+}
+
+// What the known word with a number means.
+fn meaning(i: usize) -> usize
+    requires { ⌜ i < 31 ⌝ }
+{
+    if i < 17 {
+        return i;
+    }
+    MEANINGS[i - 17]
 }
 
 // The row of a wind.
@@ -114,17 +127,16 @@ fn is_row(word: &[u8], row: &[u8; 13]) -> bool {
     true
 }
 
-// The number of a known word: 0 to 16 as `word_row` has them, 17 to 30 for the others; 31 for a word that is not known.
-pub fn known(word: &[u8]) -> usize
-    ensures { λ r. ⌜ r ≤ 31 ⌝ }
-{
+// What a word means: 0 to 16 for the known words as `word_row` has them, then dealer, haitei, houtei, double, dora, help, and nothing; 24 for a
+// word that is not known.
+pub fn known(word: &[u8]) -> usize {
     for i in 0..31 {
         let row = any_row(i);
         if is_row(word, &row) {
-            return i;
+            return meaning(i);
         }
     }
-    31
+    24
 }
 
 // Is the word the first letter of the row?

@@ -1,4 +1,4 @@
--- `known` meets its contract. Assumes nothing.
+-- `known` is safe and ends. Assumes nothing.
 use Prim.Native.Nat.{_≤_, _-_}
 use borrow.Author.Needs.{needs}
 use Rattle.notation.proofs.words.known.Statement.{statement}
@@ -18,6 +18,9 @@ any-row-requires c κs = search needs
 
 is-row-requires : tie.Need-is-row-requires Inv-loop μ-loop
 is-row-requires c κs = search needs
+
+meaning-requires : tie.Need-meaning-requires Inv-loop μ-loop
+meaning-requires c κs = search needs
 
 returns : tie.Need-returns Inv-loop μ-loop
 returns c = search needs
@@ -43,6 +46,7 @@ known-spec =
     loop-holds
     any-row-requires
     is-row-requires
+    meaning-requires
     returns
     add-i
     loop-less
