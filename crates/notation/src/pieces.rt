@@ -6,7 +6,7 @@ ghost use lib.ListN.{length};
 use tile_words::chars;
 use tile_words::faults;
 
-// The most bytes of a word.
+// The most bytes of an argument.
 pub const LONGEST: usize = 512;
 
 // Is it one of four characters?

@@ -1,7 +1,7 @@
 // What the words say: the hand, its calls and the win.
 ghost use mathlib.Core.Path.{_≡_};
 ghost use mathlib.Core.Bool.{true};
-ghost use Prim.Native.Nat.{_≤_, _<_};
+ghost use Prim.Native.Nat.{_+_, _≤_, _<_, min};
 ghost use lib.ListN.{length};
 ghost use Rattle.context.specs.Context.{inRange};
 ghost use Rattle.call_words.specs.Calls.{withCall};
@@ -46,6 +46,19 @@ pub struct Said {
     pub at: usize,
 }
 
+// So many tiles and n more, 137 where there are more than 136.
+fn more_tiles(tiles: usize, n: usize) -> usize
+    ensures { λ r. ⌜ r ≡ min (tiles + n) 137 ⌝ }
+{
+    if 136 < n {
+        return 137;
+    }
+    if 136 - n < tiles {
+        return 137;
+    }
+    tiles + n
+}
+
 // Red fives so far with those of a word, up to 1,000.
 fn more_reds(reds: usize, word: &[u8]) -> usize
     ensures { λ r. ⌜ r ≡ redsWith reds (now (word .entry)) ⌝ }
@@ -77,6 +90,20 @@ fn no_call(wanted: usize) -> u8 {
         1 => faults::NO_CHI,
         2 => faults::NO_PON,
         _ => faults::NO_KAN,
+    }
+}
+
+// The kind of a call in round or square brackets.
+fn bracket_kind(round: bool) -> u8 {
+    if round { 0 } else { 4 }
+}
+
+// What is wrong where there is no such call.
+fn no_bracket_call(round: bool) -> u8 {
+    if round {
+        faults::NO_OPEN_CALL
+    } else {
+        faults::NO_CLOSED_KAN
     }
 }
 
@@ -188,17 +215,15 @@ impl Said {
             return self.no_tiles(word, fault);
         }
         let n = tile_words::named_in(word);
-        if 136 < n {
-            return self.faulty(faults::TOO_MANY);
-        }
-        if 136 - n < self.tiles {
+        let tiles = more_tiles(self.tiles, n);
+        if 136 < tiles {
             return self.faulty(faults::TOO_MANY);
         }
         let mut counts = self.counts;
         tile_words::add_tiles(&mut counts, word);
         let mut said = self;
         said.counts = counts;
-        said.tiles = self.tiles + n;
+        said.tiles = tiles;
         said.reds = more_reds(self.reds, word);
         said
     }
@@ -262,10 +287,7 @@ impl Said {
             return self.looking(from + 1, end - 1)
                 .faulty_at(fault, tile_words::fault_place(tiles));
         }
-        if round {
-            return self.called(tiles, 0, faults::NO_OPEN_CALL);
-        }
-        self.called(tiles, 4, faults::NO_CLOSED_KAN)
+        self.called(tiles, bracket_kind(round), no_bracket_call(round))
     }
 
     // A piece of a word, from a place to an end.
@@ -456,17 +478,22 @@ impl Said {
         if self.fault != 0 {
             return self;
         }
-        if pieces::LONGEST < end - from {
-            return self.looking(from, end).faulty_at(faults::SIZE, from);
-        }
         let mut word = [0u8; 512];
         let n = pieces::joined(&argument[from..end], &mut word);
         self.with_word(&word[..n]).placed(argument, from)
     }
 
+    // An argument of more than 512 bytes is too long.
+    fn fitting(self, size: usize) -> Said {
+        if (pieces::LONGEST < size) & (self.fault == 0) {
+            return self.looking(0, size).faulty(faults::SIZE);
+        }
+        self
+    }
+
     // One argument more, with any number of words. After a fault nothing is looked at.
     pub fn take(self, argument: &[u8]) -> Said {
-        let mut said = self;
+        let mut said = self.fitting(argument.len());
         let mut from = pieces::next_word(argument, 0);
         while from < argument.len() {
             let end = pieces::word_end(argument, from);

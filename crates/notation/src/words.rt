@@ -61,14 +61,21 @@ pub fn word_row(i: usize) -> [u8; 13]
     WORDS[i]
 }
 
+// The row of another word.
+fn other_row(i: usize) -> [u8; 13]
+    requires { ⌜ i < 14 ⌝ }
+{
+    OTHERS[i]
+}
+
 // The row of any known word by its number.
 fn any_row(i: usize) -> [u8; 13]
     requires { ⌜ i < 31 ⌝ }
 {
     if i < 17 {
-        return WORDS[i];
+        return word_row(i);
     }
-    OTHERS[i - 17]
+    other_row(i - 17)
 }
 
 // What the known word with a number means.

@@ -50,17 +50,17 @@ faulty-at-requires c κs = search needs
 returns-2 : tie.Need-returns-2
 returns-2 c = search needs
 
+bracket-kind-requires : tie.Need-bracket-kind-requires
+bracket-kind-requires c κs = search needs
+
+no-bracket-call-requires : tie.Need-no-bracket-call-requires
+no-bracket-call-requires c κs = search needs
+
 called-requires : tie.Need-called-requires
 called-requires c κs = search needs
 
 returns-3 : tie.Need-returns-3
 returns-3 c = search needs
-
-called-requires-2 : tie.Need-called-requires-2
-called-requires-2 c κs = search needs
-
-returns-4 : tie.Need-returns-4
-returns-4 c = search needs
 
 pub bracketed-spec : {M : Type 1} → statement M
 bracketed-spec =
@@ -81,7 +81,7 @@ bracketed-spec =
     fault-place-requires
     faulty-at-requires
     returns-2
+    bracket-kind-requires
+    no-bracket-call-requires
     called-requires
-    returns-3
-    called-requires-2
-    returns-4)
+    returns-3)

@@ -11,6 +11,9 @@ Inv-loop argument said₀ from₀ said from = Unit {0}
 abbrev μ-loop : tie.MeasureT-loop
 μ-loop argument said₀ from₀ said from = length argument - from
 
+fitting-requires : tie.Need-fitting-requires Inv-loop μ-loop
+fitting-requires c κs = search needs
+
 next-word-requires : tie.Need-next-word-requires Inv-loop μ-loop
 next-word-requires c κs = search needs
 
@@ -41,6 +44,7 @@ take-spec =
     (tie.spec
     Inv-loop
     μ-loop
+    fitting-requires
     next-word-requires
     loop-holds
     word-end-requires

@@ -8,18 +8,6 @@ use Rattle.notation.proofs.said.Said.take_word.Tie as tie
 returns : tie.Need-returns
 returns c = search needs
 
-sub-if2 : tie.Need-sub-if2
-sub-if2 c = search needs
-
-looking-requires : tie.Need-looking-requires
-looking-requires c κs = search needs
-
-faulty-at-requires : tie.Need-faulty-at-requires
-faulty-at-requires c κs = search needs
-
-returns-2 : tie.Need-returns-2
-returns-2 c = search needs
-
 sub-joined : tie.Need-sub-joined
 sub-joined c = search needs
 
@@ -44,18 +32,14 @@ with-word-requires c κs = search needs
 placed-requires : tie.Need-placed-requires
 placed-requires c κs = search needs
 
-returns-3 : tie.Need-returns-3
-returns-3 c = search needs
+returns-2 : tie.Need-returns-2
+returns-2 c = search needs
 
 pub take-word-spec : {M : Type 1} → statement M
 take-word-spec =
     tie.close
     (tie.spec
     returns
-    sub-if2
-    looking-requires
-    faulty-at-requires
-    returns-2
     sub-joined
     part-joined-start
     part-joined-end
@@ -64,4 +48,4 @@ take-word-spec =
     slice-aggregate-with-word
     with-word-requires
     placed-requires
-    returns-3)
+    returns-2)
