@@ -8,12 +8,15 @@ ghost use Rattle.scoring.specs.Payment.{paymentAnswer};
 ghost use Rattle.win.specs.Win.{scoreWin, scoreReading, nameWaits};
 ghost use Rattle.answers.specs.Answers.{version, listingAnswer, levelAnswer, paymentValues, scoreValues, waitsValues};
 
+// The version of this interface.
+const VERSION: u32 = 2;
+
 // The version of this interface, for a caller that was written for one.
 #[no_mangle]
 pub extern "C" fn ziwhakemo_version() -> u32
     ensures { λ r. ⌜ r ≡ version ⌝ }
 {
-    2
+    VERSION
 }
 
 // Lists the readings of a finished hand, its calls given by value, into the lent buffer.
