@@ -34,7 +34,9 @@ more-reds-requires : tie.Need-more-reds-requires
 more-reds-requires c κs = search needs
 
 returns-3 : tie.Need-returns-3
-returns-3 c = λ e. record { isWon = refl; how = refl; single = sym (c .before .before .before .named-in .ensures) ∙ c .before .before .if2 .left; tile = c .before .tile-at .ensures; red = c .more-reds .ensures }
+returns-3 c =
+    let n = c .before .before .before .named-in .ensures in
+    λ e. record { isWon = refl; how = refl; single = omega (arith, c .before .before .if2 .left); tile = c .before .tile-at .ensures; red = c .more-reds .ensures }
 
 pub won-on-spec : {M : Type 1} → statement M
 won-on-spec =
