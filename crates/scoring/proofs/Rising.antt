@@ -1,17 +1,21 @@
 -- Levels and basic points: the han and the basic points of each level, and that neither falls where han, fu or a yakuman are added. Assumes nothing.
 use mathlib.Core.Path.{_≡_, refl}
 use mathlib.Core.Logic.{_⊎_, inl, inr, _↔_}
-use mathlib.Core.Bool.{Bool, true, false, _&&_, not}
+use mathlib.Core.Bool.{Bool, true, false, _&&_, _||_, not}
 use Prim.Native.Nat.{ℕ, _+_, _*_, _^_, _<_, _≤_, min}
 use native.Mathlib.Omega.{arith}
 use native.Mathlib.Decide.{decLe}
 use native.Mathlib.Nat.{mul-le-mul, pow-le-pow-right}
-use lib.Dec.{T, eqb, leb, leb→le, le→leb, eqb→eq, lit<}
+use lib.Dec.{T, eqb, leb, leb→le, le→leb, eqb→eq, lit<, lit≤}
 use borrow.Author.Tests.{le-leb, lt-leb, eq-eqb, not-true}
 use Rattle.lists.proofs.Finite.{and-left, and-right, and-both, or-elim, or-left, or-right, true→T, T→true}
 use Rattle.scoring.specs.declared.ScoreLevel.{ScoreLevel}
 use Rattle.scoring.specs.declared.ScoreLevel.the-variants.{Normal, Mangan, Haneman, Baiman, Sanbaiman, Yakuman}
 use Rattle.scoring.specs.Level.{reachesYakuman, reachesSanbaiman, reachesBaiman, reachesHaneman, reachesMangan, highest, yakumanCount, level, place, pointsAt, basicPoints}
+
+-- what Mangan asks, in a rulebook's words
+abbrev pub Reached : ℕ → ℕ → Type 0
+Reached han fu = (5 ≤ han) ⊎ (((4 ≤ han) × (40 ≤ fu)) ⊎ ((3 ≤ han) × (70 ≤ fu)))
 
 -- ---- the han of each level, with any fu
 module _ (han fu : ℕ) where
@@ -46,37 +50,26 @@ module _ (han fu : ℕ) where
   at-least-one h = let e : yakumanCount han ≡ 1 = omega arith in rw e
 
   -- Mangan: 5 han or more; 4 or more with 40 fu; 3 or more with 70 fu
-  pub mangan-reached : T (reachesMangan han fu) ↔ ((5 ≤ han) ⊎ (((4 ≤ han) × (40 ≤ fu)) ⊎ ((3 ≤ han) × (70 ≤ fu))))
-  mangan-reached = (there, back)
+  pub mangan-reached : T (reachesMangan han fu) ↔ Reached han fu
+  mangan-reached = (asked _ _, λ r. answered _ _ (lit≤ tt) r (decLe 5 han) (decLe 4 han))
     where
-      there : T (reachesMangan han fu) → (5 ≤ han) ⊎ (((4 ≤ han) × (40 ≤ fu)) ⊎ ((3 ≤ han) × (70 ≤ fu)))
-      there t =
+      asked : (a b : ℕ) → T (leb 5 han || (eqb han 4 && leb a fu || eqb han 3 && leb b fu)) → (5 ≤ han) ⊎ (((4 ≤ han) × (a ≤ fu)) ⊎ ((3 ≤ han) × (b ≤ fu)))
+      asked a b t =
           or-elim (leb 5 han) _ t
-          (λ a. inl (leb→le 5 han a))
-          (λ b.
-          or-elim (eqb han 4 && leb 40 fu) _ b
-          (λ c. let e : han ≡ 4 = eqb→eq han 4 (and-left (eqb han 4) (leb 40 fu) c) in inr (inl (omega arith, leb→le 40 fu (and-right (eqb han 4) (leb 40 fu) c))))
-          (λ d. let e : han ≡ 3 = eqb→eq han 3 (and-left (eqb han 3) (leb 70 fu) d) in inr (inr (omega arith, leb→le 70 fu (and-right (eqb han 3) (leb 70 fu) d)))))
+          (λ x. inl (leb→le 5 han x))
+          (λ y.
+          or-elim (eqb han 4 && leb a fu) _ y
+          (λ c. let e : han ≡ 4 = eqb→eq han 4 (and-left (eqb han 4) (leb a fu) c) in inr (inl (omega arith, leb→le a fu (and-right (eqb han 4) (leb a fu) c))))
+          (λ d. let e : han ≡ 3 = eqb→eq han 3 (and-left (eqb han 3) (leb b fu) d) in inr (inr (omega arith, leb→le b fu (and-right (eqb han 3) (leb b fu) d)))))
 
-      five : 5 ≤ han → T (reachesMangan han fu)
-      five h = or-left (leb 5 han) _ (le→leb 5 han h)
-
-      four : (4 ≤ han) → (40 ≤ fu) → Dec (5 ≤ han) → T (reachesMangan han fu)
-      four h f (yes l) = five l
-      four h f (no l) =
-          let e : han ≡ 4 = omega arith in
-          or-right (leb 5 han) _ (or-left (eqb han 4 && leb 40 fu) _ (and-both (eqb han 4) _ (true→T _ (eq-eqb han 4 e)) (le→leb 40 fu f)))
-
-      three : (3 ≤ han) → (70 ≤ fu) → Dec (4 ≤ han) → T (reachesMangan han fu)
-      three h f (yes l) = four l (omega arith) (decLe 5 han)
-      three h f (no l) =
-          let e : han ≡ 3 = omega arith in
-          or-right (leb 5 han) _ (or-right (eqb han 4 && leb 40 fu) _ (and-both (eqb han 3) _ (true→T _ (eq-eqb han 3 e)) (le→leb 70 fu f)))
-
-      back : (5 ≤ han) ⊎ (((4 ≤ han) × (40 ≤ fu)) ⊎ ((3 ≤ han) × (70 ≤ fu))) → T (reachesMangan han fu)
-      back (inl h) = five h
-      back (inr (inl h)) = four (h .0) (h .1) (decLe 5 han)
-      back (inr (inr h)) = three (h .0) (h .1) (decLe 4 han)
+      answered :
+          (a b : ℕ) → a ≤ b → (5 ≤ han) ⊎ (((4 ≤ han) × (a ≤ fu)) ⊎ ((3 ≤ han) × (b ≤ fu))) → Dec (5 ≤ han) → Dec (4 ≤ han)
+          → T (leb 5 han || (eqb han 4 && leb a fu || eqb han 3 && leb b fu))
+      answered a b o r (yes l) d = or-left (leb 5 han) _ (le→leb 5 han l)
+      answered a b o (inl h) (no l) d = absurd (l h)
+      answered a b o (inr (inl h)) (no l) d = or-right (leb 5 han) _ (or-left (eqb han 4 && leb a fu) _ (and-both (eqb han 4) _ (true→T _ (eq-eqb han 4 (omega arith))) (le→leb a fu (h .1))))
+      answered a b o (inr (inr h)) (no l) (yes m) = or-right (leb 5 han) _ (or-left (eqb han 4 && leb a fu) _ (and-both (eqb han 4) _ (true→T _ (eq-eqb han 4 (omega arith))) (le→leb a fu (omega arith))))
+      answered a b o (inr (inr h)) (no l) (no m) = or-right (leb 5 han) _ (or-right (eqb han 4 && leb a fu) _ (and-both (eqb han 3) _ (true→T _ (eq-eqb han 3 (omega arith))) (le→leb b fu (h .1))))
 
   -- below six han it is Mangan where that is reached
   pub mangan-below-six : han < 6 → T (reachesMangan han fu) → level han fu false ≡ Mangan
@@ -175,9 +168,7 @@ module _ (han han′ fu fu′ : ℕ) (h : han ≤ han′) (f : fu ≤ fu′) whe
   mangan-rises : T (reachesMangan han fu) → T (reachesMangan han′ fu′)
   mangan-rises t = mangan-reached han′ fu′ .1 (go (mangan-reached han fu .0 t))
     where
-      go :
-          (5 ≤ han) ⊎ (((4 ≤ han) × (40 ≤ fu)) ⊎ ((3 ≤ han) × (70 ≤ fu)))
-          → (5 ≤ han′) ⊎ (((4 ≤ han′) × (40 ≤ fu′)) ⊎ ((3 ≤ han′) × (70 ≤ fu′)))
+      go : Reached han fu → Reached han′ fu′
       go (inl a) = inl (omega arith)
       go (inr (inl a)) = inr (inl (omega arith, omega arith))
       go (inr (inr a)) = inr (inr (omega arith, omega arith))
