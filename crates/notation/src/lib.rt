@@ -2,4 +2,3 @@
 // Nothing is read from outside or written here.
 mod pieces;
 pub mod said;
-pub mod words;

@@ -7,7 +7,6 @@ ghost use Rattle.context.specs.Context.{inRange};
 ghost use Rattle.call_words.specs.Calls.{withCall};
 ghost use Rattle.notation.specs.Said.{redsWith, TilesAdded, WonOn, winOf};
 use crate::pieces;
-use crate::words;
 use tile_words::faults;
 
 // What has been said so far.
@@ -336,7 +335,7 @@ impl Said {
 
     // The word for a wind.
     fn with_wind_word(self, word: &[u8], is_seat: bool) -> Said {
-        let wind = words::wind(word);
+        let wind = known_words::wind(word);
         if 4 <= wind {
             return self.faulty(faults::NO_WIND);
         }
@@ -375,7 +374,7 @@ impl Said {
 
     // The word behind double.
     fn with_riichi(self, word: &[u8]) -> Said {
-        if words::known(word) != 9 {
+        if known_words::known(word) != 9 {
             return self.faulty(faults::NO_RIICHI);
         }
         self.with_flag(1)
@@ -437,7 +436,7 @@ impl Said {
 
     // A word that may be anything.
     fn with_any(self, word: &[u8]) -> Said {
-        let i = words::known(word);
+        let i = known_words::known(word);
         if i < 24 {
             return self.with_known(i);
         }

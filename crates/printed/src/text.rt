@@ -1,6 +1,5 @@
 // Writing to standard output.
 use libc::STDOUT_FILENO;
-use notation::words;
 
 // Writes bytes.
 pub fn say(b: &[u8]) {
@@ -32,7 +31,7 @@ pub fn say_points(n: u64) {
 
 // Writes a row of a table without the spaces at its end.
 pub fn say_row(row: &[u8]) {
-    let n = words::row_length(row);
+    let n = known_words::row_length(row);
     say(&row[..n]);
 }
 

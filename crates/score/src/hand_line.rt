@@ -1,7 +1,6 @@
 // The hand as it was understood, in words that can be given again.
 ghost use Prim.Native.Nat.{_<_};
 use notation::said;
-use notation::words;
 use printed::print;
 use printed::text;
 
@@ -9,7 +8,7 @@ use printed::text;
 pub fn say_word(i: usize)
     requires { ⌜ i < 17 ⌝ }
 {
-    let row = words::word_row(i);
+    let row = known_words::word_row(i);
     text::say_byte(b' ');
     text::say_row(&row);
 }
@@ -59,7 +58,7 @@ fn say_won(s: said::Said) {
 
 // Writes a wind.
 fn say_wind(wind: u8) {
-    let row = words::wind_row((wind % 4) as usize);
+    let row = known_words::wind_row((wind % 4) as usize);
     text::say_row(&row);
 }
 

@@ -4,8 +4,8 @@ use Prim.Native.Nat.{_≤_}
 use lib.ListN.{length}
 use lib.Seq.{length-take-le}
 use borrow.Author.Needs.{needs}
-use Rattle.notation.proofs.words.row_length.Statement.{statement}
-use Rattle.notation.proofs.words.row_length.Tie as tie
+use Rattle.known_words.proofs.row_length.Statement.{statement}
+use Rattle.known_words.proofs.row_length.Tie as tie
 
 abbrev Inv-loop : tie.InvT-loop
 Inv-loop row n₀ n = n ≤ length row

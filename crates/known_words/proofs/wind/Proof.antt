@@ -1,8 +1,8 @@
 -- `wind` meets its contract. Assumes nothing.
 use Prim.Native.Nat.{_≤_, _-_}
 use borrow.Author.Needs.{needs}
-use Rattle.notation.proofs.words.wind.Statement.{statement}
-use Rattle.notation.proofs.words.wind.Tie as tie
+use Rattle.known_words.proofs.wind.Statement.{statement}
+use Rattle.known_words.proofs.wind.Tie as tie
 
 abbrev Inv-loop : tie.InvT-loop
 Inv-loop word i₀ i = i ≤ 4

@@ -3,8 +3,8 @@ use mathlib.Core.Path.{_≡_}
 use Prim.Native.Nat.{_≤_, _-_}
 use lib.ListN.{length}
 use borrow.Author.Needs.{needs}
-use Rattle.notation.proofs.words.is_row.Statement.{statement}
-use Rattle.notation.proofs.words.is_row.Tie as tie
+use Rattle.known_words.proofs.is_row.Statement.{statement}
+use Rattle.known_words.proofs.is_row.Tie as tie
 
 abbrev Inv-loop : tie.InvT-loop
 Inv-loop word row n i₀ i = (i ≤ n) × ((n ≤ 13) × (length word ≡ n))

@@ -1,8 +1,8 @@
 -- `known` is safe and ends. Assumes nothing.
 use Prim.Native.Nat.{_≤_, _-_}
 use borrow.Author.Needs.{needs}
-use Rattle.notation.proofs.words.known.Statement.{statement}
-use Rattle.notation.proofs.words.known.Tie as tie
+use Rattle.known_words.proofs.known.Statement.{statement}
+use Rattle.known_words.proofs.known.Tie as tie
 
 abbrev Inv-loop : tie.InvT-loop
 Inv-loop word i₀ i = i ≤ 29

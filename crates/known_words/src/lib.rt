@@ -1,4 +1,4 @@
-// The words that are known. A row is filled up with spaces, which do not count.
+// The words that the program `score` knows, beside tiles and calls. A row of a table is filled up with spaces, which do not count.
 ghost use mathlib.Core.Path.{_≡_};
 ghost use Prim.Native.Nat.{_≤_, _<_};
 ghost use lib.ListN.{length, take};
