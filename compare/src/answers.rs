@@ -4,7 +4,7 @@ use crate::agari::Record;
 use crate::differences;
 use agari_core::context::{GameContext, WinType};
 use agari_core::hand::{HandStructure, Meld, decompose_hand, decompose_hand_with_melds};
-use agari_core::parse::TileCounts;
+use agari_core::parse::{ParsedHand, TileCounts, parse_hand_with_aka};
 use agari_core::scoring::{
     Payment, ScoreLevel, ScoringResult, calculate_basic_points, calculate_fu, calculate_payment,
     calculate_score, determine_score_level,
@@ -12,6 +12,12 @@ use agari_core::scoring::{
 use agari_core::tile::Tile;
 use agari_core::wait::{WaitType, detect_wait_types};
 use agari_core::yaku::{YakuResult, detect_yaku_with_context};
+
+/// The tiles, calls and red fives that a text names, or nothing where it names none. What the program
+/// for referees reads otherwise is listed where it is compared, in `bin/notation.rs`.
+pub fn parsed(text: &str) -> Option<ParsedHand> {
+    parse_hand_with_aka(text).ok()
+}
 
 /// The readings of a hand in agari's order, some perhaps twice.
 pub fn found(counts: &TileCounts, called: &[Meld]) -> Vec<HandStructure> {

@@ -439,7 +439,10 @@ fn main() -> ExitCode {
                 let fault = if !is_claimed(&row, &specs, &proofs) {
                     "no theorem claims it".into()
                 } else if played.says != played.agari {
-                    format!("it says {}\n    but agari, listed differences put in, {}", played.says, played.agari)
+                    format!(
+                        "it says {}\n    but agari, listed differences put in, {}",
+                        played.says, played.agari
+                    )
                 } else if !seen.insert(row.name.clone()) {
                     "its name stands twice".into()
                 } else {
