@@ -1,9 +1,10 @@
--- Laws of rounding and totals, and the bound of basic points. Assumes nothing.
+-- Laws of rounding, of the ron factor and of totals, and the bound of basic points. Assumes nothing.
 use mathlib.Core.Path.{_≡_, refl}
 use mathlib.Core.Bool.{Bool, true, false, cond}
 use Prim.Native.Nat.{ℕ, _+_, _-_, _*_, _%_, _^_, _<_, _≤_, max}
 use native.Mathlib.Omega.{arith}
 use lib.Dec.{lit≤, lit<}
+use Rattle.lists.specs.Fold.{one}
 use Rattle.scoring.specs.Level.{reachesYakuman, reachesSanbaiman, reachesBaiman, reachesHaneman, reachesMangan, highest, yakumanCount, pointsAt, basicPoints}
 use Rattle.scoring.specs.Payment.{roundUpTo100, payment, totalAt}
 
@@ -19,6 +20,12 @@ round-up-multiple n = omega arith
 
 pub round-up-least : (n k : ℕ) → n ≤ k * 100 → roundUpTo100 n ≤ k * 100
 round-up-least n k h = omega arith
+
+-- ---- the ron factor: how many times the basic points a ron costs the discarder
+-- four plus twice the dealer's 0 or 1 is six for the dealer and four otherwise
+pub ron-factor : (dealer : Bool) → 4 + 2 * one dealer ≡ cond dealer 6 4
+ron-factor true = refl
+ron-factor false = refl
 
 -- ---- totals
 -- what the winner receives at a table of so many players: each payer's amount is rounded up once, after multiplication

@@ -112,6 +112,13 @@ fn round_up_to_100(n: u32) -> u32
     (n + 99) / 100 * 100
 }
 
+// How many times the basic points a ron costs the discarder: four plus twice the dealer's 0 or 1.
+fn ron_factor(is_dealer: bool) -> u32
+    ensures { λ r. ⌜ r ≡ cond «is_dealer» 6 4 ⌝ }
+{
+    4 + 2 * (is_dealer as u32)
+}
+
 // Who pays what for basic points up to 152,000.
 pub fn calculate_payment(basic_points: u32, is_dealer: bool, is_tsumo: bool) -> Payment
     requires { ⌜ «basic_points» ≤ 152000 ⌝ }
@@ -128,13 +135,9 @@ pub fn calculate_payment(basic_points: u32, is_dealer: bool, is_tsumo: bool) -> 
             from_non_dealer: single,
         };
     }
-    if is_dealer {
-        return Payment::Ron {
-            from_discarder: round_up_to_100(basic_points * 6),
-        };
-    }
+    let multiplier = ron_factor(is_dealer);
     Payment::Ron {
-        from_discarder: round_up_to_100(basic_points * 4),
+        from_discarder: round_up_to_100(basic_points * multiplier),
     }
 }
 
