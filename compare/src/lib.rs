@@ -14,6 +14,7 @@ pub mod every;
 pub mod faults;
 pub mod hand;
 pub mod library;
+pub mod machine_code;
 pub mod oracle;
 pub mod points;
 pub mod probe;
