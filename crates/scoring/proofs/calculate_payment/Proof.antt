@@ -39,12 +39,14 @@ ron-factor-requires c κs = tt
 
 mul-round-up-to-100-2 : tie.Need-mul-round-up-to-100-2
 mul-round-up-to-100-2 c =
-    let owed = owed-le (c .before .before .args .basic-points) (c .before .before .args .is-dealer) (c .before .before .pre) (c .ron-factor .ensures) (lit≤ tt) (lit≤ tt) in
+    let basic = c .before .before .pre in
+    let owed = owed-le (c .before .before .args .basic-points) (c .before .before .args .is-dealer) basic (c .ron-factor .ensures) (lit≤ tt) (lit≤ tt) in
     record { fits = omega arith }
 
 round-up-to-100-requires-3 : tie.Need-round-up-to-100-requires-3
 round-up-to-100-requires-3 c κs =
-    let owed = owed-le (c .before .before .args .basic-points) (c .before .before .args .is-dealer) (c .before .before .pre) (c .ron-factor .ensures) (lit≤ tt) (lit≤ tt) in
+    let basic = c .before .before .pre in
+    let owed = owed-le (c .before .before .args .basic-points) (c .before .before .args .is-dealer) basic (c .ron-factor .ensures) (lit≤ tt) (lit≤ tt) in
     omega arith
 
 returns-3 : tie.Need-returns-3
