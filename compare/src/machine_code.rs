@@ -177,6 +177,8 @@ enum Kind<'a> {
     Calculate,
     /// Likewise; of a register and itself it is 0.
     Exclude,
+    /// Likewise, by a number above 0: by a register the flags might stay as they are.
+    Shift,
     /// Likewise, from the flags too.
     Carry,
 }
@@ -194,8 +196,9 @@ fn kind(name: &str) -> Option<Kind<'_>> {
         "test" => Kind::Test,
         "mov" | "movzx" | "movss" | "movsd" | "movlps" | "movups" => Kind::Copy,
         "lea" => Kind::Address,
-        "add" | "sub" | "and" | "or" | "imul" | "shl" | "shr" => Kind::Calculate,
+        "add" | "sub" | "and" | "or" | "imul" => Kind::Calculate,
         "xor" => Kind::Exclude,
+        "shl" | "shr" => Kind::Shift,
         "adc" | "sbb" => Kind::Carry,
         _ if name.starts_with("cmov") => Kind::MoveIf,
         _ if name.starts_with("set") => Kind::SetIf,
@@ -278,6 +281,9 @@ impl State {
                 self.write(written, Known(0))?;
             }
             Kind::Carry => self.calculate(operands, self.flags.arguments())?,
+            Kind::Shift if number(read).is_none_or(|by| by == 0) => {
+                return Err(format!("before {:x}: a shift by {read}", self.place));
+            }
             _ => self.calculate(operands, 0)?,
         }
         Ok(())
@@ -435,6 +441,7 @@ mod tests {
             "jmp    rax",
             "jrcxz  3 <pay+0x3>",
             "add    ah,0x1",
+            "shl    eax,cl",
         ] {
             let text = format!("   0:\t{line}\n   3:\tret");
             assert!(followed(&text, 0).is_err(), "{line}");
