@@ -51,8 +51,11 @@ extern "C" {
  *   2   `number` is a uint32_t in every answer (in ziwhakemo_listing_answer it was a size_t). The
  *       answers of payments and scores have `settlement` after `number`. ziwhakemo_version. The
  *       header ziwhakemo_names.h.
+ *   3   ziwhakemo_name_waits names the wait of thirteen orphans as players do: Kokushi13 where the
+ *       pair is the winning tile, else Tanki. It was the other way round. Nothing else changed, and
+ *       no struct or number.
  */
-#define ZIWHAKEMO_VERSION 2
+#define ZIWHAKEMO_VERSION 3
 
 /* The version of the archive. An archive of version 1 does not have this function. */
 uint32_t ziwhakemo_version(void);
@@ -355,7 +358,8 @@ typedef struct ziwhakemo_waits_answer {
 
 /* Names the waits of the reading with a number, counted from 0. Only a pair, a closed sequence or a
  * closed triplet may have been completed by the winning tile. For thirteen orphans the wait is
- * Tanki where the pair is the winning tile, else Kokushi13. Refuses with 1 to 6, 8, 9, 12. */
+ * Kokushi13 where the pair is the winning tile, as then each of the thirteen would have served, else
+ * Tanki: Kokushi13 stands exactly where the yaku Kokushi13Wait does. Refuses with 1 to 6, 8, 9, 12. */
 ziwhakemo_waits_answer ziwhakemo_name_waits(const uint8_t *counts, size_t counts_length,
                                             const ziwhakemo_meld *calls, size_t calls_length,
                                             ziwhakemo_game_context win, size_t reading);

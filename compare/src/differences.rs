@@ -45,13 +45,21 @@ pub fn in_order(readings: Vec<HandStructure>) -> Vec<(Record, HandStructure)> {
 
 // ---- what a reading scores
 
-/// The waits of a reading.
-pub fn waits(
-    theirs: Vec<WaitType>,
-    _reading: &HandStructure,
-    _winning_tile: Tile,
-) -> Vec<WaitType> {
-    theirs
+/// The waits of a reading. Row 'The wait of thirteen orphans'.
+pub fn waits(theirs: Vec<WaitType>, reading: &HandStructure, winning_tile: Tile) -> Vec<WaitType> {
+    match reading {
+        HandStructure::Kokushi { pair } => vec![orphans_wait(*pair, winning_tile)],
+        HandStructure::Chiitoitsu { .. } | HandStructure::Standard { .. } => theirs,
+    }
+}
+
+/// As document 02 has it: won on the tile that forms the pair Kokushi13, otherwise Tanki.
+fn orphans_wait(pair: Tile, winning_tile: Tile) -> WaitType {
+    if winning_tile == pair {
+        WaitType::Kokushi13
+    } else {
+        WaitType::Tanki
+    }
 }
 
 /// The yaku of a reading, their han, and whether there is a yakuman.

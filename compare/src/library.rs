@@ -1,7 +1,7 @@
 //! The proved library, by its C interface.
 
 /// The version of the interface that is declared here.
-pub const VERSION: u32 = 2;
+pub const VERSION: u32 = 3;
 
 /// The number of yaku tallies: one for each entry of `Yaku`, Yakuhai apart for each honour, without
 /// the three local entries.
@@ -50,6 +50,25 @@ pub struct Win {
 }
 
 impl Win {
+    /// A win by this tile in the mixture of win type, winds and flags with this number.
+    pub fn in_mixture(number: usize, winning_tile: u8) -> Win {
+        let flag = |place: usize| number >> (7 - place) & 1 == 1;
+        Win {
+            win_type: (number >> 8 & 1) as u8,
+            winning_tile,
+            round_wind: 27 + (number >> 11 & 3) as u8,
+            seat_wind: 27 + (number >> 9 & 3) as u8,
+            is_riichi: flag(0),
+            is_double_riichi: flag(1),
+            is_ippatsu: flag(2),
+            is_rinshan: flag(3),
+            is_chankan: flag(4),
+            is_last_tile: flag(5),
+            is_tenhou: flag(6),
+            is_chiihou: flag(7),
+        }
+    }
+
     /// The flags in the order of the fields.
     pub fn flags(&self) -> [bool; 8] {
         [
@@ -237,6 +256,13 @@ pub fn payment(basic_points: u32, is_dealer: bool, win_type: u8) -> PaymentAnswe
 #[cfg(test)]
 mod tests {
     use super::*;
+
+    #[test]
+    fn every_mixture_has_its_number() {
+        for number in 0..MIXTURES {
+            assert_eq!(Win::in_mixture(number, 0).mixture(), number);
+        }
+    }
 
     #[test]
     fn the_archive_is_of_this_version() {

@@ -8,7 +8,7 @@ use std::time::Duration;
 const USAGE: &str = "usage: compare readings [--seed N] [--random N] [--suit] [--mixed SECONDS]
        compare points
        compare scores [--seed N] [--wins N]
-       compare wins [--seed N] [--random N] [--suit]
+       compare wins [--seed N] [--random N] [--suit] [--orphans]
        compare twins [--seed N] [--random N]";
 const SEED: u64 = 1;
 const RANDOM_HANDS: u64 = 5_000_000;
@@ -67,15 +67,17 @@ fn compare_scores(words: &[&str]) -> Option<u64> {
 
 /// Where no class is named, all are compared.
 fn compare_wins(words: &[&str]) -> Option<u64> {
-    let given = Options::read(words, &["--seed", "--random"], &["--suit"])?;
+    let given = Options::read(words, &["--seed", "--random"], &["--suit", "--orphans"])?;
     let mut options = scored_wins::Options {
         seed: given.number("--seed").unwrap_or(SEED),
         random: given.number("--random"),
         suit: given.has("--suit"),
+        orphans: given.has("--orphans"),
     };
-    if options.random.is_none() && !options.suit {
+    if options.random.is_none() && !options.suit && !options.orphans {
         options.random = Some(RANDOM_WINS);
         options.suit = true;
+        options.orphans = true;
     }
     Some(scored_wins::compare(&options))
 }

@@ -250,11 +250,16 @@ pub fn near_seven_pairs(rng: &mut Rng) -> Hand {
 
 /// Thirteen orphans.
 pub fn orphans(rng: &mut Rng) -> Hand {
+    orphans_with(rng.pick(&ORPHANS))
+}
+
+/// Thirteen orphans with this one doubled.
+pub fn orphans_with(pair: usize) -> Hand {
     let mut hand = Hand::empty();
     for tile in ORPHANS {
         hand.counts[tile] = 1;
     }
-    hand.counts[rng.pick(&ORPHANS)] = 2;
+    hand.counts[pair] = 2;
     hand
 }
 

@@ -2,7 +2,7 @@
 
 use crate::every::{hand_of, suit_counts};
 use crate::hand::*;
-use crate::library::{RON, TSUMO, Win};
+use crate::library::{MIXTURES, RON, TSUMO, Win};
 use crate::random;
 use crate::rng::Rng;
 use crate::win_checker::WinChecker;
@@ -20,6 +20,7 @@ pub struct Options {
     pub seed: u64,
     pub random: Option<u64>,
     pub suit: bool,
+    pub orphans: bool,
 }
 
 /// Compares the classes that are asked for, and answers the number of inputs that differ.
@@ -32,6 +33,11 @@ pub fn compare(options: &Options) -> u64 {
         total.add(&run(&mut checker, title, |checker| {
             compare_suits(checker, seed)
         }));
+    }
+    if options.orphans {
+        let title = "every hand of thirteen orphans, won by each of the 34 tiles, in each mixture of \
+                     win type, winds and flags";
+        total.add(&run(&mut checker, title, compare_orphans));
     }
     if let Some(wins) = options.random {
         let title = format!("random wins, seed {seed}");
@@ -73,6 +79,19 @@ fn compare_suits(checker: &mut WinChecker, seed: u64) {
                     checker.check(&hand, &plain, &expected.won(&hand, &plain));
                     checker.check(&hand, &drawn, &expected.won(&hand, &drawn));
                 }
+            }
+        }
+    }
+}
+
+/// A tile that is not among the thirteen is refused, and compared too.
+fn compare_orphans(checker: &mut WinChecker) {
+    for hand in random::ORPHANS.map(random::orphans_with) {
+        let expected = ExpectedHand::of(&hand);
+        for tile in 0..KINDS as u8 {
+            for mixture in 0..MIXTURES {
+                let win = Win::in_mixture(mixture, tile);
+                checker.check(&hand, &win, &expected.won(&hand, &win));
             }
         }
     }

@@ -187,6 +187,17 @@ mod tests {
     }
 
     #[test]
+    fn the_wait_of_orphans_is_named_as_document_02_has_it() {
+        let orphans = Hand::written("19m19p19s12345677z");
+        let waits = |tile| ExpectedWin::of(&orphans, &ron(tile)).name_waits(0).waits;
+        assert_eq!(waits(33), [0, 0, 0, 0, 0, 1]);
+        assert_eq!(waits(MAN_1), [0, 0, 0, 0, 1, 0]);
+        let pairs = Hand::written("112233m44p556677z");
+        let expected = ExpectedWin::of(&pairs, &ron(33));
+        assert_eq!(expected.name_waits(0).waits, [0, 0, 0, 0, 1, 0]);
+    }
+
+    #[test]
     fn checks_come_in_their_order() {
         let short = Hand::written("1235m456p234678s");
         let hand = Hand::written("12355m456p234678s");

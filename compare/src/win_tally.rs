@@ -3,9 +3,11 @@
 use crate::agari_scores::{WAIT_ENTRIES, YAKU_ENTRIES};
 use crate::faults::{FaultTally, add_each, listed_from};
 use crate::hand::{Hand, KINDS};
-use crate::library::{MIXTURES, Score, TSUMO, Waits, Win};
+use crate::library::{MIXTURES, Score, TSUMO, WAITS, Waits, Win};
 use crate::score_tally::named;
 use crate::win_oracle::{CHECKS, ExpectedWin};
+use agari_core::wait::WaitType;
+use agari_core::yaku::Yaku;
 use std::fmt;
 
 const OPERATIONS: [&str; 3] = ["score_win", "score_reading", "name_waits"];
@@ -24,6 +26,12 @@ pub const SETTLEMENTS: [&str; 4] = ["ron", "ron to the dealer", "tsumo", "tsumo 
 /// The rules of the choice.
 pub const RULES: [&str; 5] = ["total", "yakuman", "han", "fu", "earlier record"];
 
+/// How thirteen orphans are named, by wait and by yaku.
+const ORPHANS: [&str; 3] = [
+    "Kokushi13 and Kokushi13Wait",
+    "Tanki and KokushiMusou",
+    "otherwise",
+];
 const RANGES: [&str; 3] = ["win type", "round wind", "seat wind"];
 const ABSENCES: [&str; 3] = ["above 33", "in a call alone", "nowhere"];
 
@@ -57,6 +65,8 @@ pub struct WinTally {
     calls: [u64; 5],
     /// Whether each mixture of win type, winds and flags occurred in them.
     mixtures: Vec<bool>,
+    /// Their readings as thirteen orphans, by wait and yaku.
+    orphans: [u64; ORPHANS.len()],
     /// Scored wins by level, by settlement, and by the rule that decided where there was a choice.
     levels: [u64; LEVELS.len()],
     settlements: [u64; SETTLEMENTS.len()],
@@ -77,6 +87,7 @@ impl Default for WinTally {
             readings: [0; 6],
             calls: [0; 5],
             mixtures: vec![false; MIXTURES],
+            orphans: [0; ORPHANS.len()],
             levels: [0; LEVELS.len()],
             settlements: [0; SETTLEMENTS.len()],
             rules: [0; RULES.len()],
@@ -120,6 +131,11 @@ impl WinTally {
         self.readings[expected.scores.len().min(5)] += 1;
         self.calls[hand.calls.count] += 1;
         self.mixtures[win.mixture()] = true;
+        for (score, waits) in expected.scores.iter().zip(&expected.waits) {
+            if let Some(named) = orphans_named(score, waits) {
+                self.orphans[named] += 1;
+            }
+        }
         let score = expected.score_win();
         if score.number == 0 {
             self.count_score(win, &score);
@@ -173,10 +189,30 @@ impl WinTally {
         for (mine, other) in self.mixtures.iter_mut().zip(&other.mixtures) {
             *mine |= other;
         }
+        add_each(&mut self.orphans, &other.orphans);
         add_each(&mut self.levels, &other.levels);
         add_each(&mut self.settlements, &other.settlements);
         add_each(&mut self.rules, &other.rules);
         self.not_first += other.not_first;
+    }
+}
+
+/// The place of a reading among the names of thirteen orphans; nothing where it is none of these.
+fn orphans_named(score: &Score, waits: &[u8; WAITS]) -> Option<usize> {
+    let has = |yaku| {
+        let place = YAKU_ENTRIES.iter().position(|entry| *entry == yaku);
+        place.is_some_and(|place| score.tallies[place] > 0)
+    };
+    let only = |wait| {
+        let tallies = WAIT_ENTRIES.map(|entry| u8::from(entry == wait));
+        *waits == tallies
+    };
+    let yaku = [Yaku::Kokushi13Wait, Yaku::KokushiMusou].map(has);
+    match yaku {
+        [false, false] => (waits[WaitType::Kokushi13 as usize] > 0).then_some(2),
+        [true, false] if only(WaitType::Kokushi13) => Some(0),
+        [false, true] if only(WaitType::Tanki) => Some(1),
+        _ => Some(2),
     }
 }
 
@@ -202,6 +238,8 @@ impl fmt::Display for WinTally {
             f,
             "    mixtures of win type, winds and flags: {seen} of {MIXTURES}"
         )?;
+        let orphans = counted(&ORPHANS, &self.orphans);
+        writeln!(f, "    readings as thirteen orphans: {orphans}")?;
         let levels = counted(&LEVELS, &self.levels);
         writeln!(f, "  scored wins by level: {levels}")?;
         writeln!(

@@ -187,7 +187,8 @@ static const won waits[] = {
     {"123678m456p789s22p", "", "3m 12", "Penchan"},
     {"123m456p789s55p111z", "", "1z 12", "Shanpon"},
     {"123678m456p789s22z", "", "2z 12", "Tanki"},
-    {"119m19p19s1234567z", "", "9m 12", "Kokushi13"}
+    {"119m19p19s1234567z", "", "9m 12", "Tanki"},
+    {"119m19p19s1234567z", "", "1m 12", "Kokushi13"}
 };
 
 static void wait_names(void) {

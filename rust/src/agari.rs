@@ -2,7 +2,8 @@
 //!
 //! These signatures have no place for a [`Refusal`](crate::Refusal): what the library refuses is an
 //! empty list or `false` here, and each function names the checked one that says why. Readings are
-//! each once, in the order of records, and waits in the order of [`WaitType::ALL`].
+//! each once, in the order of records, and waits in the order of [`WaitType::ALL`], those of thirteen
+//! orphans as players name them.
 //!
 //! The levels and basic points of han and fu need no other signature, and stand here too.
 //!
@@ -94,6 +95,7 @@ pub fn validate_hand(tiles: &[Tile]) -> Result<(), String> {
 }
 
 /// The waits of a reading. Its melds may stand in any order; kans and open melds are its calls.
+/// Of thirteen orphans Kokushi13 on the pair's tile, else Tanki, where agari answers the other name.
 ///
 /// Empty where the winning tile is not in the hand, and where this is no reading of a hand that the
 /// library reads. Checked: [`detect_wait_types`](crate::detect_wait_types), which takes the reading by

@@ -4,7 +4,7 @@
 use crate::OTHER_VERSION;
 
 /// The version of the interface that is declared here: `ZIWHAKEMO_VERSION` of the header.
-pub const VERSION: u32 = 2;
+pub const VERSION: u32 = 3;
 
 /// A meld: the number of its lowest tile, and its kind.
 #[repr(C)]
@@ -137,7 +137,7 @@ pub fn version() -> u32 {
     ziwhakemo_version()
 }
 
-/// Stops where the archive is of another version: its answers may be laid out otherwise.
+/// Stops where the archive is of another version: its answers may be laid out or meant otherwise.
 fn check_version() {
     assert!(version() == VERSION, "{OTHER_VERSION}");
 }

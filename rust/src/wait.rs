@@ -17,9 +17,10 @@ pub enum WaitType {
     Penchan,
     /// Wait of two pairs, one of which becomes a triplet
     Shanpon,
-    /// Pair wait
+    /// Pair wait; of thirteen orphans, the one tile missing, where the pair was there
     Tanki,
-    /// As agari names it: thirteen orphans, won on another tile than that of the pair
+    /// Thirteen orphans, won on the tile that makes the pair: any of the thirteen would have served.
+    /// It stands where the yaku `Kokushi13Wait` does. agari has the two names the other way round
     Kokushi13,
 }
 

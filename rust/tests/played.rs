@@ -3,7 +3,7 @@
 
 mod common;
 
-use common::{counts, ron, tile, tsumo};
+use common::{counts, ron, tile, tiles, tsumo};
 use ziwhakemo::*;
 
 const PINFU: &str = "12355m456p234678s";
@@ -203,13 +203,31 @@ fn waits() {
     // man 234 three times: each of them may have been completed.
     let several = waits("222333444m567p88s", ron("2m"));
     assert_eq!(several, [WaitType::Ryanmen; 3]);
-    // As agari names them.
-    assert_eq!(waits(ORPHANS, ron("1m")), [WaitType::Tanki]);
-    assert_eq!(waits(ORPHANS, ron("9m")), [WaitType::Kokushi13]);
+    // As players name them, and agari the other way round.
+    assert_eq!(waits(ORPHANS, ron("1m")), [WaitType::Kokushi13]);
+    assert_eq!(waits(ORPHANS, ron("9m")), [WaitType::Tanki]);
     // An open sequence gives no wait: of sou 678 twice, only the closed one may have been completed.
     let open = [Meld::shuntsu_open(tile("6s"))];
     let named = detect_wait_types(&counts("55m456p234678s"), &open, &ron("8s"), 0);
     assert_eq!(named, Ok(vec![WaitType::Ryanmen]));
+}
+
+#[test]
+fn the_wait_of_thirteen_orphans_tells_what_their_yaku_tells() {
+    let orphans = tiles("19m19p19s1234567z");
+    for &pair in &orphans {
+        let hand = to_counts(&[&orphans[..], &[pair]].concat()).unwrap();
+        for &winning_tile in &orphans {
+            let context = ron("1m").with_winning_tile(winning_tile);
+            let waits = detect_wait_types(&hand, &[], &context, 0).unwrap();
+            let yaku = score_win(&hand, &[], &context).unwrap().yaku_result;
+            let (wait, named) = match winning_tile == pair {
+                true => (WaitType::Kokushi13, Yaku::Kokushi13Wait),
+                false => (WaitType::Tanki, Yaku::KokushiMusou),
+            };
+            assert_eq!((waits, yaku.yaku_list), (vec![wait], vec![named]));
+        }
+    }
 }
 
 #[test]

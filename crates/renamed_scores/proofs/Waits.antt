@@ -81,7 +81,7 @@ waits-renamed ρ t h (pairs ps) v =
     ap (λ (b : Bool). 0 ∷ 0 ∷ 0 ∷ 0 ∷ one b ∷ 0 ∷ [])
     (pairs-any ρ ps v (eqb t) (eqb (ren ρ t)) (λ u k. ren-eqb ρ t u h k))
 waits-renamed ρ t h (orphans p) v =
-    ap (λ (b : Bool). 0 ∷ 0 ∷ 0 ∷ 0 ∷ one b ∷ one (not b) ∷ []) (ren-eqb ρ t p h (ltb→lt p 34 v))
+    ap (λ (b : Bool). 0 ∷ 0 ∷ 0 ∷ 0 ∷ one (not b) ∷ one b ∷ []) (ren-eqb ρ t p h (ltb→lt p 34 v))
 waits-renamed ρ t h (standard p ms) v =
     let mv = sorted-moved ρ ms (and-right (ltb p 34) (all isMeld ms) v) in
     let k : p < 34 = ltb→lt p 34 (and-left (ltb p 34) (all isMeld ms) v) in

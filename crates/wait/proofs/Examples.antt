@@ -158,12 +158,12 @@ pub pairs-no-kanchan : waits (man 2) sevenPairs ≡ tally 0 0 0 0 0 0
 unfolding waits
 pairs-no-kanchan = refl
 
--- thirteen orphans, in agari's words: Tanki where the winning tile is the doubled one, else Kokushi13
-pub orphans-doubled : waits East (orphans East) ≡ tally 0 0 0 0 1 0
+-- thirteen orphans: Kokushi13 where the winning tile is the doubled one, else Tanki
+pub orphans-doubled : waits East (orphans East) ≡ tally 0 0 0 0 0 1
 unfolding waits
 orphans-doubled = refl
 
-pub orphans-other : waits (man 1) (orphans East) ≡ tally 0 0 0 0 0 1
+pub orphans-other : waits (man 1) (orphans East) ≡ tally 0 0 0 0 1 0
 unfolding waits
 orphans-other = refl
 

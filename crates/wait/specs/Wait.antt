@@ -36,11 +36,11 @@ closedRun q t m = eqb (m .kind) 0 && q t (m .tile)
 abbrev pub closedTriplet : ℕ → Meld → Bool
 closedTriplet t m = eqb (m .kind) 2 && eqb t (m .tile)
 
--- a tally for each entry of WaitType: Ryanmen, Kanchan, Penchan, Shanpon, Tanki, Kokushi13. For thirteen orphans agari calls the wait on
--- the doubled tile Tanki and any other Kokushi13, the other way round than players do (docs/DIFFERENCES.md); the yaku are named rightly
+-- a tally for each entry of WaitType: Ryanmen, Kanchan, Penchan, Shanpon, Tanki, Kokushi13. Thirteen orphans that are won on the doubled tile
+-- had one of each and waited for any of the thirteen: Kokushi13. Won on another tile they had the pair and waited for the one missing: Tanki
 unfoldable pub waits : ℕ → Reading → List ℕ
 waits t (pairs ps) = 0 ∷ 0 ∷ 0 ∷ 0 ∷ one (any (eqb t) ps) ∷ 0 ∷ []
-waits t (orphans p) = 0 ∷ 0 ∷ 0 ∷ 0 ∷ one (eqb t p) ∷ one (not (eqb t p)) ∷ []
+waits t (orphans p) = 0 ∷ 0 ∷ 0 ∷ 0 ∷ one (not (eqb t p)) ∷ one (eqb t p) ∷ []
 waits t (standard p ms) =
     count (closedRun twoSided t) ms
     ∷ count (closedRun middle t) ms

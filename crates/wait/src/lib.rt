@@ -134,7 +134,8 @@ fn in_pairs(pairs: [u8; 7], t: u8) -> bool
                 | ((t == pairs[3]) | ((t == pairs[4]) | ((t == pairs[5]) | (t == pairs[6]))))))
 }
 
-// A tally for each wait that the winning tile can have completed: Ryanmen, Kanchan, Penchan, Shanpon, Tanki, Kokushi13.
+// A tally for each wait that the winning tile can have completed: Ryanmen, Kanchan, Penchan, Shanpon, Tanki, Kokushi13. Of
+// thirteen orphans Kokushi13 on the pair's tile, else Tanki, which agari has the other way round.
 pub fn detect_wait_types(h: structure::Hand, winning_tile: tile::Tile) -> [u8; 6]
     ensures { λ r. ⌜ r ≡ waits («winning_tile» .0) (readingOf h) ⌝ }
 {
@@ -152,14 +153,10 @@ pub fn detect_wait_types(h: structure::Hand, winning_tile: tile::Tile) -> [u8; 6
             0,
         ],
         structure::HandStructure::Chiitoitsu => [0, 0, 0, 0, one_if(in_pairs(pairs, t)), 0],
-        structure::HandStructure::Kokushi { pair } => [
-            0,
-            0,
-            0,
-            0,
-            one_if(t == pair.0),
-            one_if(!(t == pair.0)),
-        ],
+        structure::HandStructure::Kokushi { pair } => {
+            let doubled = t == pair.0;
+            [0, 0, 0, 0, one_if(!doubled), one_if(doubled)]
+        }
     }
 }
 

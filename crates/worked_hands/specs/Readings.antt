@@ -218,13 +218,13 @@ waitsSevenPairs =
     waiting (hand (mans 1122 ++ pins 3344 ++ sous 5566 ++ (Red ∷ Red ∷ []))) [] (ron Red)
     ((Tanki ∷ []) ∷ [])
 
--- thirteen orphans, by agari's names: Tanki where the pair is the winning tile, else Kokushi13, the other way round than players do
+-- thirteen orphans: Kokushi13 where the pair is the winning tile, else Tanki
 abbrev pub waitsOrphansPair : Row
 waitsOrphansPair =
     waiting (hand (man 1 ∷ orphanTiles)) [] (ron (man 1))
-    ((Tanki ∷ []) ∷ [])
+    ((Kokushi13 ∷ []) ∷ [])
 
 abbrev pub waitsOrphansOther : Row
 waitsOrphansOther =
     waiting (hand (man 1 ∷ orphanTiles)) [] (ron (man 9))
-    ((Kokushi13 ∷ []) ∷ [])
+    ((Tanki ∷ []) ∷ [])

@@ -7,5 +7,6 @@ pub mod Examples
 pub mod Counted
 pub mod HanTable
 pub mod Excludes
+pub mod Orphans
 pub mod Closed
 pub mod Pinfu

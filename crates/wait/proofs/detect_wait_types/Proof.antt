@@ -59,7 +59,7 @@ returns-2 c = simp (c .before .before .enum-told .given .1, c .before .in-pairs 
 
 returns-3 : tie.Need-returns-3
 unfolding waits
-returns-3 c = simp (c .before .before .before .before .before .s2 .given .1, c .before .before .one-if3 .ensures .0, c .one-if4 .ensures .0)
+returns-3 c = simp (c .before .before .before .before .s2 .given .1, c .before .one-if3 .ensures .0, c .one-if4 .ensures .0)
 
 pub detect-wait-types-spec : {M : Type 1} → statement M
 detect-wait-types-spec =
