@@ -8,7 +8,7 @@ use native.Mathlib.Omega.{arith}
 use lib.Dec.{T, eqb, eqb→eq, eqb-refl}
 use lib.ListN.{getD}
 use Rattle.lists.specs.Fold.{allBelow, any, count, one}
-use Rattle.lists.proofs.Finite.{and-left, and-both, at, one-le, or-left, or-right, T-eq, T→true}
+use Rattle.lists.proofs.Finite.{and-left, and-both, at, one-le, or-left, or-right, T-eq, T→true, true→T}
 use Rattle.lists.proofs.Members.{all-intro, any-elim}
 use Rattle.tile.specs.Tile.{isTerminalOrHonor, tiles}
 use Rattle.tile.proofs.Tiles.{in-tiles, tile-lt}
@@ -121,18 +121,18 @@ module _ (c : ℕ → ℕ) (p : ℕ) (k : p < 34) (s : T (isOrphans c p)) (t : �
   unfolding waits
   kokushi13-means = go (eqb t p) refl
     where
-      go : (b : Bool) → eqb t p ≡ b → one b ≡ one (eqb (sides c t) 13)
-      go true e = sym (ap (λ (n : ℕ). one (eqb n 13)) (all-sides (eqb→eq t p (subst T (sym e) tt))))
-      go false e = sym (ap (λ (n : ℕ). one (eqb n 13)) (one-side e))
+      go : (b : Bool) → eqb t p ≡ b → kokushi13In (waits t (orphans p)) ≡ one (eqb (sides c t) 13)
+      go true e = rw (e, all-sides (eqb→eq t p (true→T (eqb t p) e))) refl
+      go false e = rw (e, one-side e) refl
 
   -- Tanki: this tile alone
   pub tanki-means : tankiIn (waits t (orphans p)) ≡ one (eqb (sides c t) 1)
   unfolding waits
   tanki-means = go (eqb t p) refl
     where
-      go : (b : Bool) → eqb t p ≡ b → one (not b) ≡ one (eqb (sides c t) 1)
-      go true e = sym (ap (λ (n : ℕ). one (eqb n 1)) (all-sides (eqb→eq t p (subst T (sym e) tt))))
-      go false e = sym (ap (λ (n : ℕ). one (eqb n 1)) (one-side e))
+      go : (b : Bool) → eqb t p ≡ b → tankiIn (waits t (orphans p)) ≡ one (eqb (sides c t) 1)
+      go true e = rw (e, all-sides (eqb→eq t p (true→T (eqb t p) e))) refl
+      go false e = rw (e, one-side e) refl
 
 -- ---- Kokushi13 is a wait of thirteen orphans alone
 pub pairs-not-kokushi13 : (t : ℕ) (ps : List ℕ) → kokushi13In (waits t (pairs ps)) ≡ 0
