@@ -358,8 +358,9 @@ typedef struct ziwhakemo_waits_answer {
 
 /* Names the waits of the reading with a number, counted from 0. Only a pair, a closed sequence or a
  * closed triplet may have been completed by the winning tile. For thirteen orphans the wait is
- * Kokushi13 where the pair is the winning tile, as then each of the thirteen would have served, else
- * Tanki: Kokushi13 stands exactly where the yaku Kokushi13Wait does. Refuses with 1 to 6, 8, 9, 12. */
+ * Kokushi13 where the pair is the winning tile, as each of the thirteen would have served then, else
+ * Tanki; so ZIWHAKEMO_WAIT_KOKUSHI_13 is tallied exactly where ZIWHAKEMO_YAKU_KOKUSHI_13_WAIT is.
+ * Refuses with 1 to 6, 8, 9, 12. */
 ziwhakemo_waits_answer ziwhakemo_name_waits(const uint8_t *counts, size_t counts_length,
                                             const ziwhakemo_meld *calls, size_t calls_length,
                                             ziwhakemo_game_context win, size_t reading);
