@@ -32,11 +32,11 @@ abbrev pub inPlace : (ℕ → ℕ) → ℕ → ℕ → ℕ → ℕ
 inPlace c t x u = c u - one (eqb u t) + one (eqb u x)
 
 -- with x they would have been thirteen orphans too, whichever of them doubled
-abbrev pub serves : (ℕ → ℕ) → ℕ → ℕ → Bool
+unfoldable pub serves : (ℕ → ℕ) → ℕ → ℕ → Bool
 serves c t x = any (isOrphans (inPlace c t x)) tiles
 
 -- for how many tiles it waited as thirteen orphans
-abbrev pub sides : (ℕ → ℕ) → ℕ → ℕ
+unfoldable pub sides : (ℕ → ℕ) → ℕ → ℕ
 sides c t = count (serves c t) tiles
 
 -- ---- tests and counts over a list
@@ -64,6 +64,7 @@ module _ (c : ℕ → ℕ) (p : ℕ) (k : p < 34) (s : T (isOrphans c p)) (t : �
   completed :
       (x q : ℕ) → T (isTerminalOrHonor q) → q < 34 → ((u : ℕ) → u < 34 → inPlace c t x u ≡ one (isTerminalOrHonor u) + one (eqb u q))
       → T (serves c t x)
+  unfolding serves
   completed x q o k e =
       any-intro (isOrphans (inPlace c t x)) (in-tiles q k)
       (and-both (isTerminalOrHonor q) _ o
@@ -72,6 +73,7 @@ module _ (c : ℕ → ℕ) (p : ℕ) (k : p < 34) (s : T (isOrphans c p)) (t : �
   -- ---- the doubled tile came last: each of the thirteen would have served
   module _ (last : t ≡ p) where
     thirteen : (x : ℕ) → x < 34 → serves c t x ≡ isTerminalOrHonor x
+    unfolding serves
     thirteen x k = T-eq (serves c t x) (isTerminalOrHonor x) orphan (λ o. completed x x o k (λ u l. let e = exact u l in omega (arith, one-le (eqb u t))))
       where
         exact : (u : ℕ) → u < 34 → c u ≡ one (isTerminalOrHonor u) + one (eqb u t)
@@ -87,11 +89,13 @@ module _ (c : ℕ → ℕ) (p : ℕ) (k : p < 34) (s : T (isOrphans c p)) (t : �
             go q o false f e = let g = ap one (T→true (eqb x x) (eqb-refl x)) in absurd (omega (arith, exact x k))
 
     all-sides : sides c t ≡ 13
+    unfolding sides
     all-sides = count-on (serves c t) isTerminalOrHonor tiles (λ x i. thirteen x (tile-lt i)) ∙ orphans-13
 
   -- ---- another tile came last: it alone would have served
   module _ (other : eqb t p ≡ false) where
     alone : (x : ℕ) → serves c t x ≡ eqb t x
+    unfolding serves
     alone x = T-eq (serves c t x) (eqb t x) only (λ e. subst (λ (n : ℕ). T (serves c t n)) (eqb→eq t x e) again)
       where
         missing : c t ≡ one (isTerminalOrHonor t)
@@ -114,6 +118,7 @@ module _ (c : ℕ → ℕ) (p : ℕ) (k : p < 34) (s : T (isOrphans c p)) (t : �
             go false n e = absurd (omega (arith, itself, missing))
 
     one-side : sides c t ≡ 1
+    unfolding sides
     one-side = count-on (serves c t) (eqb t) tiles (λ x i. alone x) ∙ eqb→eq (count (eqb t) tiles) 1 (at 34 (λ t. eqb (count (eqb t) tiles) 1) one-of-each-test t h)
 
   -- Kokushi13: thirteen tiles would have served
