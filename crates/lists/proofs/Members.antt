@@ -9,7 +9,7 @@ use lib.ListN.{length, length-append, getD, take}
 use lib.Dec.{T}
 use Rattle.lists.specs.Fold.{all, any, flat}
 use Rattle.lists.specs.Order.{Nodup}
-use Rattle.lists.proofs.Finite.{and-left, and-right, and-both, or-elim}
+use Rattle.lists.proofs.Finite.{and-left, and-right, and-both, or-elim, or-left, or-right}
 
 module _ {A : Type 0} where
   pub perm-mem : {a : A} {l m : List A} → List·Permᴰ l m → List·Memᴰ a l → List·Memᴰ a m
@@ -111,6 +111,11 @@ module _ {A : Type 0} where
 
   pub all-append : (p : A → Bool) (l m : List A) → T (all p l) → T (all p m) → T (all p (l ++ m))
   all-append p l m s t = all-intro p (l ++ m) (λ a i. ⊎-elim (all-mem p s) (all-mem p t) (List·Memᴰ·append-cases l i))
+
+  -- where an element passes the test
+  pub any-of : (p : A → Bool) {l : List A} {a : A} → List·Memᴰ a l → T (p a) → T (any p l)
+  any-of p (List·Memᴰ·head {x = x} e) t = or-left (p x) _ (subst (λ (b : A). T (p b)) e t)
+  any-of p (List·Memᴰ·tail {x = x} i) t = or-right (p x) _ (any-of p i t)
 
   -- an element that passes the test
   pub any-elim : (p : A → Bool) (l : List A) → T (any p l) → (a : A) × List·Memᴰ a l × T (p a)

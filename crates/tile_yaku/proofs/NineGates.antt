@@ -12,7 +12,7 @@ use lib.Dec.{T, eqb, leb, ltb, eqb→eq, eqb-refl, leb→le, le→leb, ltb→lt}
 use Rattle.lists.specs.Fold.{all, allBelow, any, one, sum, total}
 use Rattle.lists.specs.Order.{Nodup}
 use Rattle.lists.proofs.Finite.{and-left, and-both, at, true→T}
-use Rattle.lists.proofs.Members.{all-mem, all-intro, any-elim, map-members}
+use Rattle.lists.proofs.Members.{all-mem, all-intro, any-elim, map-members, any-of}
 use Rattle.lists.proofs.Arranged.{any-mem}
 use Rattle.lists.proofs.Sums.{sum-plus}
 use Rattle.tile.specs.Tile.{isTerminal, tiles}
@@ -20,7 +20,7 @@ use Rattle.tile.specs.Named.{mans}
 use Rattle.tile.proofs.Tiles.{in-tiles, tile-lt, tiles-nodup}
 use Rattle.hand.specs.Named.{ofTiles}
 use Rattle.tile_yaku.specs.Tiles.{suits, ofSuit, chinitsu, gate, nineGates, pureWait}
-use Rattle.tile_yaku.proofs.Rules.{any-of, means-chinitsu}
+use Rattle.tile_yaku.proofs.Rules.{means-chinitsu}
 use Rattle.tile_yaku.proofs.Totals.{sum-mono, one-tile, nine-gates-fourteen}
 
 -- ---- two functions of which one is never below the other

@@ -1,24 +1,18 @@
 -- What the yaku of all tiles mean of each tile that is there, and how they stand to each other: which imply and which exclude which. Assumes nothing.
 use mathlib.Core.Path.{_≡_, refl, sym, subst}
 use mathlib.Core.Bool.{Bool, true, false, _&&_, _||_, not}
-use mathlib.Core.List.{List, List·Memᴰ, List·Memᴰ·head, List·Memᴰ·tail}
 use Prim.Native.Nat.{ℕ, _+_, _<_, _≤_}
 use native.Mathlib.Omega.{arith}
 use borrow.Author.Tests.{eqb-false}
 use lib.Dec.{T, T-not, not-T, eqb, leb, ltb, eqb→eq, eqb-refl, leb→le, le→leb, ltb→lt}
 use Rattle.lists.specs.Fold.{all, any, one}
-use Rattle.lists.proofs.Finite.{at, and-left, and-right, and-both, or-elim, or-left, or-right, or-skip}
-use Rattle.lists.proofs.Members.{all-mem, all-intro, any-elim}
+use Rattle.lists.proofs.Finite.{at, and-left, and-right, and-both, or-elim, or-left, or-skip}
+use Rattle.lists.proofs.Members.{all-mem, all-intro, any-of, any-elim}
 use Rattle.lists.proofs.Arranged.{any-mem}
 use Rattle.tile.specs.Tile.{isHonor, isSimple, isSuited, isTerminal, isTerminalOrHonor, tiles}
 use Rattle.tile.proofs.Tiles.{in-tiles, tile-lt}
 use Rattle.tile_yaku.specs.Tiles.{only, some, tanyao, honroutou, tsuuiisou, chinroutou, suits, ofSuit, oneSuit, honitsu, chinitsu}
 use Rattle.tile_yaku.proofs.Questions.{only-neither}
-
--- a member that passes a test
-pub any-of : {A : Type 0} (p : A → Bool) {l : List A} {a : A} → List·Memᴰ a l → T (p a) → T (any p l)
-any-of p (List·Memᴰ·head {x = x} e) t = or-left (p x) _ (subst (λ (b : _). T (p b)) e t)
-any-of p (List·Memᴰ·tail {x = x} i) t = or-right (p x) _ (any-of p i t)
 
 -- ---- each tile that is there, and some tile that is there
 module _ (c : ℕ → ℕ) where

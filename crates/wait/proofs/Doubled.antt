@@ -1,15 +1,16 @@
 -- What the wait of thirteen orphans means: for how many tiles they waited before the win, for thirteen where the doubled tile came last and
 -- else for one; and no other reading has the thirteen-sided wait. Assumes nothing.
-use mathlib.Core.Path.{_≡_, refl, sym, subst, ap, ap₂, _∙_}
-use mathlib.Core.Bool.{Bool, true, false, not}
-use mathlib.Core.List.{List, [], _∷_, List·Memᴰ, List·Memᴰ·head, List·Memᴰ·tail}
+use mathlib.Core.Path.{_≡_, refl, sym, subst, ap, _∙_}
+use mathlib.Core.Bool.{Bool, true, false}
+use mathlib.Core.List.{List}
 use Prim.Native.Nat.{ℕ, _+_, _-_, _≤_, _<_}
 use native.Mathlib.Omega.{arith}
+use borrow.Author.Tests.{eq-eqb}
 use lib.Dec.{T, eqb, eqb→eq, eqb-refl}
 use lib.ListN.{getD}
-use Rattle.lists.specs.Fold.{allBelow, any, count, one}
-use Rattle.lists.proofs.Finite.{and-left, and-both, at, one-le, or-left, or-right, T-eq, T→true, true→T}
-use Rattle.lists.proofs.Members.{all-intro, any-elim}
+use Rattle.lists.specs.Fold.{allBelow, any, count, one, total}
+use Rattle.lists.proofs.Finite.{and-left, and-both, at, one-le, T-eq, T→true, true→T}
+use Rattle.lists.proofs.Members.{all-intro, any-of, any-elim, map-members}
 use Rattle.tile.specs.Tile.{isTerminalOrHonor, tiles}
 use Rattle.tile.proofs.Tiles.{in-tiles, tile-lt}
 use Rattle.tile.proofs.Examples.{orphans-13}
@@ -39,21 +40,14 @@ serves c t x = any (isOrphans (inPlace c t x)) tiles
 unfoldable pub sides : (ℕ → ℕ) → ℕ → ℕ
 sides c t = count (serves c t) tiles
 
--- ---- tests and counts over a list
-module _ {A : Type 0} where
-  any-intro : (p : A → Bool) {l : List A} {a : A} → List·Memᴰ a l → T (p a) → T (any p l)
-  any-intro p (List·Memᴰ·head {x = x} e) t = or-left (p x) _ (subst (λ (b : A). T (p b)) e t)
-  any-intro p (List·Memᴰ·tail {x = x} i) t = or-right (p x) _ (any-intro p i t)
+-- how many tiles serve is how many pass a test that says the same of each
+served : (q : ℕ → Bool) (c : ℕ → ℕ) (t : ℕ) → ((x : ℕ) → x < 34 → serves c t x ≡ q x) → sides c t ≡ count q tiles
+unfolding sides
+served q c t f = ap total (map-members (λ x. one (serves c t x)) (λ x. one (q x)) tiles (λ x i. ap one (f x (tile-lt i))))
 
-  count-on : (p q : A → Bool) (l : List A) → ((a : A) → List·Memᴰ a l → p a ≡ q a) → count p l ≡ count q l
-  count-on p q [] f = refl
-  count-on p q (a ∷ l) f = ap₂ (λ (b : Bool) (n : ℕ). one b + n) (f a (List·Memᴰ·head refl)) (count-on p q l (λ b i. f b (List·Memᴰ·tail i)))
-
+-- each tile is one of the 34, once
 one-of-each-test : T (allBelow 34 (λ t. eqb (count (eqb t) tiles) 1))
 one-of-each-test = tt
-
-equal : (n m : ℕ) → n ≡ m → T (eqb n m)
-equal n m e = subst (λ (k : ℕ). T (eqb n k)) e (eqb-refl n)
 
 -- ---- thirteen orphans with the tile p doubled, won on one of their tiles
 module _ (c : ℕ → ℕ) (p : ℕ) (k : p < 34) (s : T (isOrphans c p)) (t : ℕ) (h : t < 34) (held : 1 ≤ c t) where
@@ -66,9 +60,9 @@ module _ (c : ℕ → ℕ) (p : ℕ) (k : p < 34) (s : T (isOrphans c p)) (t : �
       → T (serves c t x)
   unfolding serves
   completed x q o k e =
-      any-intro (isOrphans (inPlace c t x)) (in-tiles q k)
+      any-of (isOrphans (inPlace c t x)) (in-tiles q k)
       (and-both (isTerminalOrHonor q) _ o
-      (all-intro (λ u. eqb (inPlace c t x u) (one (isTerminalOrHonor u) + one (eqb u q))) tiles (λ u i. equal _ _ (e u (tile-lt i)))))
+      (all-intro (λ u. eqb (inPlace c t x u) (one (isTerminalOrHonor u) + one (eqb u q))) tiles (λ u i. true→T _ (eq-eqb _ _ (e u (tile-lt i))))))
 
   -- ---- the doubled tile came last: each of the thirteen would have served
   module _ (last : t ≡ p) where
@@ -89,8 +83,7 @@ module _ (c : ℕ → ℕ) (p : ℕ) (k : p < 34) (s : T (isOrphans c p)) (t : �
             go q o false f e = let g = ap one (T→true (eqb x x) (eqb-refl x)) in absurd (omega (arith, exact x k))
 
     all-sides : sides c t ≡ 13
-    unfolding sides
-    all-sides = count-on (serves c t) isTerminalOrHonor tiles (λ x i. thirteen x (tile-lt i)) ∙ orphans-13
+    all-sides = served isTerminalOrHonor c t thirteen ∙ orphans-13
 
   -- ---- another tile came last: it alone would have served
   module _ (other : eqb t p ≡ false) where
@@ -118,8 +111,7 @@ module _ (c : ℕ → ℕ) (p : ℕ) (k : p < 34) (s : T (isOrphans c p)) (t : �
             go false n e = absurd (omega (arith, itself, missing))
 
     one-side : sides c t ≡ 1
-    unfolding sides
-    one-side = count-on (serves c t) (eqb t) tiles (λ x i. alone x) ∙ eqb→eq (count (eqb t) tiles) 1 (at 34 (λ t. eqb (count (eqb t) tiles) 1) one-of-each-test t h)
+    one-side = served (eqb t) c t (λ x l. alone x) ∙ eqb→eq (count (eqb t) tiles) 1 (at 34 (λ t. eqb (count (eqb t) tiles) 1) one-of-each-test t h)
 
   -- Kokushi13: thirteen tiles would have served
   pub kokushi13-means : kokushi13In (waits t (orphans p)) ≡ one (eqb (sides c t) 13)
