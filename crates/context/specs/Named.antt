@@ -1,4 +1,5 @@
--- Wins as players name them: how, on which tile, in which round and seat, with which flags. These are definitions.
+-- Wins as players name them: how, on which tile, in which round and seat, with which flags. The room gives four fu for the pair of the double
+-- wind, where nothing else is said. These are definitions.
 use mathlib.Core.Bool.{Bool}
 use mathlib.Core.List.{List, []}
 use Prim.Native.Nat.{ℕ}
@@ -48,6 +49,7 @@ win winType t round seat fs =
       «is_last_tile» = flagged fs lastTile;
       «is_tenhou» = flagged fs tenhou;
       «is_chiihou» = flagged fs chiihou;
+      «double_wind_fu» = 4;
     }
 
 -- a win with flags of the seat South in the round East, and of the dealer there

@@ -1,6 +1,6 @@
-// The win (context.rs of agari): how it was won, the winning tile, the winds, and the flags.
+// The win (context.rs of agari): how it was won, the winning tile, the winds, the flags, and a setting of the room.
 ghost use mathlib.Core.Path.{_≡_};
-ghost use Rattle.context.specs.Context.{isTsumo, isDealer, inRange, renWin};
+ghost use Rattle.context.specs.Context.{isTsumo, isDealer, isSetting, inRange, renWin};
 
 #[repr(C)]
 pub struct GameContext {
@@ -18,6 +18,8 @@ pub struct GameContext {
     pub is_last_tile: bool,
     pub is_tenhou: bool,
     pub is_chiihou: bool,
+    // the room's fu for a pair that is both round and seat wind: 4 or 2
+    pub double_wind_fu: u8,
 }
 
 impl GameContext {
@@ -35,13 +37,20 @@ impl GameContext {
         self.seat_wind == 27
     }
 
-    // Are the win type and both winds in range?
+    // Is the setting for the pair of the double wind four or two?
+    fn has_setting(self) -> bool
+        ensures { λ r. ⌜ r ≡ isSetting (self .«double_wind_fu») ⌝ }
+    {
+        (self.double_wind_fu == 4) | (self.double_wind_fu == 2)
+    }
+
+    // Are the win type, both winds and the room's setting in range?
     pub fn is_in_range(self) -> bool
         ensures { λ r. ⌜ r ≡ inRange self ⌝ }
     {
         let round = tile::Tile(self.round_wind);
         let seat = tile::Tile(self.seat_wind);
-        (self.win_type < 2) & (round.is_wind() & seat.is_wind())
+        (self.win_type < 2) & (round.is_wind() & (seat.is_wind() & self.has_setting()))
     }
 
     // The win under a renaming: only the winning tile is renamed.

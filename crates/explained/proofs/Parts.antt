@@ -19,6 +19,7 @@ use Rattle.structure.proofs.Short.{Short}
 use Rattle.wait.specs.Wait.{weight, pinfu}
 use Rattle.wait.specs.Concealed.{spared}
 use Rattle.fu.specs.Fu.{meldFu, pairFu, waitFu, winFu, roundUpTo10, atLeast30, pinfuFu, standardFu, fu}
+use Rattle.fu.proofs.DoubleWind.{no-pair-fu}
 use Rattle.reading_score.specs.Score.{result, scoreOf}
 use Rattle.explained.specs.declared.breakdown.FuBreakdown.{FuBreakdown}
 use Rattle.explained.specs.Breakdown.{menzenRonFu, tsumoFu, pinfuParts, meldsFu, unrounded, countedParts, breakdown, meldFuAt, partsSum}
@@ -81,11 +82,11 @@ module _ (w : GameContext) (opened : Bool) (p : ℕ) (ms : List Meld) (h : pinfu
   unfolding pinfu
   no-melds-fu = sym (runs-none w (spared w ms) ms (and-left (all isSequence ms) _ (and-right (not opened) _ (true→T _ h))))
 
-  no-pair-fu : 0 ≡ pairFu w p
+  pair-without-fu : 0 ≡ pairFu w p
   unfolding pinfu
-  no-pair-fu =
-      let none = eqb→eq (weight w p) 0 (and-left (eqb (weight w p) 0) _ (and-right (all isSequence ms) _ (and-right (not opened) _ (true→T _ h)))) in
-      omega arith
+  pair-without-fu =
+      sym (no-pair-fu w p
+      (eqb→eq (weight w p) 0 (and-left (eqb (weight w p) 0) _ (and-right (all isSequence ms) _ (and-right (not opened) _ (true→T _ h))))))
 
 -- ---- each part of a pair and four melds
 module _ (w : GameContext) (opened : Bool) (p : ℕ) (ms : List Meld) where
@@ -121,7 +122,7 @@ module _ (w : GameContext) (opened : Bool) (p : ℕ) (ms : List Meld) where
   pair-part = go (pinfu w opened (standard p ms)) refl
     where
       go : (flat : Bool) → pinfu w opened (standard p ms) ≡ flat → parts flat .pair ≡ pairFu w p
-      go true e = no-pair-fu w opened p ms e
+      go true e = pair-without-fu w opened p ms e
       go false e = refl
 
   -- 2 for a tsumo and 2 for a close wait, but none for either in a pinfu

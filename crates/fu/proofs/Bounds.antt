@@ -18,8 +18,8 @@ use Rattle.hand.specs.Reading.{Reading, pairs, orphans, standard}
 use Rattle.structure.proofs.Short.{Short}
 use Rattle.wait.specs.Wait.{pinfu}
 use Rattle.wait.specs.Concealed.{concealed, spared}
-use Rattle.wait.proofs.Waits.{weight-le}
 use Rattle.fu.specs.Fu.{setFu, meldFu, pairFu, closeWait, waitFu, winFu, baseFu, roundUpTo10, pinfuFu, standardFu, fu}
+use Rattle.fu.proofs.DoubleWind.{pair-fu-le}
 
 -- the products of a triplet's or a kan's fu are bytes
 pub set-fits : (base kan closed : ℕ) → base ≤ 4 → kan ≤ 4 → closed ≤ 2 → (kan * closed ≤ 8) × (base * (kan * closed) ≤ 32)
@@ -57,7 +57,7 @@ unfolding standardFu
 standardFu-le w opened p ms h =
     let a = sum-le (meldFu w (spared w ms)) 32 (meldFu-le w (spared w ms)) ms in
     let b = winFu-le (isTsumo w) opened in
-    let c = weight-le w p in
+    let c = pair-fu-le w p in
     let d = waitFu-le w p ms in
     let e = pinfuFu-le (isTsumo w) in
     let n = roundUpTo10 (baseFu w opened + sum (meldFu w (spared w ms)) ms + pairFu w p + waitFu w p ms) in

@@ -4,6 +4,7 @@ use mathlib.Core.Bool.{true, false}
 use mathlib.Core.List.{[], _∷_}
 use Rattle.tile.specs.Named.{man, pin, sou, East, South, West, North, White, Red}
 use Rattle.meld.specs.Named.{run, triplet, chi, pon, closedKan, openKan, addedKan}
+use Rattle.context.specs.Context.{inRoom}
 use Rattle.context.specs.Named.{win, dealerWins, ron, tsumo, byRon, byTsumo}
 use Rattle.hand.specs.Reading.{pairs, orphans, standard}
 use Rattle.wait.specs.Wait.{pinfu}
@@ -84,7 +85,7 @@ triplet-beside-called-sequence = refl
 pub triplet-beside-other-sequence : meldFu (ron (man 1)) (spared (ron (man 1)) (run (man 2) ∷ triplet (man 1) ∷ [])) (triplet (man 1)) ≡ 4
 triplet-beside-other-sequence = refl
 
--- ---- the pair: 2 for a dragon, 2 for the round wind, 2 for the seat wind
+-- ---- the pair: 2 for a dragon, 2 for the round wind, 2 for the seat wind; for both winds what the room gives
 pub dragon-pair : pairFu (ron (man 9)) Red ≡ 2
 dragon-pair = refl
 
@@ -99,6 +100,20 @@ double-wind-pair = refl
 
 pub double-south-pair : pairFu (win byTsumo (man 9) South South []) South ≡ 4
 double-south-pair = refl
+
+-- 2 in a room that gives two
+pub double-wind-at-two : pairFu (inRoom 2 (dealerWins byRon (man 9) [])) East ≡ 2
+double-wind-at-two = refl
+
+pub double-south-at-two : pairFu (inRoom 2 (win byTsumo (man 9) South South [])) South ≡ 2
+double-south-at-two = refl
+
+-- the others have there what they have elsewhere
+pub dragon-pair-at-two : pairFu (inRoom 2 (dealerWins byRon (man 9) [])) Red ≡ 2
+dragon-pair-at-two = refl
+
+pub seat-wind-at-two : pairFu (inRoom 2 (ron (man 9))) South ≡ 2
+seat-wind-at-two = refl
 
 pub other-wind-pair : pairFu (ron (man 9)) West ≡ 0
 other-wind-pair = refl
@@ -201,6 +216,29 @@ wind-pair-ron = refl
 pub kanchan-ron : fu (ron (sou 7)) false (standard (man 5) (run (man 1) ∷ run (pin 4) ∷ run (sou 2) ∷ run (sou 6) ∷ [])) ≡ 40
 unfolding fu standardFu pinfu
 kanchan-ron = refl
+
+-- man 222, pin 456, sou 345678 and a pair of East, the dealer's tsumo in the round East on pin 5: 22, 4 for the triplet, 2 for the wait, and
+-- for the pair 4 or 2: 32 are 40, and 30 are 30
+pub double-wind-tsumo : fu (dealerWins byTsumo (pin 5) []) false (standard East (triplet (man 2) ∷ run (pin 4) ∷ run (sou 3) ∷ run (sou 6) ∷ [])) ≡ 40
+unfolding fu standardFu pinfu
+double-wind-tsumo = refl
+
+pub double-wind-tsumo-at-two :
+    fu (inRoom 2 (dealerWins byTsumo (pin 5) [])) false (standard East (triplet (man 2) ∷ run (pin 4) ∷ run (sou 3) ∷ run (sou 6) ∷ [])) ≡ 30
+unfolding fu standardFu pinfu
+double-wind-tsumo-at-two = refl
+
+-- by ron 40 and 38, both 40: rounding hides it
+pub double-wind-ron-at-two :
+    fu (inRoom 2 (dealerWins byRon (pin 5) [])) false (standard East (triplet (man 2) ∷ run (pin 4) ∷ run (sou 3) ∷ run (sou 6) ∷ [])) ≡ 40
+unfolding fu standardFu pinfu
+double-wind-ron-at-two = refl
+
+-- with a pair of the double wind alone, an open hand has 22 or 24, taken for 30
+pub double-wind-open-at-two :
+    fu (inRoom 2 (dealerWins byRon (sou 8) [])) true (standard East (chi (man 1) ∷ run (pin 4) ∷ run (sou 2) ∷ run (sou 6) ∷ [])) ≡ 30
+unfolding fu standardFu pinfu
+double-wind-open-at-two = refl
 
 -- four sequences, one of them called: 20 are taken for 30
 pub open-sequences : fu (ron (sou 8)) true (standard (man 5) (chi (man 1) ∷ run (pin 4) ∷ run (sou 2) ∷ run (sou 6) ∷ [])) ≡ 30

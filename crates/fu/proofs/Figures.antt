@@ -4,14 +4,13 @@ use mathlib.Core.Path.{_≡_, refl, ap}
 use mathlib.Core.Logic.{_⊎_, inl, inr}
 use mathlib.Core.Bool.{Bool, true, false, _||_, not, cond}
 use mathlib.Core.List.{List, [], _∷_}
-use Prim.Native.Nat.{ℕ, _+_, _%_, _<_, _≤_}
+use Prim.Native.Nat.{ℕ, _+_, _%_, _≤_}
 use native.Mathlib.Omega.{arith}
-use native.Mathlib.Decide.{decLe}
 use lib.Dec.{T, eqb, lit≤}
-use borrow.Author.Tests.{eq-eqb, ne-eqb, lt-leb, not-true}
+use borrow.Author.Tests.{eq-eqb, ne-eqb, not-true}
 use Rattle.lists.specs.Fold.{any, sum}
-use Rattle.lists.proofs.Finite.{T→true, true→T, or-left, or-right, one-le}
-use Rattle.tile.specs.Tile.{isDragon, isTerminalOrHonor}
+use Rattle.lists.proofs.Finite.{T→true, true→T, or-left, or-right}
+use Rattle.tile.specs.Tile.{isTerminalOrHonor}
 use Rattle.meld.specs.declared.Meld.{Meld}
 use Rattle.meld.specs.Meld.{isKan, isSequence}
 use Rattle.meld.specs.Named.{run, triplet, chi, pon, closedKan, openKan, addedKan}
@@ -118,17 +117,6 @@ meld-figures w kept m = go (isSequence m)
         ⊎ T (any (eqb (cond b 0 (setFu (isTerminalOrHonor (m .tile)) (isKan m) (concealed w kept m)))) (2 ∷ 4 ∷ 8 ∷ 16 ∷ 32 ∷ []))
     go true = inl refl
     go false = inr (set-figures (isTerminalOrHonor (m .tile)) (isKan m) (concealed w kept m))
-
--- ---- the pair: at most 4, where round and seat wind are winds
-pub pair-fu-le : (w : GameContext) (p : ℕ) → w .«round_wind» < 31 → w .«seat_wind» < 31 → pairFu w p ≤ 4
-pair-fu-le w p r s = go (decLe 31 p)
-  where
-    go : Dec (31 ≤ p) → pairFu w p ≤ 4
-    go (yes l) =
-        rw (ne-eqb p (w .«round_wind») (λ e. omega arith), ne-eqb p (w .«seat_wind») (λ e. omega arith)) (let h = one-le (isDragon p) in omega arith)
-    go (no l) =
-        rw (lt-leb 31 p (omega arith))
-        (let a = one-le (eqb p (w .«round_wind»)) in let b = one-le (eqb p (w .«seat_wind»)) in omega arith)
 
 -- ---- a reading
 -- what is left when the parts are summed to n: pinfu's figure, or n rounded up, in an open hand at least 30

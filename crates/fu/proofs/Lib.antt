@@ -1,3 +1,4 @@
+pub mod DoubleWind
 pub mod Bounds
 pub mod Figures
 pub mod Examples

@@ -21,9 +21,17 @@ setFu outer kan hidden = cond outer 4 2 * (cond kan 4 1 * cond hidden 2 1)
 abbrev pub meldFu : GameContext → Bool → Meld → ℕ
 meldFu w kept m = cond (isSequence m) 0 (setFu (isTerminalOrHonor (m .tile)) (isKan m) (concealed w kept m))
 
--- 2 for a pair of dragons, 2 for the round wind, 2 for the seat wind
+-- a pair of the double wind: it is both the round wind and the seat wind
+abbrev pub doubleWind : GameContext → ℕ → Bool
+doubleWind w p = eqb p (w .«round_wind») && eqb p (w .«seat_wind»)
+
+-- what a room gives for it: 2 where its setting is two, else 4
+abbrev pub doubleWindFu : GameContext → ℕ
+doubleWindFu w = cond (eqb (w .«double_wind_fu») 2) 2 4
+
+-- 2 for each way in which the pair counts, as a dragon, as the round wind, as the seat wind; but for both winds what the room gives
 abbrev pub pairFu : GameContext → ℕ → ℕ
-pairFu w p = 2 * weight w p
+pairFu w p = cond (doubleWind w p) (doubleWindFu w) (2 * weight w p)
 
 -- 2 for a wait on the pair, on an edge or in the middle
 abbrev pub closeWait : GameContext → ℕ → List Meld → Bool

@@ -37,15 +37,17 @@ pub fn melds_fu(ms: [meld::Meld; 4], w: context::GameContext, kept: bool) -> u8
             + (meld_fu_with_context(ms[2], w, kept) + meld_fu_with_context(ms[3], w, kept)))
 }
 
-// The fu of a pair: 2 for each time that it counts, so 4 for a wind that is both round and seat wind.
+// The fu of a pair: 2 for each time that it counts, but for a wind that is both round and seat wind what the room's setting says.
 pub fn pair_fu(pair: u8, w: context::GameContext) -> u8
-    ensures { λ r. ⌜ (r ≡ pairFu w pair) × (r ≤ 6) ⌝ }
+    ensures { λ r. ⌜ (r ≡ pairFu w pair) × (r ≤ 4) ⌝ }
 {
+    if (pair == w.round_wind) & (pair == w.seat_wind) {
+        return pick(w.double_wind_fu == 2, 2, 4);
+    }
     match wait::weight(w, pair) {
         0 => 0,
         1 => 2,
-        2 => 4,
-        _ => 6,
+        _ => 4,
     }
 }
 
@@ -93,7 +95,7 @@ fn at_least_30(n: u8) -> u8
 
 // Fu rounded up to 10; an open hand has at least 30.
 pub fn rounded_fu(n: u8, opened: bool) -> u8
-    requires { ⌜ n ≤ 166 ⌝ }
+    requires { ⌜ n ≤ 164 ⌝ }
     ensures { λ r. ⌜ r ≡ atLeast30 opened (roundUpTo10 n) ⌝ }
 {
     let up = (n + 9) / 10 * 10;
@@ -105,7 +107,7 @@ pub fn rounded_fu(n: u8, opened: bool) -> u8
 
 // The fu of a pair and four melds that are no pinfu, before rounding.
 pub fn raw_fu(ms: [meld::Meld; 4], pair: u8, w: context::GameContext, opened: bool) -> u8
-    ensures { λ r. ⌜ (r ≡ baseFu w opened + sum (meldFu w (spared w ms)) ms + pairFu w pair + waitFu w pair ms) × (r ≤ 166) ⌝ }
+    ensures { λ r. ⌜ (r ≡ baseFu w opened + sum (meldFu w (spared w ms)) ms + pairFu w pair + waitFu w pair ms) × (r ≤ 164) ⌝ }
 {
     let kept = wait::winning_tile_in_closed_sequence(ms, w);
     let melds = melds_fu(ms, w, kept);

@@ -139,7 +139,7 @@ const REFUSALS: [[u8; 53]; 12] = [
     *b"hand and calls together hold more than four of a kind",
     *b"the hand has not the right number of tiles           ",
     *b"the records need more bytes than were lent           ",
-    *b"win type or a wind out of range                      ",
+    *b"win type, a wind or the room's setting out of range  ",
     *b"the winning tile is not in the hand                  ",
     *b"the hand has no reading                              ",
     *b"no reading has a yaku                                ",

@@ -1,3 +1,4 @@
 pub mod Fits
 pub mod Ranks
 pub mod Examples
+pub mod Rooms

@@ -1,6 +1,6 @@
 -- A reading and its renamed one have the same fu. Assumes nothing.
 use mathlib.Core.Path.{_≡_, refl, ap, ap₂, _∙_}
-use mathlib.Core.Bool.{Bool, true, false, _||_, cond}
+use mathlib.Core.Bool.{Bool, true, false, _&&_, _||_, cond}
 use mathlib.Core.List.{List, map}
 use Prim.Native.Nat.{ℕ, _+_, _*_, _<_}
 use lib.Dec.{T, ltb, ltb→lt}
@@ -21,10 +21,10 @@ use Rattle.hand.specs.Reading.{Reading, pairs, orphans, standard}
 use Rattle.renamed.specs.Renamed.{renReading}
 use Rattle.renamed.proofs.Records.{isReading}
 use Rattle.wait.specs.Concealed.{spared}
-use Rattle.fu.specs.Fu.{meldFu, waitFu, baseFu, roundUpTo10, atLeast30, standardFu, fu}
+use Rattle.fu.specs.Fu.{meldFu, doubleWindFu, pairFu, waitFu, baseFu, roundUpTo10, atLeast30, standardFu, fu}
 use Rattle.renamed_scores.proofs.Moved.{sorted-moved}
 use Rattle.wait.proofs.Renamed.{ren-edge, ren-middle}
-use Rattle.renamed_scores.proofs.Waits.{ren-weight, ren-spared, ren-concealed, pinfu-renamed}
+use Rattle.renamed_scores.proofs.Waits.{round-eqb, seat-eqb, ren-weight, ren-spared, ren-concealed, pinfu-renamed}
 
 module _ (ρ : Renaming) (w : GameContext) (h : w .«winning_tile» < 34) where
   -- ---- one meld: a triplet or kan is of terminals or honors where the renamed one is
@@ -54,6 +54,11 @@ module _ (ρ : Renaming) (w : GameContext) (h : w .«winning_tile» < 34) where
         (ap₂ _||_ (ren-eqb ρ (w .«winning_tile») p h k)
         (ap₂ _||_ (any-moved mv _ _ (ren-edge ρ (w .«winning_tile») h)) (any-moved mv _ _ (ren-middle ρ (w .«winning_tile») h))))
 
+-- ---- the pair, in rooms of equal setting
+pair-fu : (ρ : Renaming) (w : GameContext) → T (inRange w) → (p : ℕ) → p < 34 → pairFu (renWin ρ w) (ren ρ p) ≡ pairFu w p
+pair-fu ρ w winds p k =
+    λ i. cond (round-eqb ρ w winds p k i && seat-eqb ρ w winds p k i) (doubleWindFu w) (2 * ren-weight ρ w winds p k i)
+
 -- ---- a reading
 pub fu-renamed :
     (ρ : Renaming) (w : GameContext) → T (inRange w) → w .«winning_tile» < 34 → (opened : Bool) (r : Reading) → T (isReading r)
@@ -67,6 +72,6 @@ fu-renamed ρ w winds h opened (standard p ms) v =
     let k : p < 34 = ltb→lt p 34 (and-left (ltb p 34) (all isMeld ms) v) in
     let melds = melds-fu ρ w h ms ns mv in
     let wait = wait-fu ρ w h ms ns mv p k in
-    let counts = ren-weight ρ w winds p k in
+    let pair = pair-fu ρ w winds p k in
     λ i. cond (pinfu-renamed ρ w winds h opened (standard p ms) v i) (cond (isTsumo w) 20 30)
-    (atLeast30 opened (roundUpTo10 (baseFu w opened + melds i + 2 * counts i + wait i)))
+    (atLeast30 opened (roundUpTo10 (baseFu w opened + melds i + pair i + wait i)))

@@ -18,6 +18,7 @@ use Rattle.meld.specs.Renamed.{renMeld}
 use Rattle.meld.proofs.Renamed.{set-eqb, Moved, all-moved, any-moved, count-moved}
 use Rattle.context.specs.declared.GameContext.{GameContext}
 use Rattle.context.specs.Context.{inRange, isDealer, isTsumo, renWin}
+use Rattle.context.proofs.Range.{round-in, seat-in}
 use Rattle.hand.specs.Reading.{Reading, pairs, orphans, standard}
 use Rattle.renamed.specs.Renamed.{renReading}
 use Rattle.renamed.proofs.Records.{isReading}
@@ -34,14 +35,11 @@ wind-eqb : (ρ : Renaming) (t u : ℕ) → t < 34 → T (isWind u) → eqb (ren 
 wind-eqb ρ t u h k = ap (eqb (ren ρ t)) (sym (wind-stays ρ u (wind-lt u k) k)) ∙ ren-eqb ρ t u h (wind-lt u k)
 
 module _ (ρ : Renaming) (w : GameContext) (winds : T (inRange w)) where
-  both-winds : T (isWind (w .«round_wind») && isWind (w .«seat_wind»))
-  both-winds = and-right (ltb (w .«win_type») 2) _ winds
+  pub round-eqb : (t : ℕ) → t < 34 → eqb (ren ρ t) (renWin ρ w .«round_wind») ≡ eqb t (w .«round_wind»)
+  round-eqb t h = wind-eqb ρ t (w .«round_wind») h (round-in w winds)
 
-  round-eqb : (t : ℕ) → t < 34 → eqb (ren ρ t) (renWin ρ w .«round_wind») ≡ eqb t (w .«round_wind»)
-  round-eqb t h = wind-eqb ρ t (w .«round_wind») h (and-left (isWind (w .«round_wind»)) _ both-winds)
-
-  seat-eqb : (t : ℕ) → t < 34 → eqb (ren ρ t) (renWin ρ w .«seat_wind») ≡ eqb t (w .«seat_wind»)
-  seat-eqb t h = wind-eqb ρ t (w .«seat_wind») h (and-right (isWind (w .«round_wind»)) _ both-winds)
+  pub seat-eqb : (t : ℕ) → t < 34 → eqb (ren ρ t) (renWin ρ w .«seat_wind») ≡ eqb t (w .«seat_wind»)
+  seat-eqb t h = wind-eqb ρ t (w .«seat_wind») h (seat-in w winds)
 
   pub ren-isDealer : isDealer (renWin ρ w) ≡ isDealer w
   ren-isDealer = refl

@@ -7,6 +7,7 @@ use lib.Dec.{T}
 use Rattle.tile.specs.Named.{man, pin, sou, East, South, West, North, White, Green, Red}
 use Rattle.meld.specs.declared.Meld.{Meld}
 use Rattle.meld.specs.Named.{run, triplet, chi, pon, closedKan, openKan, addedKan}
+use Rattle.context.specs.Context.{inRoom}
 use Rattle.context.specs.Named.{win, dealerWins, ron, tsumo, byRon}
 use Rattle.hand.specs.Reading.{Reading, pairs, orphans, standard}
 use Rattle.wait.specs.Wait.{twoSided, edge, middle, waits, weight, pinfu}
@@ -186,6 +187,10 @@ value-seat-wind = refl
 -- the dealer's East in the round East, and North's North in the round North, count twice
 pub value-double-east : weight (dealerWins byRon (man 1) []) East ≡ 2
 value-double-east = refl
+
+-- also in a room that gives two fu for a pair of it
+pub value-double-at-two : weight (inRoom 2 (dealerWins byRon (man 1) [])) East ≡ 2
+value-double-at-two = refl
 
 pub value-double-north : weight (win byRon (man 1) North North []) North ≡ 2
 value-double-north = refl

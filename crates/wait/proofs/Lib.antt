@@ -1,4 +1,5 @@
 pub mod Waits
+pub mod AnyRoom
 pub mod Doubled
 pub mod Renamed
 pub mod Starts

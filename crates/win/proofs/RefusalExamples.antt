@@ -7,6 +7,7 @@ use Rattle.tile.specs.Named.{man, sou, mans, pins, sous, East, South, North, Wh
 use Rattle.meld.specs.declared.Meld.{Meld}
 use Rattle.meld.specs.Named.{pon}
 use Rattle.context.specs.declared.GameContext.{GameContext}
+use Rattle.context.specs.Context.{inRoom}
 use Rattle.context.specs.Named.{win, ron, tsumo, byRon}
 use Rattle.hand.specs.Named.{hand}
 use Rattle.checks.specs.Checks.{check, handCheck}
@@ -35,7 +36,12 @@ pub north-passes : refuses fourteen [] (win byRon (sou 8) North North []) ≡ 0
 unfolding winCheck orThen handCheck check
 north-passes = refl
 
--- ---- 8: the win type or a wind is out of range
+-- four and two are settings of a room
+pub two-passes : refuses fourteen [] (inRoom 2 (ron (sou 8))) ≡ 0
+unfolding winCheck orThen handCheck check
+two-passes = refl
+
+-- ---- 8: the win type, a wind or the room's setting is out of range
 pub third-type : refuses fourteen [] (win 2 (sou 8) East South []) ≡ 8
 unfolding winCheck orThen handCheck check
 third-type = refl
@@ -47,6 +53,15 @@ round-white = refl
 pub seat-of-a-suit : refuses fourteen [] (win byRon (sou 8) East (sou 9) []) ≡ 8
 unfolding winCheck orThen handCheck check
 seat-of-a-suit = refl
+
+-- a table that forgets the setting is refused
+pub no-setting : refuses fourteen [] (inRoom 0 (ron (sou 8))) ≡ 8
+unfolding winCheck orThen handCheck check
+no-setting = refl
+
+pub setting-three : refuses fourteen [] (inRoom 3 (ron (sou 8))) ≡ 8
+unfolding winCheck orThen handCheck check
+setting-three = refl
 
 -- ---- 9: the winning tile is above 33 or not in the hand
 pub no-tile : refuses fourteen [] (ron 34) ≡ 9
@@ -74,3 +89,11 @@ six-before-eight = refl
 pub eight-before-nine : refuses fourteen [] (win 2 (sou 9) East South []) ≡ 8
 unfolding winCheck orThen handCheck check
 eight-before-nine = refl
+
+pub six-before-setting : refuses eleven [] (inRoom 0 (ron (sou 8))) ≡ 6
+unfolding winCheck orThen handCheck check
+six-before-setting = refl
+
+pub setting-before-nine : refuses fourteen [] (inRoom 0 (ron (sou 9))) ≡ 8
+unfolding winCheck orThen handCheck check
+setting-before-nine = refl

@@ -2,7 +2,7 @@
 use mathlib.Core.Path.{_≡_, refl, sym, subst, _∙_}
 use mathlib.Core.Logic.{_↔_}
 use mathlib.Core.Bool.{Bool, true, false, _&&_, _||_, not}
-use mathlib.Core.List.{List, List·Memᴰ}
+use mathlib.Core.List.{List, List·Memᴰ, List·Memᴰ·head, List·Memᴰ·tail}
 use Prim.Native.Nat.{ℕ}
 use native.Mathlib.Omega.{arith}
 use lib.Dec.{T, eqb, ltb, leb, eqb→eq, ltb→lt, eqb-refl}
@@ -10,21 +10,22 @@ use borrow.Author.Tests.{lt-ltb, ltb-true}
 use Rattle.lists.specs.Fold.{allBelow, any}
 use Rattle.lists.specs.Refusals.{Answers}
 use Rattle.lists.proofs.Arranged.{any-mem}
-use Rattle.lists.proofs.Finite.{true→T, and-left, and-right, and-both, or-skip, at}
+use Rattle.lists.proofs.Finite.{true→T, and-right, and-both, or-elim, or-skip, at}
 use Rattle.lists.proofs.Members.{all-mem}
 use Rattle.tile.specs.Tile.{isWind}
 use Rattle.context.specs.declared.GameContext.{GameContext}
-use Rattle.context.specs.Context.{inRange}
+use Rattle.context.specs.Context.{isSetting, inRange}
+use Rattle.context.proofs.Range.{type-in, round-in, seat-in, setting-in}
 use Rattle.checks.specs.declared.Calls.{Calls}
 use Rattle.checks.specs.Checks.{handCheck}
 use Rattle.checks.specs.Refusals.{handChecks}
 use Rattle.checks.proofs.InOrder.{next-check, then-checks, exactly}
 use Rattle.checks.proofs.Refusals.{hand-refusals}
 use Rattle.win.specs.Win.{winCheck}
-use Rattle.win.specs.Refusals.{winTypes, winds, InRange, contextChecks, winChecks}
+use Rattle.win.specs.Refusals.{winTypes, winds, settings, InRange, contextChecks, winChecks}
 use Rattle.win.proofs.Checked.{or-second, refused-hand}
 
--- ---- the win type and the winds, as a test and as a fact
+-- ---- the win type, the winds and the setting, as a test and as a fact
 type-test : T (allBelow 2 (λ t. any (eqb t) winTypes))
 type-test = tt
 
@@ -40,20 +41,25 @@ is-wind t h =
     (or-skip (isWind t) (any (eqb t) winds) h
     (at 31 (λ t. not (isWind t) || any (eqb t) winds) wind-test t (ltb→lt t 31 (and-right (leb 27 t) _ h))))
 
+is-setting : (n : ℕ) → T (isSetting n) → List·Memᴰ n settings
+is-setting n h =
+    or-elim (eqb n 4) (eqb n 2) h (λ e. List·Memᴰ·head (eqb→eq n 4 e)) (λ e. List·Memᴰ·tail {x = 4} (List·Memᴰ·head (eqb→eq n 2 e)))
+
 module _ (w : GameContext) where
   pub in-range : T (inRange w) → InRange w
   in-range h =
-      let v = and-right (ltb (w .«win_type») 2) _ h in
       record {
-        type = is-type (w .«win_type») (and-left (ltb (w .«win_type») 2) _ h);
-        round = is-wind (w .«round_wind») (and-left (isWind (w .«round_wind»)) _ v);
-        seat = is-wind (w .«seat_wind») (and-right (isWind (w .«round_wind»)) _ v);
+        type = is-type (w .«win_type») (type-in w h);
+        round = is-wind (w .«round_wind») (round-in w h);
+        seat = is-wind (w .«seat_wind») (seat-in w h);
+        setting = is-setting (w .«double_wind_fu») (setting-in w h);
       }
 
   pub range-test : InRange w → T (inRange w)
   range-test r =
       and-both (ltb (w .«win_type») 2) _ (all-mem (λ t. ltb t 2) {l = winTypes} tt (r .type))
-      (and-both (isWind (w .«round_wind»)) _ (all-mem isWind {l = winds} tt (r .round)) (all-mem isWind {l = winds} tt (r .seat)))
+      (and-both (isWind (w .«round_wind»)) _ (all-mem isWind {l = winds} tt (r .round))
+      (and-both (isWind (w .«seat_wind»)) _ (all-mem isWind {l = winds} tt (r .seat)) (all-mem isSetting {l = settings} tt (r .setting))))
 
 -- ---- two tests together
 both-true : (a b : Bool) → (a && b) ≡ true → (a ≡ true) × (b ≡ true)

@@ -22,11 +22,16 @@ winTypes = byRon ∷ byTsumo ∷ []
 abbrev pub winds : List ℕ
 winds = East ∷ South ∷ West ∷ North ∷ []
 
--- the win type is ron or tsumo, and both winds are winds
+-- what a room gives for a pair that is both round and seat wind: four fu or two
+abbrev pub settings : List ℕ
+settings = 4 ∷ 2 ∷ []
+
+-- the win type is ron or tsumo, both winds are winds, and the room's setting is one
 pub record InRange (w : GameContext) : Type 0 where
   pub type : List·Memᴰ (w .«win_type») winTypes
   pub round : List·Memᴰ (w .«round_wind») winds
   pub seat : List·Memᴰ (w .«seat_wind») winds
+  pub setting : List·Memᴰ (w .«double_wind_fu») settings
 
 -- the winning tile is a tile, and the hand without its calls holds it
 pub record InHand (cs : List ℕ) (t : ℕ) : Type 0 where

@@ -32,7 +32,7 @@ isOpened k = any isOpen (called k)
 abbrev pub tilesTogether : List ℕ → Calls → GameContext → TileYaku
 tilesTogether cs k w = tileYaku (together cs (called k)) (w .«winning_tile»)
 
--- ---- the checks: 1 to 6; 8 the win type or a wind is out of range; 9 the winning tile is above 33 or not in the hand
+-- ---- the checks: 1 to 6; 8 the win type, a wind or the room's setting is out of range; 9 the winning tile is above 33 or not in the hand
 -- the first of two numbers, or the second where the first is 0
 unfoldable pub orThen : ℕ → ℕ → ℕ
 orThen zero m = m

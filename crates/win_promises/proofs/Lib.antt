@@ -3,3 +3,4 @@ pub mod Winning
 pub mod Refusals
 pub mod Open
 pub mod Whole
+pub mod Rooms

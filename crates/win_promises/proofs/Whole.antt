@@ -22,6 +22,7 @@ use Rattle.meld.proofs.Melds.{closed-melds, sorted-perm}
 use Rattle.meld.proofs.Sorts.{call-is}
 use Rattle.meld.proofs.Renamed.{not-sequence}
 use Rattle.context.specs.declared.GameContext.{GameContext}
+use Rattle.context.proofs.Range.{round-in, seat-in}
 use Rattle.hand.specs.Counts.{held}
 use Rattle.hand.specs.Reading.{Reading, pairs, orphans, standard, Admits, AdmitsPairs, AdmitsStandard}
 use Rattle.wait.specs.Wait.{weight}
@@ -185,11 +186,8 @@ module _ (cs : List ℕ) (k : Calls) (w : GameContext) (four : length (k .melds)
     twice : leb (yakuhai w ms t) 2 ≡ true
     unfolding yakuhai
     twice =
-        let winds =
-        and-right (ltb (w .«win_type») 2) (isWind (w .«round_wind») && isWind (w .«seat_wind»)) (checked cs k w passes .range) in
-        le-leb (count (setOf (eqb t)) ms * weight w t) 2
-        (mul-le-mul one-set
-        (weight-two w (and-left (isWind (w .«round_wind»)) (isWind (w .«seat_wind»)) winds) (and-right (isWind (w .«round_wind»)) (isWind (w .«seat_wind»)) winds) t))
+        let range = checked cs k w passes .range in
+        le-leb (count (setOf (eqb t)) ms * weight w t) 2 (mul-le-mul one-set (weight-two w (round-in w range) (seat-in w range) t))
 
   admitted-twice : (r : Reading) → Admits (held cs) (called k) r → T (atMostTwice (tallies w (isOpened k) (tilesTogether cs k w) r))
   unfolding ordinary oneHan moreHan

@@ -2,7 +2,7 @@
 use lib.Dec.{T}
 use Rattle.played.specs.Row.{holds}
 use Rattle.played.proofs.Quick.{quick}
-use Rattle.worked_hands.specs.Fu.{fuMiddle, fuEdge, fuPair, fuPairOrSides, fuSides, fuMiddleOpen, fuCalledSequence, fuTripletRon, fuTripletTsumo, fuTripletTerminals, fuTripletHonors, fuTwoOpen, fuThreeOpen, fuSpared, fuOpenKan, fuAddedKan, fuClosedKan, fuClosedKanTerminals, fuClosedKanTsumo, fuTwoKans, fuKansAndTriplet, fuMost, fuPairTwice, fuPairOnce, fuPairNone, fuPairSeat, fuPairRound, fuPairDragons, fuPairOtherWind, fuPinfuTsumo, fuOpenRon, fuOpenTsumo, fuTsumoMiddle, fuSevenPairs, fuOrphans}
+use Rattle.worked_hands.specs.Fu.{fuMiddle, fuEdge, fuPair, fuPairOrSides, fuSides, fuMiddleOpen, fuCalledSequence, fuTripletRon, fuTripletTsumo, fuTripletTerminals, fuTripletHonors, fuTwoOpen, fuThreeOpen, fuSpared, fuOpenKan, fuAddedKan, fuClosedKan, fuClosedKanTerminals, fuClosedKanTsumo, fuTwoKans, fuKansAndTriplet, fuMost, fuPairTwice, fuPairTwiceAtTwo, fuPairTwiceTsumo, fuPairTwiceTsumoAtTwo, fuTripletTwiceAtTwo, fuPairOnce, fuPairNone, fuPairSeat, fuPairRound, fuPairDragons, fuPairOtherWind, fuPinfuTsumo, fuOpenRon, fuOpenTsumo, fuTsumoMiddle, fuSevenPairs, fuOrphans}
 
 -- ---- The wait
 pub fu-middle : T (holds fuMiddle)
@@ -99,6 +99,22 @@ fu-most = quick fuMost tt
 pub fu-pair-twice : T (holds fuPairTwice)
 unfolding holds
 fu-pair-twice = quick fuPairTwice tt
+
+pub fu-pair-twice-at-two : T (holds fuPairTwiceAtTwo)
+unfolding holds
+fu-pair-twice-at-two = quick fuPairTwiceAtTwo tt
+
+pub fu-pair-twice-tsumo : T (holds fuPairTwiceTsumo)
+unfolding holds
+fu-pair-twice-tsumo = quick fuPairTwiceTsumo tt
+
+pub fu-pair-twice-tsumo-at-two : T (holds fuPairTwiceTsumoAtTwo)
+unfolding holds
+fu-pair-twice-tsumo-at-two = quick fuPairTwiceTsumoAtTwo tt
+
+pub fu-triplet-twice-at-two : T (holds fuTripletTwiceAtTwo)
+unfolding holds
+fu-triplet-twice-at-two = quick fuTripletTwiceAtTwo tt
 
 pub fu-pair-once : T (holds fuPairOnce)
 unfolding holds

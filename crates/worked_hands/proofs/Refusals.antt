@@ -2,7 +2,7 @@
 use lib.Dec.{T}
 use Rattle.played.specs.Row.{holds}
 use Rattle.played.proofs.Quick.{quick}
-use Rattle.worked_hands.specs.Refusals.{fiveCalls, fiveCallsFiveTiles, sequenceFromEight, sequenceOfHonors, fiveInHand, fiveWithCalls, fiveWithKan, fifteenTiles, elevenTiles, kanThreePlaces, noSuchWinType, whiteAsSeat, whiteAsRound, seatBeforeTile, tileNotInHand, tileInCallOnly, tileAbove33, noReading, oneTileAway, closedWithoutYaku, basicWinType}
+use Rattle.worked_hands.specs.Refusals.{fiveCalls, fiveCallsFiveTiles, sequenceFromEight, sequenceOfHonors, fiveInHand, fiveWithCalls, fiveWithKan, fifteenTiles, elevenTiles, kanThreePlaces, elevenTilesNoSetting, noSuchWinType, whiteAsSeat, whiteAsRound, noSetting, settingThree, settingBeforeTile, seatBeforeTile, tileNotInHand, tileInCallOnly, tileAbove33, noReading, oneTileAway, closedWithoutYaku, basicWinType}
 
 -- ---- 2 more than four calls
 pub five-calls : T (holds fiveCalls)
@@ -49,7 +49,11 @@ pub kan-three-places : T (holds kanThreePlaces)
 unfolding holds
 kan-three-places = quick kanThreePlaces tt
 
--- ---- 8 a win type or a wind out of range
+pub eleven-tiles-no-setting : T (holds elevenTilesNoSetting)
+unfolding holds
+eleven-tiles-no-setting = quick elevenTilesNoSetting tt
+
+-- ---- 8 a win type, a wind or the room's setting out of range
 pub no-such-win-type : T (holds noSuchWinType)
 unfolding holds
 no-such-win-type = quick noSuchWinType tt
@@ -61,6 +65,18 @@ white-as-seat = quick whiteAsSeat tt
 pub white-as-round : T (holds whiteAsRound)
 unfolding holds
 white-as-round = quick whiteAsRound tt
+
+pub no-setting : T (holds noSetting)
+unfolding holds
+no-setting = quick noSetting tt
+
+pub setting-three : T (holds settingThree)
+unfolding holds
+setting-three = quick settingThree tt
+
+pub setting-before-tile : T (holds settingBeforeTile)
+unfolding holds
+setting-before-tile = quick settingBeforeTile tt
 
 pub seat-before-tile : T (holds seatBeforeTile)
 unfolding holds

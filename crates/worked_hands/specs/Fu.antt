@@ -2,6 +2,7 @@
 use mathlib.Core.List.{[], _∷_, _++_}
 use Rattle.tile.specs.Named.{man, pin, sou, East, South, West, North, White, Green, Red, mans, pins, sous, orphanTiles}
 use Rattle.meld.specs.Named.{chi, pon, closedKan, openKan, addedKan}
+use Rattle.context.specs.Context.{inRoom}
 use Rattle.context.specs.Named.{byRon, byTsumo, riichi, win, southWins, dealerWins, ron, tsumo}
 use Rattle.hand.specs.Named.{hand}
 use Rattle.yaku.specs.declared.names.Yaku.the-variants.{Riichi, MenzenTsumo, Tanyao, Pinfu, Chiitoitsu, SanAnkou, KokushiMusou, Tsuuiisou, SuuKantsu, SuuankouTanki}
@@ -145,12 +146,36 @@ fuMost =
     scored (hand (White ∷ White ∷ [])) (closedKan East ∷ closedKan South ∷ closedKan West ∷ closedKan Green ∷ []) (ron White)
     (Tsuuiisou ∷ SuuKantsu ∷ SuuankouTanki ∷ []) 52 170 (Yakuman 4) (Ron 128000)
 
--- ---- The pair: 2 fu for dragons, for the round wind and for the seat wind; a wind that is both has 4
+-- ---- The pair: 2 fu for dragons, for the round wind and for the seat wind; a wind that is both has what the room gives, 4 if nothing is said
 -- the dealer's East in the round East: 30, 8, 2 and 2: 50
 abbrev pub fuPairTwice : Row
 fuPairTwice =
     scored (hand (mans 111456 ++ pins 789 ++ sous 345 ++ (East ∷ East ∷ []))) [] (dealerWins byRon (sou 3) (riichi ∷ []))
     (Riichi ∷ []) 1 50 Normal (Ron 2400)
+
+-- the same in a room that gives two: 30, 8 and 2: 40
+abbrev pub fuPairTwiceAtTwo : Row
+fuPairTwiceAtTwo =
+    scored (hand (mans 111456 ++ pins 789 ++ sous 345 ++ (East ∷ East ∷ []))) [] (inRoom 2 (dealerWins byRon (sou 3) (riichi ∷ [])))
+    (Riichi ∷ []) 1 40 Normal (Ron 2000)
+
+-- by tsumo in the middle: 22, 4 for the triplet, 2 for the wait and 4 for the pair, 32, so 40; each pays 700
+abbrev pub fuPairTwiceTsumo : Row
+fuPairTwiceTsumo =
+    scored (hand (mans 222 ++ pins 456 ++ sous 345678 ++ (East ∷ East ∷ []))) [] (dealerWins byTsumo (pin 5) [])
+    (MenzenTsumo ∷ []) 1 40 Normal (DealerTsumo 700)
+
+-- in a room that gives two it is 30, and each pays 500
+abbrev pub fuPairTwiceTsumoAtTwo : Row
+fuPairTwiceTsumoAtTwo =
+    scored (hand (mans 222 ++ pins 456 ++ sous 345678 ++ (East ∷ East ∷ []))) [] (inRoom 2 (dealerWins byTsumo (pin 5) []))
+    (MenzenTsumo ∷ []) 1 30 Normal (DealerTsumo 500)
+
+-- a triplet of the double wind has two yakuhai there as well, and 8 fu: 22 and 8, 30
+abbrev pub fuTripletTwiceAtTwo : Row
+fuTripletTwiceAtTwo =
+    scored (hand (mans 22 ++ pins 456 ++ sous 345678 ++ (East ∷ East ∷ East ∷ []))) [] (inRoom 2 (dealerWins byTsumo (pin 4) []))
+    (MenzenTsumo ∷ yakuhaiName East ∷ yakuhaiName East ∷ []) 3 30 Normal (DealerTsumo 2000)
 
 -- the same in the round South, where East counts once: 30, 8 and 2: 40
 abbrev pub fuPairOnce : Row

@@ -2,6 +2,7 @@
 use mathlib.Core.List.{[], _∷_, _++_}
 use Rattle.tile.specs.Named.{man, sou, East, South, White, mans, pins, sous}
 use Rattle.meld.specs.Named.{chi, pon, closedKan}
+use Rattle.context.specs.Context.{inRoom}
 use Rattle.context.specs.Named.{byRon, riichi, win, southWins, ron}
 use Rattle.hand.specs.Named.{hand}
 use Rattle.scoring.specs.declared.Payment.the-variants.{Ron}
@@ -58,7 +59,12 @@ abbrev pub kanThreePlaces : Row
 kanThreePlaces =
     won (hand (pins 23456 ++ sous 44678)) (closedKan (man 1) ∷ []) (ron (sou 8)) [] (refuses 6)
 
--- ---- 8 a win type or a wind out of range
+-- before 8: the room's setting is none either
+abbrev pub elevenTilesNoSetting : Row
+elevenTilesNoSetting =
+    won (hand (mans 55 ++ pins 456 ++ sous 234678)) [] (inRoom 0 (ron (sou 8))) [] (refuses 6)
+
+-- ---- 8 a win type, a wind or the room's setting out of range
 abbrev pub noSuchWinType : Row
 noSuchWinType =
     won (hand (mans 12355 ++ pins 456 ++ sous 234678)) [] (southWins 2 (sou 8) []) [] (refuses 8)
@@ -71,7 +77,20 @@ abbrev pub whiteAsRound : Row
 whiteAsRound =
     won (hand (mans 12355 ++ pins 456 ++ sous 234678)) [] (win byRon (sou 8) White South []) [] (refuses 8)
 
+-- a setting that is neither four nor two; 0 is what a table sends that forgets it
+abbrev pub noSetting : Row
+noSetting =
+    won (hand (mans 12355 ++ pins 456 ++ sous 234678)) [] (inRoom 0 (southWins byRon (sou 8) (riichi ∷ []))) [] (refuses 8)
+
+abbrev pub settingThree : Row
+settingThree =
+    won (hand (mans 12355 ++ pins 456 ++ sous 234678)) [] (inRoom 3 (southWins byRon (sou 8) (riichi ∷ []))) [] (refuses 8)
+
 -- before 9: the winning tile is not in the hand either
+abbrev pub settingBeforeTile : Row
+settingBeforeTile =
+    won (hand (mans 12355 ++ pins 456 ++ sous 234678)) [] (inRoom 255 (ron (sou 9))) [] (refuses 8)
+
 abbrev pub seatBeforeTile : Row
 seatBeforeTile =
     won (hand (mans 12355 ++ pins 456 ++ sous 234678)) [] (win byRon (sou 9) East White []) [] (refuses 8)

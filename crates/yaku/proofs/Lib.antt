@@ -10,3 +10,4 @@ pub mod Excludes
 pub mod Orphans
 pub mod Closed
 pub mod Pinfu
+pub mod AnyRoom

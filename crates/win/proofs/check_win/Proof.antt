@@ -42,8 +42,8 @@ returns-4 : tie.Need-returns-4
 unfolding winCheck
 returns-4 c =
     let ok = sym (c .before .before .before .before .before .check-hand .ensures) ∙ c .before .before .before .before .if1 .left in
-    let range = sym (c .before .before .before .is-in-range .ensures) ∙ not-false _ (c .before .before .if2 .left) in
-    sym (or-second _ _ ok ∙ pass _ _ _ range ∙ pass _ _ _ (sym (c .before .in-hand .ensures) ∙ not-false _ (c .if3 .left)))
+    let in-range = sym (c .before .before .before .is-in-range .ensures) ∙ not-false _ (c .before .before .if2 .left) in
+    sym (or-second _ _ ok ∙ pass _ _ _ in-range ∙ pass _ _ _ (sym (c .before .in-hand .ensures) ∙ not-false _ (c .if3 .left)))
 
 pub check-win-spec : {M : Type 1} → statement M
 check-win-spec =
