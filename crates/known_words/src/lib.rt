@@ -24,9 +24,9 @@ const WORDS: [[u8; 13]; 17] = [
     *b"chiihou      ",
 ];
 
-// Other words: an open and an added kan, the dealer, the last tile drawn or discarded, double riichi, dora, how to use the program; and one that
-// says nothing, which the program itself writes before a hand.
-const OTHERS: [[u8; 13]; 12] = [
+// Other words: an open and an added kan, the dealer, the last tile drawn or discarded, double riichi, dora, the room's fu for a pair that is both
+// round and seat wind, how to use the program; and one that says nothing, which the program itself writes before a hand.
+const OTHERS: [[u8; 13]; 14] = [
     *b"daiminkan    ",
     *b"shouminkan   ",
     *b"dealer       ",
@@ -35,6 +35,8 @@ const OTHERS: [[u8; 13]; 12] = [
     *b"double       ",
     *b"dora         ",
     *b"ura          ",
+    *b"double-wind-2",
+    *b"double-wind-4",
     *b"help         ",
     *b"-h           ",
     *b"--help       ",
@@ -42,7 +44,7 @@ const OTHERS: [[u8; 13]; 12] = [
 ];
 
 // What each of them means: the number of the known word that says the same, or one behind those.
-const MEANINGS: [usize; 12] = [2, 4, 17, 18, 19, 20, 21, 21, 22, 22, 22, 23];
+const MEANINGS: [usize; 14] = [2, 4, 17, 18, 19, 20, 21, 21, 22, 23, 24, 24, 24, 25];
 
 // The winds, in the order of their tiles.
 const WINDS: [[u8; 13]; 4] = [
@@ -61,14 +63,14 @@ pub fn word_row(i: usize) -> [u8; 13]
 
 // The row of another word.
 fn other_row(i: usize) -> [u8; 13]
-    requires { ⌜ i < 12 ⌝ }
+    requires { ⌜ i < 14 ⌝ }
 {
     OTHERS[i]
 }
 
 // The row of any known word by its number.
 fn any_row(i: usize) -> [u8; 13]
-    requires { ⌜ i < 29 ⌝ }
+    requires { ⌜ i < 31 ⌝ }
 {
     if i < 17 {
         return word_row(i);
@@ -78,7 +80,7 @@ fn any_row(i: usize) -> [u8; 13]
 
 // What the known word with a number means.
 fn meaning(i: usize) -> usize
-    requires { ⌜ i < 29 ⌝ }
+    requires { ⌜ i < 31 ⌝ }
 {
     if i < 17 {
         return i;
@@ -132,16 +134,21 @@ fn is_row(word: &[u8], row: &[u8; 13]) -> bool {
     true
 }
 
-// What a word means: 0 to 16 for the known words as `word_row` has them, then dealer, haitei, houtei, double, dora, help, and nothing; 24 for a
-// word that is not known.
+// What a word means: 0 to 16 for the known words as `word_row` has them, then dealer, haitei, houtei, double, dora, two fu and four fu for the pair
+// of the double wind, help, and nothing; 26 for a word that is not known.
 pub fn known(word: &[u8]) -> usize {
-    for i in 0..29 {
+    for i in 0..31 {
         let row = any_row(i);
         if is_row(word, &row) {
             return meaning(i);
         }
     }
-    24
+    26
+}
+
+// Is the word known?
+pub fn is_known(word: &[u8]) -> bool {
+    known(word) < 26
 }
 
 // Is the word the first letter of the row?

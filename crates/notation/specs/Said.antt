@@ -1,6 +1,6 @@
 -- What the words given to the program `score` say: tiles of the hand, the winning tile, the win. These are definitions.
 use mathlib.Core.Path.{_≡_}
-use mathlib.Core.Bool.{Bool, true, false}
+use mathlib.Core.Bool.{Bool, true, false, cond}
 use mathlib.Core.List.{List}
 use Prim.Native.Nat.{ℕ, _+_, _%_, _≤_, min}
 use lib.ListN.{getD}
@@ -32,7 +32,7 @@ pub record WonOn (before : Said) (w : List ℕ) (drawn : Bool) (after : Said) : 
 abbrev pub flagAt : Said → ℕ → Bool
 flagAt s i = getD (s .flags) i false
 
--- winds are said by numbers from 0, East
+-- winds are said by numbers from 0, East; the pair of the double wind has four fu, or two where that was said
 abbrev pub winOf : Said → GameContext
 winOf s =
     record {
@@ -48,4 +48,5 @@ winOf s =
       «is_last_tile» = flagAt s 5;
       «is_tenhou» = flagAt s 6;
       «is_chiihou» = flagAt s 7;
+      «double_wind_fu» = cond (s .«double_wind_two») 2 4;
     }

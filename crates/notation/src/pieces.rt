@@ -53,11 +53,19 @@ pub fn next_word(text: &[u8], from: usize) -> usize
     i
 }
 
-// Does a word go on at the place `next`, behind blanks from `end` on? A blank right behind a number does not end a word.
-fn goes_on(text: &[u8], end: usize, next: usize) -> bool
-    requires { ⌜ (0 < end) × (end ≤ length (now text)) ⌝ }
+// Is the text from a place to an end a known word?
+fn is_known(text: &[u8], from: usize, end: usize) -> bool
+    requires { ⌜ (from ≤ end) × (end ≤ length (now text)) ⌝ }
 {
-    chars::is_number(text[end - 1]) & (next < text.len())
+    known_words::is_known(&text[from..end])
+}
+
+// Does a word go on at the place `next`, behind blanks from `end` on? A blank right behind a number does not end a word, unless
+// what stands from `from` to `end` is a known one.
+fn goes_on(text: &[u8], from: usize, end: usize, next: usize) -> bool
+    requires { ⌜ (from < end) × (end ≤ length (now text)) ⌝ }
+{
+    chars::is_number(text[end - 1]) & ((next < text.len()) & !is_known(text, from, end))
 }
 
 // The place behind the last byte of the word that begins at a place.
@@ -69,7 +77,7 @@ pub fn word_end(text: &[u8], from: usize) -> usize
     while i < text.len() {
         let end = next_of(text, i, BLANKS);
         let next = next_word(text, end);
-        if !goes_on(text, end, next) {
+        if !goes_on(text, i, end, next) {
             return end;
         }
         i = next;

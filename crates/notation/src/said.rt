@@ -1,6 +1,6 @@
 // What the words say: the hand, its calls and the win.
 ghost use mathlib.Core.Path.{_≡_};
-ghost use mathlib.Core.Bool.{true};
+ghost use mathlib.Core.Bool.{true, cond};
 ghost use Prim.Native.Nat.{_+_, _≤_, _<_, min};
 ghost use lib.ListN.{length};
 ghost use Rattle.context.specs.Context.{inRange};
@@ -22,6 +22,9 @@ pub struct Said {
     pub round_said: bool,
     pub seat: u8,
     pub seat_said: bool,
+    // whether the room gives two fu for a pair that is both round and seat wind, else four, and whether that was said
+    pub double_wind_two: bool,
+    pub double_wind_said: bool,
     // riichi, double riichi, ippatsu, rinshan, chankan, last tile, tenhou, chiihou
     pub flags: [bool; 8],
     // the word for the last tile was haitei, or houtei
@@ -117,8 +120,15 @@ fn last_tile_fault(tsumo: bool, haitei: bool, houtei: bool) -> u8 {
     0
 }
 
+// The room's fu for a pair that is both round and seat wind: two, or four.
+fn double_wind_fu(two: bool) -> u8
+    ensures { λ r. ⌜ r ≡ cond two 2 4 ⌝ }
+{
+    if two { 2 } else { 4 }
+}
+
 impl Said {
-    // Before the first word: round East, seat South.
+    // Before the first word: round East, seat South, four fu for the pair of the double wind.
     pub fn nothing() -> Said {
         Said {
             counts: [0; 34],
@@ -138,6 +148,8 @@ impl Said {
             round_said: false,
             seat: 1,
             seat_said: false,
+            double_wind_two: false,
+            double_wind_said: false,
             flags: [false; 8],
             haitei: false,
             houtei: false,
@@ -350,6 +362,16 @@ impl Said {
         self.with_wind(0, true)
     }
 
+    // The room's fu for the pair of the double wind: two, or four.
+    fn with_double_wind(mut self, two: bool) -> Said {
+        if self.double_wind_said {
+            return self.faulty(faults::TWICE);
+        }
+        self.double_wind_two = two;
+        self.double_wind_said = true;
+        self
+    }
+
     // A flag. Double riichi is riichi too.
     fn with_flag(mut self, i: usize) -> Said
         requires { ⌜ i < 8 ⌝ }
@@ -429,7 +451,8 @@ impl Said {
             17 => self.as_dealer(),
             18 | 19 => self.with_last_tile(i == 18),
             20 | 21 => self.wanting(i - 10),
-            22 => self.with_help(),
+            22 | 23 => self.with_double_wind(i == 22),
+            24 => self.with_help(),
             _ => self,
         }
     }
@@ -437,7 +460,7 @@ impl Said {
     // A word that may be anything.
     fn with_any(self, word: &[u8]) -> Said {
         let i = known_words::known(word);
-        if i < 24 {
+        if i < 26 {
             return self.with_known(i);
         }
         self.with_pieces(word)
@@ -516,7 +539,7 @@ impl Said {
         self.faulty(last_tile_fault(self.tsumo, self.haitei, self.houtei))
     }
 
-    // The win. Its type and its winds are always in range.
+    // The win. Its type, its winds and the room's setting are always in range.
     pub fn win(self) -> context::GameContext
         ensures { λ r. ⌜ (r ≡ winOf self) × (inRange r ≡ true) ⌝ }
     {
@@ -534,6 +557,7 @@ impl Said {
             is_last_tile: flags[5],
             is_tenhou: flags[6],
             is_chiihou: flags[7],
+            double_wind_fu: double_wind_fu(self.double_wind_two),
         }
     }
 }

@@ -22,7 +22,7 @@ const FAULTS: [[u8; 87]; 24] = [
     *b"is not one tile: the winning tile is one, as in ron 8s                                 ",
     *b"is a second winning tile: ron or tsumo is said once                                    ",
     *b"is no wind: east, south, west or north, or e, s, w, n                                  ",
-    *b"is said twice: there is one round wind and one seat wind                               ",
+    *b"is said twice: there is one round wind, one seat wind and one double wind setting      ",
     *b"is longer than 512 letters                                                             ",
     *b"is the last word, and another belongs behind it, as in ron 8s, chi 123m, seat east     ",
     *b"no winning tile: say ron or tsumo, then the tile, as in ron 8s                         ",

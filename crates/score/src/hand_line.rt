@@ -71,6 +71,13 @@ fn say_flags(flags: [bool; 8]) {
     }
 }
 
+// Writes that the room gives two fu for a pair that is both round and seat wind; for four there is nothing to say.
+fn say_double_wind(two: bool) {
+    if two {
+        text::say(b" double-wind-2");
+    }
+}
+
 // Writes whether the hand is open.
 fn say_opened(k: checks::Calls) {
     if win::is_opened(k) {
@@ -97,6 +104,7 @@ pub fn say_hand(s: said::Said) {
     text::say(b" seat ");
     say_wind(s.seat);
     say_flags(flags);
+    say_double_wind(s.double_wind_two);
     text::say_byte(b'\n');
     say_opened(calls);
 }

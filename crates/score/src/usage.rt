@@ -21,7 +21,10 @@ fn say_words() {
     );
     text::say(b"       dealer, is the dealer\n");
     text::say(
-        b"FLAG   riichi double-riichi ippatsu rinshan chankan last-tile (or haitei, houtei) tenhou chiihou\n\n",
+        b"FLAG   riichi double-riichi ippatsu rinshan chankan last-tile (or haitei, houtei) tenhou chiihou\n",
+    );
+    text::say(
+        b"ROOM   double-wind-2: a pair that is both round and seat wind has 2 fu; double-wind-4, or neither: 4\n\n",
     );
     text::say(
         b"Words may stand in quotes together. Red fives (0m) are read as fives, and dora TILES and\n",
@@ -31,7 +34,9 @@ fn say_words() {
 
 // Writes how to use it.
 pub fn say_usage() {
-    text::say(b"score TILES.. [CALL TILES].. ron|tsumo TILE [round WIND] [seat WIND] [FLAG]..\n");
+    text::say(
+        b"score TILES.. [CALL TILES].. ron|tsumo TILE [round WIND] [seat WIND] [FLAG].. [ROOM]\n",
+    );
     text::say(
         b"writes every reading of a finished hand, what it is worth, and which is chosen\n\n",
     );

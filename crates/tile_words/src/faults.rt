@@ -44,7 +44,7 @@ pub const TWO_WINS: u8 = 14;
 // the word behind round or seat is no wind
 pub const NO_WIND: u8 = 15;
 
-// the round or the seat is said twice
+// the round, the seat or the double wind setting is said twice
 pub const TWICE: u8 = 16;
 
 // an argument that is empty or too long

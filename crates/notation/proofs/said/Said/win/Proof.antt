@@ -37,8 +37,14 @@ array-read-t28 c = search needs
 array-read-t31 : tie.Need-array-read-t31
 array-read-t31 c = search needs
 
+double-wind-fu-requires : tie.Need-double-wind-fu-requires
+double-wind-fu-requires c κs = search needs
+
 returns : tie.Need-returns
-returns c = let e = c .before .before .one-if .ensures .0 in (simp e, simp e (in-range (c .before .before .before .before .args .self)))
+returns c =
+    let e = c .before .before .before .one-if .ensures .0 in
+    let d = c .double-wind-fu .ensures in
+    (simp (e, d), simp (e, d) (in-range (c .before .before .before .before .before .args .self)))
 
 pub win-spec : {M : Type 1} → statement M
 win-spec =
@@ -55,4 +61,5 @@ win-spec =
     array-read-t25
     array-read-t28
     array-read-t31
+    double-wind-fu-requires
     returns)
