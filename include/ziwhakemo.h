@@ -54,8 +54,11 @@ extern "C" {
  *   3   ziwhakemo_name_waits names the wait of thirteen orphans as players do: Kokushi13 where the
  *       pair is the winning tile, else Tanki. It was the other way round. Nothing else changed, and
  *       no struct or number.
+ *   4   ziwhakemo_game_context has the byte `double_wind_fu` behind the flags, and is 13 bytes long
+ *       instead of 12. Every caller has to be compiled again and has to set it: 0, like every other
+ *       number but 4 and 2, is refused with 8. A caller that sets 4 gets the answers of version 3.
  */
-#define ZIWHAKEMO_VERSION 3
+#define ZIWHAKEMO_VERSION 4
 
 /* The version of the archive. An archive of version 1 does not have this function. */
 uint32_t ziwhakemo_version(void);
@@ -109,14 +112,23 @@ enum {
     ZIWHAKEMO_TSUMO = 1
 };
 
-/* How the hand was won. Every mixture of the flags is taken. The winner is the dealer where the
- * seat wind is East. Each bool must be 0 or 1. */
+/* The room's setting: the fu that it gives for a pair that is both round and seat wind. Only the fu
+ * of that pair go by it: no yaku, no han, no wait. There is no default: each win carries one of the
+ * two, and any other number is refused, 0 too. */
+enum {
+    ZIWHAKEMO_DOUBLE_WIND_FU_FOUR = 4,
+    ZIWHAKEMO_DOUBLE_WIND_FU_TWO = 2
+};
+
+/* How the hand was won, and the room's setting. Every mixture of the flags is taken. The winner is
+ * the dealer where the seat wind is East. Each bool must be 0 or 1. A struct that is filled with
+ * zeros still has to have `double_wind_fu` set. */
 typedef struct ziwhakemo_game_context {
-    uint8_t win_type;      /* ZIWHAKEMO_RON or ZIWHAKEMO_TSUMO */
-    uint8_t winning_tile;  /* a tile that the hand holds (not one of a call) */
-    uint8_t round_wind;    /* ZIWHAKEMO_EAST to ZIWHAKEMO_NORTH */
-    uint8_t seat_wind;     /* ZIWHAKEMO_EAST to ZIWHAKEMO_NORTH */
-    bool is_riichi;        /* set for a double riichi too */
+    uint8_t win_type;       /* ZIWHAKEMO_RON or ZIWHAKEMO_TSUMO */
+    uint8_t winning_tile;   /* a tile that the hand holds (not one of a call) */
+    uint8_t round_wind;     /* ZIWHAKEMO_EAST to ZIWHAKEMO_NORTH */
+    uint8_t seat_wind;      /* ZIWHAKEMO_EAST to ZIWHAKEMO_NORTH */
+    bool is_riichi;         /* set for a double riichi too */
     bool is_double_riichi;
     bool is_ippatsu;
     bool is_rinshan;
@@ -124,6 +136,7 @@ typedef struct ziwhakemo_game_context {
     bool is_last_tile;
     bool is_tenhou;
     bool is_chiihou;
+    uint8_t double_wind_fu; /* ZIWHAKEMO_DOUBLE_WIND_FU_FOUR or ZIWHAKEMO_DOUBLE_WIND_FU_TWO */
 } ziwhakemo_game_context;
 
 /* ---- Refusals -----------------------------------------------------------------------------------
@@ -141,7 +154,7 @@ enum {
     ZIWHAKEMO_REFUSED_FIVE_OF_A_KIND = 5,   /* hand and calls hold more than four of a kind */
     ZIWHAKEMO_REFUSED_NUMBER_OF_TILES = 6,  /* the hand's tiles are not 14 - 3 * calls */
     ZIWHAKEMO_REFUSED_BUFFER_TOO_SHORT = 7, /* the records need more bytes than were lent */
-    ZIWHAKEMO_REFUSED_OUT_OF_RANGE = 8,     /* the win type or a wind is out of range */
+    ZIWHAKEMO_REFUSED_OUT_OF_RANGE = 8,     /* win type, a wind or double_wind_fu out of range */
     ZIWHAKEMO_REFUSED_WINNING_TILE = 9,     /* the winning tile is above 33 or not in the hand */
     ZIWHAKEMO_REFUSED_NO_READING = 10,      /* the hand has no reading */
     ZIWHAKEMO_REFUSED_NO_YAKU = 11,         /* no reading has a yaku */
@@ -372,7 +385,7 @@ ziwhakemo_waits_answer ziwhakemo_name_waits(const uint8_t *counts, size_t counts
  */
 #define ZIWHAKEMO_FITS(type, size) typedef char type##_fits[sizeof(type) == (size) ? 1 : -1]
 ZIWHAKEMO_FITS(ziwhakemo_meld, 2);
-ZIWHAKEMO_FITS(ziwhakemo_game_context, 12);
+ZIWHAKEMO_FITS(ziwhakemo_game_context, 13);
 ZIWHAKEMO_FITS(ziwhakemo_listing_answer, 24);
 ZIWHAKEMO_FITS(ziwhakemo_level_answer, 2);
 ZIWHAKEMO_FITS(ziwhakemo_payment_answer, 32);

@@ -115,7 +115,7 @@ static inline const char *ziwhakemo_number_meaning(uint32_t number) {
         "hand and calls together hold more than four of a kind",
         "hand tiles are not 14 - 3 x calls",
         "the records need more bytes than were lent",
-        "win type or a wind out of range",
+        "win type, a wind or the room's setting out of range",
         "the winning tile is above 33 or not in the hand",
         "the hand has no reading",
         "no reading has a yaku",

@@ -1,7 +1,8 @@
 /* Calls every function of the library on random inputs, damaged ones among them, and holds each
    answer to what can be said of it without scoring: the refusals, the bytes, the choice among the
-   readings. Whatever is lent is allocated at exactly its size, so that valgrind sees every read or
-   write outside of it. In the root:
+   readings, what the room's setting changes. Whatever is lent is allocated at exactly its size, so
+   that valgrind sees every read or write outside of it. Before them, one hand under every setting.
+   In the root:
 
      cc -std=c99 -O1 -g -Iinclude examples/c/boundary.c target/staticlib/libziwhakemo.a \
          -o target/boundary
@@ -102,12 +103,17 @@ static bool is_wind(uint8_t tile) {
     return tile >= ZIWHAKEMO_EAST && tile <= ZIWHAKEMO_NORTH;
 }
 
+static bool is_setting(uint8_t fu) {
+    return fu == ZIWHAKEMO_DOUBLE_WIND_FU_FOUR || fu == ZIWHAKEMO_DOUBLE_WIND_FU_TWO;
+}
+
 /* The first of the checks 1 to 6, 8 and 9 that fails, or 0. */
 static unsigned win_check(const input *in) {
     unsigned number = hand_check(in);
     const ziwhakemo_game_context *win = &in->win;
     if (number != 0) return number;
     if (win->win_type > 1 || !is_wind(win->round_wind) || !is_wind(win->seat_wind)) return 8;
+    if (!is_setting(win->double_wind_fu)) return 8;
     if (win->winning_tile >= ZIWHAKEMO_TILES || in->counts[win->winning_tile] == 0) return 9;
     return 0;
 }
@@ -203,13 +209,21 @@ static uint8_t held_tile(const input *in) {
     return 0;
 }
 
+/* The wind of a pair in the hand, or any wind. */
+static uint8_t paired_wind(const input *in) {
+    for (int tile = ZIWHAKEMO_EAST; tile <= ZIWHAKEMO_NORTH; tile++)
+        if (in->counts[tile] == 2) return (uint8_t)tile;
+    return wind();
+}
+
 static void draw_win(input *in) {
     unsigned share = below(3) * 25;
+    bool double_wind = percent(25);
     ziwhakemo_game_context *win = &in->win;
     win->win_type = (uint8_t)below(2);
     win->winning_tile = held_tile(in);
-    win->round_wind = wind();
-    win->seat_wind = wind();
+    win->round_wind = double_wind ? paired_wind(in) : wind();
+    win->seat_wind = double_wind ? win->round_wind : wind();
     win->is_riichi = percent(share);
     win->is_double_riichi = percent(share);
     win->is_ippatsu = percent(share);
@@ -218,13 +232,15 @@ static void draw_win(input *in) {
     win->is_last_tile = percent(share);
     win->is_tenhou = percent(share / 10);
     win->is_chiihou = percent(share / 10);
+    win->double_wind_fu =
+        percent(50) ? ZIWHAKEMO_DOUBLE_WIND_FU_FOUR : ZIWHAKEMO_DOUBLE_WIND_FU_TWO;
 }
 
 /* Any bytes in one of the places. */
 static void damage(input *in) {
     unsigned tile = below(ZIWHAKEMO_TILES);
     bool round = percent(50);
-    switch (below(9)) {
+    switch (below(10)) {
     case 0:
         in->counts_length = below(MOST_COUNTS + 1);
         for (int i = ZIWHAKEMO_TILES; i < MOST_COUNTS; i++) in->counts[i] = byte();
@@ -242,6 +258,7 @@ static void damage(input *in) {
     case 5: in->win.win_type = byte(); break;
     case 6: in->win.winning_tile = percent(50) ? (uint8_t)below(36) : byte(); break;
     case 7: *(round ? &in->win.round_wind : &in->win.seat_wind) = byte(); break;
+    case 8: in->win.double_wind_fu = percent(50) ? (uint8_t)below(6) : byte(); break;
     default:
         for (int i = 0; i < MOST_COUNTS; i++) in->counts[i] = byte();
     }
@@ -275,9 +292,9 @@ static void hold(bool good, const char *what, const input *in) {
         printf("\n  calls (%zu):", in->calls_length);
         for (size_t i = 0; i < in->calls_length; i++)
             printf(" %d-%d", in->calls[i].tile, in->calls[i].kind);
-        printf("\n  win %d by %d, winds %d %d, reading %zu, %zu bytes\n", in->win.win_type,
-               in->win.winning_tile, in->win.round_wind, in->win.seat_wind, in->reading,
-               in->out_length);
+        printf("\n  win %d by %d, winds %d %d, setting %d, reading %zu, %zu bytes\n",
+               in->win.win_type, in->win.winning_tile, in->win.round_wind, in->win.seat_wind,
+               in->win.double_wind_fu, in->reading, in->out_length);
     }
 }
 
@@ -474,6 +491,119 @@ static void by_number(const input *in, lent from, size_t readings) {
     named[number]++;
 }
 
+/* ---- The room's setting ---- */
+
+static uint64_t fewer_fu[2];
+
+/* Is the pair of this reading both round and seat wind? */
+static bool has_double_wind(const input *in, const uint8_t *record) {
+    return record[2] == ZIWHAKEMO_RECORD_STANDARD && record[4] == in->win.round_wind &&
+           record[4] == in->win.seat_wind;
+}
+
+/* Each reading under both settings: only where the pair is both winds may two give ten fu fewer, by
+   rounding, and yaku, han and waits are the same. */
+static void under_both(const input *in, lent from, const uint8_t *record, size_t readings) {
+    ziwhakemo_game_context four = in->win, two = in->win;
+    four.double_wind_fu = ZIWHAKEMO_DOUBLE_WIND_FU_FOUR;
+    two.double_wind_fu = ZIWHAKEMO_DOUBLE_WIND_FU_TWO;
+    if (win_check(in) != 0) return;
+    for (size_t n = 0; n < readings; n++) {
+        ziwhakemo_score_answer a = ziwhakemo_score_reading(
+            from.counts, in->counts_length, from.calls, in->calls_length, four, n);
+        ziwhakemo_score_answer b = ziwhakemo_score_reading(
+            from.counts, in->counts_length, from.calls, in->calls_length, two, n);
+        ziwhakemo_waits_answer c = ziwhakemo_name_waits(
+            from.counts, in->counts_length, from.calls, in->calls_length, four, n);
+        ziwhakemo_waits_answer d = ziwhakemo_name_waits(
+            from.counts, in->counts_length, from.calls, in->calls_length, two, n);
+        bool double_wind = has_double_wind(in, record);
+        hold_score(in, &a, 0, n);
+        hold_score(in, &b, 0, n);
+        hold(memcmp(a.tallies, b.tallies, sizeof a.tallies) == 0 && a.han == b.han &&
+                 a.is_yakuman == b.is_yakuman,
+             "yaku or han by the room's setting", in);
+        hold(c.number == 0 && d.number == 0 && memcmp(c.waits, d.waits, sizeof c.waits) == 0,
+             "waits by the room's setting", in);
+        hold(a.fu == b.fu || (double_wind && a.fu == b.fu + 10), "fu by the room's setting", in);
+        if (double_wind) fewer_fu[a.fu != b.fu]++;
+        record += record[0] + 256u * record[1];
+    }
+}
+
+/* A hand that pays otherwise by the other setting: man 222, pin 456, sou 345 678, East East, by the
+   dealer's tsumo on pin 5 in the East round. */
+static input pair_of_east(uint8_t double_wind_fu) {
+    input in;
+    memset(&in, 0, sizeof in);
+    in.counts_length = ZIWHAKEMO_TILES;
+    in.counts[ZIWHAKEMO_MAN(2)] = 3;
+    for (int n = 4; n <= 6; n++) in.counts[ZIWHAKEMO_PIN(n)] = 1;
+    for (int n = 3; n <= 8; n++) in.counts[ZIWHAKEMO_SOU(n)] = 1;
+    in.counts[ZIWHAKEMO_EAST] = 2;
+    in.win.win_type = ZIWHAKEMO_TSUMO;
+    in.win.winning_tile = ZIWHAKEMO_PIN(5);
+    in.win.round_wind = ZIWHAKEMO_EAST;
+    in.win.seat_wind = ZIWHAKEMO_EAST;
+    in.win.double_wind_fu = double_wind_fu;
+    return in;
+}
+
+/* What each operation that takes a win answers to one without calls. */
+typedef struct {
+    ziwhakemo_score_answer win, reading;
+    ziwhakemo_waits_answer waits;
+} answers;
+
+static answers ask(const input *in) {
+    answers a;
+    a.win = ziwhakemo_score_win(in->counts, in->counts_length, NULL, 0, in->win);
+    a.reading = ziwhakemo_score_reading(in->counts, in->counts_length, NULL, 0, in->win, 0);
+    a.waits = ziwhakemo_name_waits(in->counts, in->counts_length, NULL, 0, in->win, 0);
+    return a;
+}
+
+static void hold_refused(const input *in, unsigned number) {
+    static const uint8_t none[ZIWHAKEMO_WAITS] = {0};
+    answers a = ask(in);
+    hold_score(in, &a.win, number, 0);
+    hold_score(in, &a.reading, number, 0);
+    hold(a.waits.number == number, "the number of waits", in);
+    hold(same(a.waits.waits, none, sizeof none), "a refusal with more than its number", in);
+}
+
+/* Is it Menzen Tsumo alone, with so many fu and so much in all? */
+static bool is_menzen_tsumo(const ziwhakemo_score_answer *a, uint8_t fu, uint64_t total) {
+    return tally(a) == 1 && a->tallies[ZIWHAKEMO_YAKU_MENZEN_TSUMO] == 1 && a->han == 1 &&
+           a->fu == fu && a->total == total;
+}
+
+static void hold_pair_of_east(uint8_t double_wind_fu, uint8_t fu, uint64_t total) {
+    static const uint8_t kanchan[ZIWHAKEMO_WAITS] = {0, 1, 0, 0, 0, 0};
+    input in = pair_of_east(double_wind_fu);
+    answers a = ask(&in);
+    hold_score(&in, &a.win, 0, 0);
+    hold_score(&in, &a.reading, 0, 0);
+    hold(is_menzen_tsumo(&a.win, fu, total), "the win with a pair of East", &in);
+    hold(is_menzen_tsumo(&a.reading, fu, total), "the reading with a pair of East", &in);
+    hold(a.waits.number == 0 && same(a.waits.waits, kanchan, sizeof kanchan),
+         "the waits with a pair of East", &in);
+}
+
+static void settings(void) {
+    hold_pair_of_east(ZIWHAKEMO_DOUBLE_WIND_FU_FOUR, 40, 2100);
+    hold_pair_of_east(ZIWHAKEMO_DOUBLE_WIND_FU_TWO, 30, 1500);
+    for (unsigned fu = 0; fu < 256; fu++) {
+        if (fu == 2 || fu == 4) continue;
+        input in = pair_of_east((uint8_t)fu);
+        hold_refused(&in, 8);
+        in.win.winning_tile = ZIWHAKEMO_MAN(9); /* 8 comes before 9 */
+        hold_refused(&in, 8);
+        in.counts[ZIWHAKEMO_EAST] = 1; /* and 6 before 8 */
+        hold_refused(&in, 6);
+    }
+}
+
 /* ---- Points ---- */
 
 static void points(const input *in) {
@@ -511,6 +641,7 @@ static void run(const input *in) {
     list_exactly(in, from, all, bytes, readings);
     score(in, from, readings);
     by_number(in, from, readings);
+    under_both(in, from, all, readings);
     points(in);
     hold(same(from.counts, in->counts, in->counts_length), "the counts changed", in);
     hold(same(from.calls, in->calls, in->calls_length * sizeof(ziwhakemo_meld)), "a call changed",
@@ -535,6 +666,7 @@ int main(int words, char **arguments) {
     unsigned long inputs = words > 1 ? strtoul(arguments[1], NULL, 10) : 100000;
     unsigned long seed = words > 2 ? strtoul(arguments[2], NULL, 10) : 1;
     state = seed;
+    settings();
     for (unsigned long i = 0; i < inputs; i++) {
         input in = draw_input();
         run(&in);
@@ -549,6 +681,8 @@ int main(int words, char **arguments) {
     print("ziwhakemo_score_level and ziwhakemo_basic_points, by level", levels);
     printf("accepted hands with 0, 1, 2, 3, 4, more readings:");
     for (int i = 0; i <= MANY; i++) printf(" %lu", (unsigned long)with_readings[i]);
+    printf("\nreadings whose pair is both winds, as many fu by two as by four, ten fewer:");
+    for (int i = 0; i < 2; i++) printf(" %lu", (unsigned long)fewer_fu[i]);
     printf("\nNULL lent for nothing: %lu\nwrong: %lu\n", (unsigned long)nulls, (unsigned long)wrong);
     return wrong > 0;
 }

@@ -146,7 +146,7 @@ static bool show(const char *what, const hand *h) {
 
 /* ---- The hands ---- */
 
-/* No tile, no call and no flag. */
+/* No tile, no call and no flag, in a room that gives four fu for a pair that is both winds. */
 static hand nothing(uint8_t win_type, uint8_t winning_tile, uint8_t seat_wind) {
     hand h;
     memset(&h, 0, sizeof h);
@@ -154,6 +154,7 @@ static hand nothing(uint8_t win_type, uint8_t winning_tile, uint8_t seat_wind) {
     h.win.winning_tile = winning_tile;
     h.win.round_wind = ZIWHAKEMO_EAST;
     h.win.seat_wind = seat_wind;
+    h.win.double_wind_fu = ZIWHAKEMO_DOUBLE_WIND_FU_FOUR;
     return h;
 }
 

@@ -71,11 +71,13 @@ static void read_calls(hand *h, const char *text) {
     }
 }
 
-/* The winning tile, round and seat wind, and a letter for tsumo and each flag. */
+/* The winning tile, round and seat wind, and a letter for tsumo and each flag. The room gives four
+   fu for a pair that is both winds. */
 static void read_win(ziwhakemo_game_context *win, const char *text) {
     win->winning_tile = tile_of(text[0], text[1]);
     win->round_wind = tile_of(text[3], 'z');
     win->seat_wind = tile_of(text[4], 'z');
+    win->double_wind_fu = ZIWHAKEMO_DOUBLE_WIND_FU_FOUR;
     for (const char *flag = text + 5; *flag != 0; flag++) {
         if (*flag == 't') win->win_type = ZIWHAKEMO_TSUMO;
         if (*flag == 'r') win->is_riichi = true;
@@ -289,7 +291,7 @@ static void refusals(void) {
                 "hand and calls together hold more than four of a kind");
     hold_number(listed("1m", "", tiles, room), "hand tiles are not 14 - 3 x calls");
     hold_number(listed(good, "", tiles, 12), "the records need more bytes than were lent");
-    hold_number(scored(good, "1m 12", 2), "win type or a wind out of range");
+    hold_number(scored(good, "1m 12", 2), "win type, a wind or the room's setting out of range");
     hold_number(scored(good, "4m 12", ZIWHAKEMO_RON),
                 "the winning tile is above 33 or not in the hand");
     hold_number(scored("123578m456p789s22p", "1m 12", ZIWHAKEMO_RON), "the hand has no reading");

@@ -25,6 +25,7 @@ int main(void) {
     win.winning_tile = ZIWHAKEMO_SOU(8);
     win.round_wind = ZIWHAKEMO_EAST;
     win.seat_wind = ZIWHAKEMO_SOUTH;
+    win.double_wind_fu = ZIWHAKEMO_DOUBLE_WIND_FU_FOUR; /* the room's setting: 0 is refused */
 
     uint8_t records[ZIWHAKEMO_ALWAYS_ENOUGH];
     ziwhakemo_listing_answer listing =

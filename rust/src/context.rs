@@ -1,4 +1,4 @@
-//! The win (agari's `context.rs`).
+//! The win (agari's `context.rs`), with a setting of the room, which agari does not have.
 //!
 //! Whether the hand is open is not part of it: the library reads that off the calls.
 
@@ -24,7 +24,37 @@ impl WinType {
     }
 }
 
-/// A win, apart from its hand. Every mixture of the flags is scored as agari scores it.
+/// What the room gives for a pair that is both round and seat wind. Only the fu of that pair go by it: no
+/// yaku, no han, no wait. agari has no such setting and gives four.
+///
+/// ```
+/// use ziwhakemo::{DoubleWindFu, GameContext, Honor, WinType};
+///
+/// let win = GameContext::new(WinType::Tsumo, Honor::East, Honor::East);
+/// assert_eq!(win.double_wind_fu, DoubleWindFu::Four);
+/// let win = win.with_double_wind_fu(DoubleWindFu::Two);
+/// assert_eq!(win.double_wind_fu, DoubleWindFu::Two);
+/// ```
+#[derive(Debug, Clone, Copy, PartialEq, Eq)]
+pub enum DoubleWindFu {
+    /// Four fu, two for each of the winds that it is
+    Four,
+    /// Two fu, like a pair of dragons or of one of the winds alone
+    Two,
+}
+
+impl DoubleWindFu {
+    /// Its number: the fu.
+    pub(crate) fn number(self) -> u8 {
+        match self {
+            DoubleWindFu::Four => 4,
+            DoubleWindFu::Two => 2,
+        }
+    }
+}
+
+/// A win, apart from its hand. Every mixture of the flags is scored as agari scores it, where the room
+/// gives four fu for a pair that is both winds.
 #[derive(Debug, Clone, Copy, PartialEq, Eq)]
 pub struct GameContext {
     /// Ron or tsumo
@@ -51,10 +81,13 @@ pub struct GameContext {
     pub is_tenhou: bool,
     /// Another's win on the first draw
     pub is_chiihou: bool,
+    /// The room's setting: four fu or two for a pair that is both round and seat wind
+    pub double_wind_fu: DoubleWindFu,
 }
 
 impl GameContext {
-    /// A win with no winning tile yet and no flags
+    /// A win with no winning tile yet and no flags, in a room that gives four fu for a pair that is both
+    /// winds
     pub fn new(win_type: WinType, round_wind: Honor, seat_wind: Honor) -> GameContext {
         GameContext {
             win_type,
@@ -69,12 +102,19 @@ impl GameContext {
             is_last_tile: false,
             is_tenhou: false,
             is_chiihou: false,
+            double_wind_fu: DoubleWindFu::Four,
         }
     }
 
     /// Sets the winning tile
     pub fn with_winning_tile(mut self, tile: Tile) -> GameContext {
         self.winning_tile = Some(tile);
+        self
+    }
+
+    /// Sets what the room gives for a pair that is both round and seat wind
+    pub fn with_double_wind_fu(mut self, fu: DoubleWindFu) -> GameContext {
+        self.double_wind_fu = fu;
         self
     }
 
@@ -153,6 +193,7 @@ impl GameContext {
             is_last_tile: self.is_last_tile,
             is_tenhou: self.is_tenhou,
             is_chiihou: self.is_chiihou,
+            double_wind_fu: self.double_wind_fu.number(),
         }
     }
 }

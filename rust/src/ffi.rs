@@ -4,7 +4,7 @@
 use crate::OTHER_VERSION;
 
 /// The version of the interface that is declared here: `ZIWHAKEMO_VERSION` of the header.
-pub const VERSION: u32 = 3;
+pub const VERSION: u32 = 4;
 
 /// A meld: the number of its lowest tile, and its kind.
 #[repr(C)]
@@ -14,7 +14,7 @@ pub struct Meld {
     pub kind: u8,
 }
 
-/// A win, apart from its hand.
+/// A win, apart from its hand. The last byte is the room's setting, 4 or 2.
 #[repr(C)]
 #[derive(Clone, Copy, Debug)]
 pub struct GameContext {
@@ -30,6 +30,7 @@ pub struct GameContext {
     pub is_last_tile: bool,
     pub is_tenhou: bool,
     pub is_chiihou: bool,
+    pub double_wind_fu: u8,
 }
 
 /// The answer to a listing: 0 with what was written, or a refusal's number alone.
@@ -261,6 +262,7 @@ mod tests {
             is_last_tile: false,
             is_tenhou: false,
             is_chiihou: false,
+            double_wind_fu: 4,
         }
     }
 
@@ -276,7 +278,9 @@ mod tests {
     fn structs_are_laid_out_as_in_c() {
         assert_eq!((size_of::<Meld>(), align_of::<Meld>()), (2, 1));
         let context = (size_of::<GameContext>(), align_of::<GameContext>());
-        assert_eq!(context, (12, 1));
+        assert_eq!(context, (13, 1));
+        assert_eq!(offset_of!(GameContext, is_chiihou), 11);
+        assert_eq!(offset_of!(GameContext, double_wind_fu), 12);
         assert_eq!(size_of::<ListingAnswer>(), 24);
         assert_eq!(size_of::<LevelAnswer>(), 2);
         assert_eq!(size_of::<PaymentAnswer>(), 32);
@@ -351,6 +355,34 @@ mod tests {
             assert_eq!(payment(2000, false, win_type).number, 8);
             // 8 comes before 13.
             assert_eq!(payment(152_001, false, win_type).number, 8);
+        }
+    }
+
+    #[test]
+    fn settings_but_four_and_two_are_refused() {
+        let counts = spring_final();
+        let mut thirteen = counts;
+        thirteen[usize::from(SOU_8)] = 1;
+        for double_wind_fu in 0..=255 {
+            let [held, missing] = match double_wind_fu {
+                2 | 4 => [0, 9],
+                _ => [8, 8],
+            };
+            let numbers = |counts: &[u8], winning_tile| {
+                let win = GameContext {
+                    double_wind_fu,
+                    ..ron(winning_tile)
+                };
+                [
+                    score_win(counts, &[], win).number,
+                    score_reading(counts, &[], win, 0).number,
+                    name_waits(counts, &[], win, 0).number,
+                ]
+            };
+            assert_eq!(numbers(&counts, SOU_8), [held; 3], "{double_wind_fu}");
+            // 8 comes before 9, and 6 before 8.
+            assert_eq!(numbers(&counts, 34), [missing; 3], "{double_wind_fu}");
+            assert_eq!(numbers(&thirteen, SOU_8), [6; 3], "{double_wind_fu}");
         }
     }
 

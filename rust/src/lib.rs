@@ -50,7 +50,7 @@ pub mod tile;
 pub mod wait;
 pub mod yaku;
 
-pub use context::{GameContext, WinType};
+pub use context::{DoubleWindFu, GameContext, WinType};
 pub use hand::{HandStructure, KanType, Listing, Meld, decompose_hand, list_readings};
 pub use refusal::Refusal;
 pub use scoring::{

@@ -24,7 +24,8 @@ pub enum Refusal {
     NumberOfTiles = 6,
     /// The records need more bytes than were lent.
     BufferTooShort = 7,
-    /// The win type or a wind is out of range. Here: the round or the seat wind is a dragon.
+    /// The win type, a wind or the room's setting is out of range. Here: the round or the seat wind is a
+    /// dragon.
     OutOfRange = 8,
     /// The winning tile is missing, no tile, or not in the hand.
     WinningTile = 9,
@@ -77,7 +78,7 @@ impl Refusal {
             Refusal::FiveOfAKind => "hand and calls together hold more than four of a kind",
             Refusal::NumberOfTiles => "the hand's tiles are not 14 - 3 × calls",
             Refusal::BufferTooShort => "the records need more bytes than were lent",
-            Refusal::OutOfRange => "the win type or a wind is out of range",
+            Refusal::OutOfRange => "the win type, a wind or the room's setting is out of range",
             Refusal::WinningTile => "the winning tile is no tile or not in the hand",
             Refusal::NoReading => "the hand has no reading",
             Refusal::NoYaku => "no reading has a yaku",
