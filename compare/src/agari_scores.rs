@@ -104,23 +104,23 @@ impl ReadHand {
             tallies: yaku_tallies(&yaku.yaku_list),
             waits: waits(reading, win),
             han: yaku.total_han,
-            fu: answers::fu(reading, &context),
+            fu: answers::fu(reading, &context, win.double_wind_fu).total,
             is_yakuman: u8::from(yaku.is_yakuman),
         }
     }
 
     /// agari's whole score of each reading.
     pub fn scores(&self, win: &Win) -> Vec<Score> {
-        let context = context(win, self.is_open);
         let readings = self.readings.iter().enumerate();
         readings
-            .map(|(number, (_, reading))| self.whole_score(number, reading, &context))
+            .map(|(number, (_, reading))| self.whole_score(number, reading, win))
             .collect()
     }
 
-    fn whole_score(&self, number: usize, reading: &HandStructure, context: &GameContext) -> Score {
-        let yaku = answers::yaku(reading, &self.agari_counts, context);
-        let result = answers::score(reading, &yaku, context);
+    fn whole_score(&self, number: usize, reading: &HandStructure, win: &Win) -> Score {
+        let context = context(win, self.is_open);
+        let yaku = answers::yaku(reading, &self.agari_counts, &context);
+        let result = answers::score(reading, &yaku, &context, win.double_wind_fu);
         let level = level_numbers(result.score_level);
         let paid = paid(&result.payment);
         Score {
@@ -139,6 +139,23 @@ impl ReadHand {
             from_discarder: paid.from_discarder,
             total: paid.total,
         }
+    }
+
+    /// agari's fu of each reading.
+    pub fn fu(&self, win: &Win) -> Vec<u8> {
+        let context = context(win, self.is_open);
+        let readings = self.readings.iter();
+        readings
+            .map(|(_, reading)| answers::fu(reading, &context, win.double_wind_fu).total)
+            .collect()
+    }
+
+    /// Of each reading, whether its pair is both round and seat wind.
+    pub fn double_winds(&self, win: &Win) -> Vec<bool> {
+        let readings = self.readings.iter();
+        readings
+            .map(|(reading, _)| reading.has_double_wind(win))
+            .collect()
     }
 
     /// agari's waits of each reading.
@@ -161,7 +178,7 @@ fn readings(hand: &Hand) -> Vec<(Reading, HandStructure)> {
         .collect()
 }
 
-/// agari's circumstances of a win.
+/// agari's circumstances of a win. The room's setting is none of them.
 pub fn context(win: &Win, is_open: bool) -> GameContext {
     let round_wind = agari::honor(win.round_wind);
     let seat_wind = agari::honor(win.seat_wind);
@@ -275,13 +292,7 @@ mod tests {
 
     /// Han, fu and total of each reading, won by seat South in the round of East with no flags.
     fn scores(hand: &Hand, win_type: u8, winning_tile: u8) -> Vec<(u8, u8, u64)> {
-        let win = Win {
-            win_type,
-            winning_tile,
-            round_wind: EAST,
-            seat_wind: SOUTH,
-            ..Win::default()
-        };
+        let win = Win::new(win_type, winning_tile, EAST, SOUTH);
         let read = ReadHand::of(hand);
         let scores = read.readings.iter();
         scores

@@ -13,12 +13,13 @@ use agari_core::scoring::ScoringResult;
 use agari_core::yaku::YakuResult;
 
 /// A win that passes the checks, with what agari takes made ready: its melds of the calls, the counts
-/// of hand and calls together, and the circumstances.
+/// of hand and calls together, and the circumstances. The room's setting stands beside.
 pub struct AgariWin {
     counts: [u8; KINDS],
     with_calls: [u8; KINDS],
     called: Vec<Meld>,
     context: GameContext,
+    setting: u8,
 }
 
 impl AgariWin {
@@ -30,6 +31,7 @@ impl AgariWin {
             with_calls: hand.with_calls().map(|count| count as u8),
             called: agari::called_melds(hand.called()),
             context: agari_scores::context(win, hand.is_open()),
+            setting: win.double_wind_fu,
         }
     }
 
@@ -43,7 +45,7 @@ impl AgariWin {
         let mut chosen = None;
         for reading in answers::found(&counts, &self.called) {
             let yaku = answers::yaku(&reading, together, &self.context);
-            let score = answers::score(&reading, &yaku, &self.context);
+            let score = answers::score(&reading, &yaku, &self.context, self.setting);
             let total = score.payment.total.into();
             let worth = differences::worth(total, yaku.is_yakuman, score.han, score.fu.total);
             if !yaku.yaku_list.is_empty() && Some(worth) > most {
@@ -63,13 +65,20 @@ mod tests {
     use crate::win_oracle::ExpectedWin;
     use crate::wins;
 
+    fn any_win(rng: &mut Rng) -> (Hand, Win) {
+        let hand = wins::hand(rng);
+        let tile = random::held_tile(rng, &hand) as u8;
+        (hand, wins::win(rng, &hand, tile))
+    }
+
     #[test]
     fn the_choice_is_the_expected_one() {
         let mut rng = Rng::new(5);
-        for _ in 0..3000 {
-            let hand = wins::hand(&mut rng);
-            let tile = random::held_tile(&mut rng, &hand) as u8;
-            let win = wins::win(&mut rng, &hand, tile);
+        for number in 0..4000 {
+            let (hand, win) = match number % 4 {
+                0 => wins::double_wind(&mut rng),
+                _ => any_win(&mut rng),
+            };
             let want = ExpectedWin::of(&hand, &win).score_win();
             let got = AgariWin::of(&hand, &win).score();
             let got = got.map_or((11, 0, 0, 0), |(_, score)| {

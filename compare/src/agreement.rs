@@ -185,13 +185,7 @@ mod tests {
 
     /// What differs where an all-green hand is won by ron of sou 2, and renamed.
     fn green_differ(renaming: usize) -> [bool; PARTS.len()] {
-        let win = Win {
-            win_type: RON,
-            winning_tile: 19,
-            round_wind: 27,
-            seat_wind: 28,
-            ..Win::default()
-        };
+        let win = Win::new(RON, 19, 27, 28);
         let mut rng = Rng::new(1);
         let hand = Hand::written("234234666888s66z");
         let twins = Twins::new(&mut rng, &hand, &win, Renaming::numbered(renaming));

@@ -6,8 +6,8 @@ use agari_core::context::{GameContext, WinType};
 use agari_core::hand::{HandStructure, Meld, decompose_hand, decompose_hand_with_melds};
 use agari_core::parse::{ParsedHand, TileCounts, parse_hand_with_aka};
 use agari_core::scoring::{
-    Payment, ScoreLevel, ScoringResult, calculate_basic_points, calculate_fu, calculate_payment,
-    calculate_score, determine_score_level,
+    FuResult, Payment, ScoreLevel, ScoringResult, calculate_basic_points, calculate_fu,
+    calculate_payment, calculate_score, determine_score_level,
 };
 use agari_core::tile::Tile;
 use agari_core::wait::{WaitType, detect_wait_types};
@@ -46,9 +46,10 @@ pub fn yaku(reading: &HandStructure, counts: &TileCounts, context: &GameContext)
     differences::yaku(theirs, reading, counts, context)
 }
 
-/// The fu of a reading.
-pub fn fu(reading: &HandStructure, context: &GameContext) -> u8 {
-    differences::fu(calculate_fu(reading, context).total, reading, context)
+/// The fu of a reading in a room with this setting.
+pub fn fu(reading: &HandStructure, context: &GameContext, setting: u8) -> FuResult {
+    let theirs = calculate_fu(reading, context);
+    differences::fu(theirs, reading, context, setting)
 }
 
 /// The level of han and fu.
@@ -69,13 +70,19 @@ pub fn payment(basic_points: u32, is_dealer: bool, win_type: WinType) -> Payment
     differences::payment(theirs, basic_points, is_dealer, win_type)
 }
 
-/// The whole score of a reading: agari's own, and where other fu or other basic points count here, what
-/// agari makes of these.
-pub fn score(reading: &HandStructure, yaku: &YakuResult, context: &GameContext) -> ScoringResult {
+/// The whole score of a reading in a room with this setting: agari's own, and where other fu or other
+/// basic points count here, what agari makes of these.
+pub fn score(
+    reading: &HandStructure,
+    yaku: &YakuResult,
+    context: &GameContext,
+    setting: u8,
+) -> ScoringResult {
     let theirs = calculate_score(reading, yaku, context);
     let (han, is_yakuman, win_type) = (theirs.han, yaku.is_yakuman, context.win_type);
-    let fu = differences::fu(theirs.fu.total, reading, context);
+    let fu = differences::fu(theirs.fu.clone(), reading, context, setting);
     let score = with_fu(theirs, fu, is_yakuman, win_type);
+    let fu = score.fu.total;
     let points = differences::basic_points(score.basic_points, han, fu, is_yakuman);
     let mut score = with_points(score, points, win_type);
     score.score_level = differences::level(score.score_level, han, fu, is_yakuman);
@@ -85,14 +92,21 @@ pub fn score(reading: &HandStructure, yaku: &YakuResult, context: &GameContext) 
 }
 
 /// A score with these fu.
-fn with_fu(mut score: ScoringResult, fu: u8, is_yakuman: bool, win_type: WinType) -> ScoringResult {
-    if fu == score.fu.total {
+fn with_fu(
+    mut score: ScoringResult,
+    fu: FuResult,
+    is_yakuman: bool,
+    win_type: WinType,
+) -> ScoringResult {
+    let (han, total) = (score.han, fu.total);
+    let is_same = total == score.fu.total;
+    score.fu = fu;
+    if is_same {
         return score;
     }
-    let han = score.han;
-    score.fu.total = fu;
-    score.score_level = determine_score_level(han, fu, is_yakuman);
-    with_points(score, calculate_basic_points(han, fu, is_yakuman), win_type)
+    score.score_level = determine_score_level(han, total, is_yakuman);
+    let points = calculate_basic_points(han, total, is_yakuman);
+    with_points(score, points, win_type)
 }
 
 /// A score with these basic points.
@@ -154,7 +168,11 @@ mod tests {
             let theirs = calculate_score(reading, &yaku, &context);
             let (fu, is_yakuman, win_type) = (theirs.fu.total, yaku.is_yakuman, context.win_type);
 
-            let other = with_fu(theirs.clone(), fu + 10, is_yakuman, win_type);
+            let more = FuResult {
+                total: fu + 10,
+                ..theirs.fu.clone()
+            };
+            let other = with_fu(theirs.clone(), more, is_yakuman, win_type);
             let level = determine_score_level(theirs.han, fu + 10, is_yakuman);
             let points = calculate_basic_points(theirs.han, fu + 10, is_yakuman);
             let payment = calculate_payment(points, context.is_dealer(), win_type);
@@ -162,7 +180,7 @@ mod tests {
             assert_eq!(other.basic_points, points);
             assert_eq!(format!("{:?}", other.payment), format!("{payment:?}"));
 
-            let back = with_fu(other, fu, is_yakuman, win_type);
+            let back = with_fu(other, theirs.fu.clone(), is_yakuman, win_type);
             assert_eq!(format!("{back:?}"), format!("{theirs:?}"));
         }
     }

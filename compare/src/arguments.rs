@@ -21,15 +21,28 @@ pub struct Options<'a>(HashMap<&'a str, u64>);
 impl<'a> Options<'a> {
     /// Nothing where a word is not the name of an option, or a number is missing.
     pub fn read(words: &[&'a str], with_number: &[&str], alone: &[&str]) -> Option<Options<'a>> {
+        Options::read_with(words, with_number, alone, &[])
+    }
+
+    /// Likewise, with options that may have a number or go without, and then have this one.
+    pub fn read_with(
+        words: &[&'a str],
+        with_number: &[&str],
+        alone: &[&str],
+        usual: &[(&str, u64)],
+    ) -> Option<Options<'a>> {
         let mut options = HashMap::new();
-        let mut words = words.iter();
+        let mut words = words.iter().peekable();
         while let Some(&name) = words.next() {
+            let usual = usual.iter().find(|(option, _)| *option == name);
             let number = if with_number.contains(&name) {
                 words.next()?.parse().ok()?
             } else if alone.contains(&name) {
                 1
             } else {
-                return None;
+                let &(_, usual) = usual?;
+                let given = words.next_if(|word| !word.starts_with("--"));
+                given.map_or(Some(usual), |word| word.parse().ok())?
             };
             options.insert(name, number);
         }
@@ -61,5 +74,17 @@ mod tests {
         assert!(read(&["--seed"]).is_none());
         assert!(read(&["--seed", "x"]).is_none());
         assert!(read(&["--other"]).is_none());
+    }
+
+    #[test]
+    fn a_number_may_be_left_out() {
+        let read = |words: &[&'static str]| {
+            let options = Options::read_with(words, &[], &["--suit"], &[("--pairs", 5)])?;
+            options.number("--pairs")
+        };
+        assert_eq!(read(&["--pairs", "7"]), Some(7));
+        assert_eq!(read(&["--pairs"]), Some(5));
+        assert_eq!(read(&["--pairs", "--suit"]), Some(5));
+        assert_eq!(read(&["--pairs", "x"]), None);
     }
 }

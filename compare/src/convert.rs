@@ -1,7 +1,8 @@
 //! agari's types as those of the crate `ziwhakemo`, and back, for a table that has both for a while.
 //!
 //! All but the win have the same shapes on both sides, so that the one macro below makes both directions.
-//! What the library leaves out is told: a local yaku, and a win with dora or with other rules.
+//! What the library leaves out is told: a local yaku, and a win with dora or with other rules. So is what
+//! agari has not: a room that gives two fu for a pair that is both round and seat wind.
 
 use ziwhakemo as ours;
 
@@ -168,8 +169,17 @@ pub mod to_ziwhakemo {
         Rules,
     }
 
+    /// The room's setting of a number, or nothing for a number that is none.
+    pub fn double_wind_fu(number: u8) -> Option<ours::DoubleWindFu> {
+        match number {
+            4 => Some(ours::DoubleWindFu::Four),
+            2 => Some(ours::DoubleWindFu::Two),
+            _ => None,
+        }
+    }
+
     /// A win. Whether the hand is open is not carried over: the calls say it. Nor are the flags of open
-    /// riichi and renhou, which score nothing under the default rules.
+    /// riichi and renhou, which score nothing under the default rules. The setting is four, as in agari.
     pub fn game_context(context: &theirs::GameContext) -> Result<ours::GameContext, LeftOut> {
         let indicators = [&context.dora_indicators, &context.ura_dora_indicators];
         let has_indicators = indicators.iter().any(|tiles| !tiles.is_empty());
@@ -192,6 +202,7 @@ pub mod to_ziwhakemo {
             is_last_tile: context.is_last_tile,
             is_tenhou: context.is_tenhou,
             is_chiihou: context.is_chiihou,
+            double_wind_fu: ours::DoubleWindFu::Four,
         })
     }
 }
@@ -208,10 +219,17 @@ pub mod to_agari {
     }
 
     /// A win with these calls, which say whether the hand is open. No dora, and agari's default rules.
-    pub fn game_context(context: &ours::GameContext, calls: &[ours::Meld]) -> theirs::GameContext {
+    /// Nothing in a room with setting two, as agari gives four fu.
+    pub fn game_context(
+        context: &ours::GameContext,
+        calls: &[ours::Meld],
+    ) -> Option<theirs::GameContext> {
+        if context.double_wind_fu == ours::DoubleWindFu::Two {
+            return None;
+        }
         let [round_wind, seat_wind] = [context.round_wind, context.seat_wind].map(honor);
         let plain = theirs::GameContext::new(win_type(context.win_type), round_wind, seat_wind);
-        theirs::GameContext {
+        Some(theirs::GameContext {
             winning_tile: context.winning_tile.map(tile),
             is_open: calls.iter().any(ours::Meld::is_open),
             is_riichi: context.is_riichi,
@@ -223,7 +241,7 @@ pub mod to_agari {
             is_tenhou: context.is_tenhou,
             is_chiihou: context.is_chiihou,
             ..plain
-        }
+        })
     }
 }
 
@@ -299,7 +317,9 @@ mod tests {
             let context = agari_scores::context(&win, hand.is_open());
             let turned = to_ziwhakemo::game_context(&context).unwrap();
             let back = to_agari::game_context(&turned, &turned_calls);
-            assert_eq!(text(back), text(context));
+            assert_eq!(text(back), text(Some(context)));
+            let two = turned.with_double_wind_fu(ours::DoubleWindFu::Two);
+            assert!(to_agari::game_context(&two, &turned_calls).is_none());
         }
     }
 

@@ -14,11 +14,11 @@
 
 use crate::agari::{self, Record};
 use crate::hand::*;
-use crate::library::{Meld, TSUMO, Win};
+use crate::library::{Meld, SETTINGS, TSUMO, TWO, Win};
 use agari_core::context::{GameContext, WinType};
 use agari_core::hand::HandStructure;
 use agari_core::parse::TileCounts;
-use agari_core::scoring::{Payment, ScoreLevel};
+use agari_core::scoring::{FuBreakdown, FuResult, Payment, ScoreLevel};
 use agari_core::tile::Tile;
 use agari_core::wait::WaitType;
 use agari_core::yaku::YakuResult;
@@ -72,9 +72,44 @@ pub fn yaku(
     theirs
 }
 
-/// The fu of a reading.
-pub fn fu(theirs: u8, _reading: &HandStructure, _context: &GameContext) -> u8 {
-    theirs
+/// The fu of a reading in a room with this setting. Row 'The pair of the double wind'.
+pub fn fu(
+    theirs: FuResult,
+    reading: &HandStructure,
+    context: &GameContext,
+    setting: u8,
+) -> FuResult {
+    if setting == TWO && has_double_wind(reading, context) {
+        with_pair_at_two(theirs, context.is_open)
+    } else {
+        theirs
+    }
+}
+
+/// Whether the pair is both round and seat wind. Seven pairs and thirteen orphans have fixed fu.
+fn has_double_wind(reading: &HandStructure, context: &GameContext) -> bool {
+    let winds = [context.round_wind, context.seat_wind].map(Tile::honor);
+    match reading {
+        HandStructure::Standard { pair, .. } => winds == [*pair; 2],
+        HandStructure::Chiitoitsu { .. } | HandStructure::Kokushi { .. } => false,
+    }
+}
+
+/// agari's parts with the pair's 4 turned into 2, and their sum rounded up to ten again. An open hand
+/// keeps its 30; pinfu by tsumo has no such pair.
+fn with_pair_at_two(theirs: FuResult, is_open: bool) -> FuResult {
+    assert_eq!(theirs.breakdown.pair, 4, "agari's fu for such a pair");
+    let mut parts = FuBreakdown {
+        pair: 2,
+        ..theirs.breakdown
+    };
+    let hand = parts.base + parts.melds + parts.pair;
+    parts.raw_total = hand + parts.menzen_ron + parts.tsumo + parts.wait;
+    let rounded = parts.raw_total.div_ceil(10) * 10;
+    FuResult {
+        total: if is_open { rounded.max(30) } else { rounded },
+        breakdown: parts,
+    }
 }
 
 /// The level of han and fu.
@@ -146,13 +181,24 @@ fn is_call(meld: Meld) -> bool {
     }
 }
 
-/// The grounds for the refusals 8 and 9, each looked at by itself. Rows 'Win type', 'A wind that is
-/// none' and 'A winning tile that the hand does not hold'.
-pub fn win_faults(hand: &Hand, win: &Win) -> [bool; 2] {
+/// What is out of range in a win: its type, the round wind, the seat wind, the setting. Rows 'Win type',
+/// 'A wind that is none' and 'A setting that is none'.
+pub fn out_of_range(win: &Win) -> [bool; 4] {
     let is_wind = |tile: u8| (27..=30).contains(&tile);
+    [
+        win.win_type > TSUMO,
+        !is_wind(win.round_wind),
+        !is_wind(win.seat_wind),
+        !SETTINGS.contains(&win.double_wind_fu),
+    ]
+}
+
+/// The grounds for the refusals 8 and 9, each looked at by itself. Row 'A winning tile that the hand
+/// does not hold'.
+pub fn win_faults(hand: &Hand, win: &Win) -> [bool; 2] {
     let held = hand.counts().get(usize::from(win.winning_tile));
     [
-        win.win_type > TSUMO || !is_wind(win.round_wind) || !is_wind(win.seat_wind),
+        out_of_range(win).contains(&true),
         win.winning_tile > 33 || held.is_none_or(|&count| count == 0),
     ]
 }
@@ -170,6 +216,7 @@ pub fn payment_refusal(basic_points: u32, win_type: u8) -> Option<u32> {
 
 #[cfg(test)]
 mod tests {
+    use super::*;
     use std::fs;
     use std::path::Path;
 
@@ -186,11 +233,34 @@ mod tests {
     }
 
     #[test]
+    fn the_pairs_four_becomes_two_in_agaris_parts() {
+        let parts = |pair, raw_total| FuBreakdown {
+            base: 20,
+            tsumo: 2,
+            melds: 4,
+            pair,
+            wait: 2,
+            raw_total,
+            ..FuBreakdown::default()
+        };
+        let theirs = FuResult {
+            total: 40,
+            breakdown: parts(4, 32),
+        };
+        let ours = with_pair_at_two(theirs, false);
+        assert_eq!(ours.total, 30);
+        assert_eq!(
+            format!("{:?}", ours.breakdown),
+            format!("{:?}", parts(2, 30))
+        );
+    }
+
+    #[test]
     fn every_row_that_is_named_stands_in_the_table() {
         let root = Path::new(env!("CARGO_MANIFEST_DIR")).join("..");
         let table = fs::read_to_string(root.join("docs/DIFFERENCES.md")).unwrap();
         let rows = named_rows();
-        assert!(rows.len() > 10, "{rows:?}");
+        assert!(rows.len() > 12, "{rows:?}");
         for row in rows {
             assert!(table.contains(&format!("\n| {row} |")), "{row}");
         }

@@ -10,6 +10,7 @@ pub mod checker;
 pub mod convert;
 pub mod damage;
 pub mod differences;
+pub mod double_winds;
 pub mod every;
 pub mod faults;
 pub mod hand;

@@ -1,7 +1,7 @@
 //! The proved library, by its C interface.
 
 /// The version of the interface that is declared here.
-pub const VERSION: u32 = 3;
+pub const VERSION: u32 = 4;
 
 /// The number of yaku tallies: one for each entry of `Yaku`, Yakuhai apart for each honour, without
 /// the three local entries.
@@ -12,6 +12,11 @@ pub const WAITS: usize = 6;
 // The win types.
 pub const RON: u8 = 0;
 pub const TSUMO: u8 = 1;
+
+// The room's settings: so many fu for a pair that is both round and seat wind.
+pub const FOUR: u8 = 4;
+pub const TWO: u8 = 2;
+pub const SETTINGS: [u8; 2] = [FOUR, TWO];
 
 /// The number of mixtures of win type, winds and flags.
 pub const MIXTURES: usize = 2 * 4 * 4 * 256;
@@ -31,9 +36,9 @@ pub struct Calls {
     pub melds: [Meld; 4],
 }
 
-/// A win, apart from its hand.
+/// A win, apart from its hand. There is no default: a setting of 0 is refused.
 #[repr(C)]
-#[derive(Clone, Copy, Debug, Default)]
+#[derive(Clone, Copy, Debug)]
 pub struct Win {
     pub win_type: u8,
     pub winning_tile: u8,
@@ -47,17 +52,45 @@ pub struct Win {
     pub is_last_tile: bool,
     pub is_tenhou: bool,
     pub is_chiihou: bool,
+    pub double_wind_fu: u8,
 }
 
 impl Win {
-    /// A win by this tile in the mixture of win type, winds and flags with this number.
+    /// A win with no flags, in a room with setting four.
+    pub fn new(win_type: u8, winning_tile: u8, round_wind: u8, seat_wind: u8) -> Win {
+        Win {
+            win_type,
+            winning_tile,
+            round_wind,
+            seat_wind,
+            is_riichi: false,
+            is_double_riichi: false,
+            is_ippatsu: false,
+            is_rinshan: false,
+            is_chankan: false,
+            is_last_tile: false,
+            is_tenhou: false,
+            is_chiihou: false,
+            double_wind_fu: FOUR,
+        }
+    }
+
+    /// The same win in a room with this setting.
+    pub fn in_room(self, double_wind_fu: u8) -> Win {
+        Win {
+            double_wind_fu,
+            ..self
+        }
+    }
+
+    /// A win by this tile in the mixture of win type, winds and flags with this number, with setting
+    /// four.
     pub fn in_mixture(number: usize, winning_tile: u8) -> Win {
         let flag = |place: usize| number >> (7 - place) & 1 == 1;
+        let win_type = (number >> 8 & 1) as u8;
+        let round_wind = 27 + (number >> 11 & 3) as u8;
+        let seat_wind = 27 + (number >> 9 & 3) as u8;
         Win {
-            win_type: (number >> 8 & 1) as u8,
-            winning_tile,
-            round_wind: 27 + (number >> 11 & 3) as u8,
-            seat_wind: 27 + (number >> 9 & 3) as u8,
             is_riichi: flag(0),
             is_double_riichi: flag(1),
             is_ippatsu: flag(2),
@@ -66,6 +99,7 @@ impl Win {
             is_last_tile: flag(5),
             is_tenhou: flag(6),
             is_chiihou: flag(7),
+            ..Win::new(win_type, winning_tile, round_wind, seat_wind)
         }
     }
 
@@ -256,12 +290,19 @@ pub fn payment(basic_points: u32, is_dealer: bool, win_type: u8) -> PaymentAnswe
 #[cfg(test)]
 mod tests {
     use super::*;
+    use std::mem::offset_of;
 
     #[test]
     fn every_mixture_has_its_number() {
         for number in 0..MIXTURES {
             assert_eq!(Win::in_mixture(number, 0).mixture(), number);
         }
+    }
+
+    #[test]
+    fn the_setting_is_the_last_of_13_bytes() {
+        assert_eq!((size_of::<Win>(), align_of::<Win>()), (13, 1));
+        assert_eq!(offset_of!(Win, double_wind_fu), 12);
     }
 
     #[test]

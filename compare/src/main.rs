@@ -8,13 +8,14 @@ use std::time::Duration;
 const USAGE: &str = "usage: compare readings [--seed N] [--random N] [--suit] [--mixed SECONDS]
        compare points
        compare scores [--seed N] [--wins N]
-       compare wins [--seed N] [--random N] [--suit] [--orphans]
+       compare wins [--seed N] [--random N] [--suit] [--orphans] [--double-winds [N]]
        compare twins [--seed N] [--random N]";
 const SEED: u64 = 1;
 const RANDOM_HANDS: u64 = 5_000_000;
 const MIXED_SECONDS: u64 = 600;
 const SCORED_WINS: u64 = 3_000_000;
 const RANDOM_WINS: u64 = 7_000_000;
+const DOUBLE_WINDS: u64 = 2_000_000;
 const RANDOM_TWINS: u64 = 1_000_000;
 
 fn main() -> ExitCode {
@@ -67,17 +68,25 @@ fn compare_scores(words: &[&str]) -> Option<u64> {
 
 /// Where no class is named, all are compared.
 fn compare_wins(words: &[&str]) -> Option<u64> {
-    let given = Options::read(words, &["--seed", "--random"], &["--suit", "--orphans"])?;
+    let given = Options::read_with(
+        words,
+        &["--seed", "--random"],
+        &["--suit", "--orphans"],
+        &[("--double-winds", DOUBLE_WINDS)],
+    )?;
     let mut options = scored_wins::Options {
         seed: given.number("--seed").unwrap_or(SEED),
         random: given.number("--random"),
         suit: given.has("--suit"),
         orphans: given.has("--orphans"),
+        double_winds: given.number("--double-winds"),
     };
-    if options.random.is_none() && !options.suit && !options.orphans {
+    let is_random = options.random.or(options.double_winds).is_some();
+    if !is_random && !options.suit && !options.orphans {
         options.random = Some(RANDOM_WINS);
         options.suit = true;
         options.orphans = true;
+        options.double_winds = Some(DOUBLE_WINDS);
     }
     Some(scored_wins::compare(&options))
 }

@@ -37,6 +37,11 @@ impl Reading {
         }
         reading
     }
+
+    /// Whether it is four melds and a pair that is both round and seat wind.
+    pub fn has_double_wind(&self, win: &Win) -> bool {
+        self.kind == STANDARD && [win.round_wind, win.seat_wind] == [self.pair; 2]
+    }
 }
 
 /// What a reading scores, before points. The yakuman flag is C's `_Bool`, taken as a byte, so that

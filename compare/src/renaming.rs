@@ -71,7 +71,7 @@ impl Renaming {
         renamed
     }
 
-    /// The same win by the renamed tile.
+    /// The same win by the renamed tile, in the same room.
     pub fn win(&self, win: &Win) -> Win {
         Win {
             winning_tile: self.tile(win.winning_tile),
@@ -129,6 +129,17 @@ mod tests {
             assert_eq!(renaming.meld(meld), mirrored);
         }
         assert_eq!(renaming.meld(Meld::new(33, ADDED_KAN)).tile, 33);
+    }
+
+    #[test]
+    fn a_renamed_win_is_in_the_same_room() {
+        let win = Win::new(0, 8, 27, 27);
+        // Man becomes pin, and numbers are mirrored.
+        let renaming = Renaming::numbered(4 * 2 + 2);
+        for setting in 0..=u8::MAX {
+            let renamed = renaming.win(&win.in_room(setting));
+            assert_eq!((renamed.winning_tile, renamed.double_wind_fu), (9, setting));
+        }
     }
 
     #[test]

@@ -185,8 +185,17 @@ impl Term {
         Meld::new(arguments[0].tile(), kind)
     }
 
-    /// A win: `ron (sou 8)`, `southWins byRon (sou 8) (riichi ∷ [])` and the like.
+    /// A win: `ron (sou 8)`, `southWins byRon (sou 8) (riichi ∷ [])` and the like, or such a win in a
+    /// room with another setting: `inRoom 2 (ron (sou 8))`.
     pub fn win(&self) -> Win {
+        match self.parts() {
+            ("inRoom", [setting, win]) => win.win().in_room(setting.number() as u8),
+            _ => self.plain_win(),
+        }
+    }
+
+    /// A win with setting four.
+    fn plain_win(&self) -> Win {
         let plain = Term::List(Vec::new());
         let (win_type, tile, round, seat, flags) = match self.parts() {
             ("ron", [tile]) => (RON, tile, EAST, SOUTH, &plain),
@@ -198,13 +207,7 @@ impl Term {
             }
             (name, _) => panic!("no win: {name}"),
         };
-        let mut win = Win {
-            win_type,
-            winning_tile: tile.tile(),
-            round_wind: round,
-            seat_wind: seat,
-            ..Win::default()
-        };
+        let mut win = Win::new(win_type, tile.tile(), round, seat);
         for name in flags.list() {
             *flag(&mut win, name.parts().0) = true;
         }
@@ -348,5 +351,17 @@ mod tests {
         assert!(win.is_riichi && win.is_ippatsu && !win.is_rinshan);
         assert_eq!(refuses.to_string(), "refuses 11");
         assert_eq!(Term::of(&rows[0].term.to_string()), rows[0].term);
+    }
+
+    #[test]
+    fn a_win_may_be_in_a_room() {
+        let setting = |text| Term::of(text).win().double_wind_fu;
+        assert_eq!(setting("ron (sou 8)"), 4);
+        assert_eq!(setting("inRoom 2 (ron (sou 8))"), 2);
+        assert_eq!(setting("inRoom 0 (inRoom 2 (tsumo East))"), 0);
+        let win = Term::of("inRoom 2 (dealerWins byTsumo (pin 5) (riichi ∷ []))").win();
+        assert_eq!((win.win_type, win.winning_tile), (TSUMO, 13));
+        assert_eq!((win.round_wind, win.seat_wind), (EAST, EAST));
+        assert!(win.is_riichi);
     }
 }

@@ -2,8 +2,9 @@
 
 use crate::agari_scores::{WAIT_ENTRIES, YAKU_ENTRIES};
 use crate::hand::*;
-use crate::library::{MIXTURES, RON, WAITS, Win, YAKU};
+use crate::library::{MIXTURES, RON, SETTINGS, WAITS, Win, YAKU};
 use crate::probe::{Reading, ReadingScore, STANDARD};
+use crate::win_tally::{SETTING_NAMES, counted, setting};
 use std::fmt::{self, Debug};
 
 /// The place of the first wind's yakuhai among the yaku tallies, and the number of winds.
@@ -23,6 +24,9 @@ pub struct ScoreTally {
     waits: [u64; WAITS],
     /// Inputs with tally 2 of each wind.
     double_winds: [u64; WINDS],
+    /// Inputs by setting, and those of them whose pair is both round and seat wind.
+    settings: [u64; SETTINGS.len()],
+    double_pairs: [u64; SETTINGS.len()],
     several_waits: u64,
     equal_waits: u64,
     spared_triplet: u64,
@@ -44,6 +48,8 @@ impl ScoreTally {
             yaku: [0; YAKU],
             waits: [0; WAITS],
             double_winds: [0; WINDS],
+            settings: [0; SETTINGS.len()],
+            double_pairs: [0; SETTINGS.len()],
             several_waits: 0,
             equal_waits: 0,
             spared_triplet: 0,
@@ -73,6 +79,8 @@ impl ScoreTally {
         count_each(&mut self.yaku, &score.tallies, 1);
         count_each(&mut self.waits, &score.waits, 1);
         count_each(&mut self.double_winds, &score.tallies[EAST..], 2);
+        self.settings[setting(win)] += 1;
+        self.double_pairs[setting(win)] += u64::from(reading.has_double_wind(win));
         self.several_waits += u64::from(has_several_waits(score));
         self.equal_waits += u64::from(has_equal_waits(score));
         self.spared_triplet += u64::from(has_spared_triplet(reading, win));
@@ -150,6 +158,10 @@ impl fmt::Display for ScoreTally {
             f,
             "  mixtures of win type, winds and flags: {seen} of {MIXTURES}"
         )?;
+        let settings = counted(&SETTING_NAMES, &self.settings);
+        let double_pairs = counted(&SETTING_NAMES, &self.double_pairs);
+        writeln!(f, "  by setting: {settings}")?;
+        writeln!(f, "  pair both round and seat wind: {double_pairs}")?;
         writeln!(
             f,
             "  several waits: {several}, one of them twice or more: {equal}"

@@ -1,5 +1,6 @@
 //! The comparison of scored wins and readings and of named waits, class by class.
 
+use crate::double_winds;
 use crate::every::{hand_of, suit_counts};
 use crate::hand::*;
 use crate::library::{MIXTURES, RON, TSUMO, Win};
@@ -21,6 +22,7 @@ pub struct Options {
     pub random: Option<u64>,
     pub suit: bool,
     pub orphans: bool,
+    pub double_winds: Option<u64>,
 }
 
 /// Compares the classes that are asked for, and answers the number of inputs that differ.
@@ -45,6 +47,15 @@ pub fn compare(options: &Options) -> u64 {
             compare_random(checker, seed, wins)
         }));
     }
+    if let Some(wins) = options.double_winds {
+        let title = format!(
+            "wins with a pair that is most often both round and seat wind, with setting four and with \
+             two, seed {seed}"
+        );
+        total.add(&run(&mut checker, &title, |checker| {
+            double_winds::compare(checker, seed, wins)
+        }));
+    }
     println!("all\n{total}  {}", total.differences());
     total.differ()
 }
@@ -60,8 +71,8 @@ fn run(checker: &mut WinChecker, title: &str, class: impl FnOnce(&mut WinChecker
     tally
 }
 
-/// Each hand, winning tile and win type twice: by seat South in the round of East with no flags, and
-/// in any circumstances.
+/// Each hand, winning tile and win type twice: by seat South in the round of East with no flags and
+/// setting four, and in any circumstances.
 fn compare_suits(checker: &mut WinChecker, seed: u64) {
     let mut rng = Rng::new(!seed);
     let numbers = suit_counts(14);
@@ -71,7 +82,7 @@ fn compare_suits(checker: &mut WinChecker, seed: u64) {
             let expected = ExpectedHand::of(&hand);
             for tile in wins::held_tiles(&hand) {
                 for win_type in [RON, TSUMO] {
-                    let plain = plain_win(win_type, tile);
+                    let plain = Win::new(win_type, tile, EAST, SOUTH);
                     let drawn = Win {
                         win_type,
                         ..wins::win(&mut rng, &hand, tile)
@@ -84,7 +95,7 @@ fn compare_suits(checker: &mut WinChecker, seed: u64) {
     }
 }
 
-/// A tile that is not among the thirteen is refused, and compared too.
+/// A tile that is not among the thirteen is refused, and compared too. The setting is four.
 fn compare_orphans(checker: &mut WinChecker) {
     for hand in random::ORPHANS.map(random::orphans_with) {
         let expected = ExpectedHand::of(&hand);
@@ -94,16 +105,6 @@ fn compare_orphans(checker: &mut WinChecker) {
                 checker.check(&hand, &win, &expected.won(&hand, &win));
             }
         }
-    }
-}
-
-fn plain_win(win_type: u8, winning_tile: u8) -> Win {
-    Win {
-        win_type,
-        winning_tile,
-        round_wind: EAST,
-        seat_wind: SOUTH,
-        ..Win::default()
     }
 }
 

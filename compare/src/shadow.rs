@@ -3,8 +3,9 @@
 use crate::agari;
 use crate::agari_scores::context;
 use crate::answers;
-use crate::convert::theirs::{GameContext, Meld, TileCounts};
+use crate::convert::theirs::{GameContext, Meld, Tile, TileCounts};
 use crate::convert::to_ziwhakemo;
+use crate::library::TWO;
 use crate::random;
 use crate::rng::Rng;
 use crate::scored_wins::sound_hand;
@@ -23,6 +24,8 @@ pub struct TableWin {
     /// The tiles of hand and calls together.
     pub all_counts: TileCounts,
     pub context: GameContext,
+    /// The room's setting, which agari has not.
+    pub setting: u8,
 }
 
 impl TableWin {
@@ -36,6 +39,7 @@ impl TableWin {
             calls: agari::called_melds(hand.called()),
             all_counts: agari::tile_counts(&hand.with_calls().map(|count| count as u8)),
             context: context(&win, hand.is_open()),
+            setting: win.double_wind_fu,
         }
     }
 }
@@ -48,7 +52,8 @@ impl fmt::Display for TableWin {
             let text = to_ziwhakemo::tile(tile).to_string();
             write!(f, "{}", text.repeat(count.into()))?;
         }
-        write!(f, ", calls {:?}, {:?}", self.calls, self.context)
+        write!(f, ", calls {:?}, {:?}", self.calls, self.context)?;
+        write!(f, ", setting {}", self.setting)
     }
 }
 
@@ -131,6 +136,11 @@ fn corners(win: &TableWin, agari: &Ranked) -> Vec<(&'static str, bool)> {
         ("open", is_open),
         ("closed kans alone", !is_open && !win.calls.is_empty()),
         ("a wind counts twice", is_best(has_double_wind)),
+        ("a pair both round and seat wind", has_double_pair(win)),
+        (
+            "with setting two",
+            win.setting == TWO && has_double_pair(win),
+        ),
         ("yakuman by yaku", is_best(|best| best.is_yakuman)),
         ("yakuman several times", is_best(is_several_yakuman)),
         ("yakuman by 13 or more han", is_best(is_counted_yakuman)),
@@ -159,6 +169,12 @@ fn are_worth_the_same(best: &Settled, next: &Settled) -> bool {
 fn has_double_wind(best: &Settled) -> bool {
     let mut pairs = best.yaku.windows(2);
     pairs.any(|two| two[0] == two[1] && matches!(two[0], Yaku::Yakuhai(_)))
+}
+
+/// Whether a pair that may stand beside four melds is both round and seat wind.
+fn has_double_pair(win: &TableWin) -> bool {
+    let [round, seat] = [win.context.round_wind, win.context.seat_wind];
+    round == seat && win.counts.get(&Tile::honor(round)) == Some(&2)
 }
 
 fn is_several_yakuman(best: &Settled) -> bool {

@@ -110,13 +110,14 @@ pub fn put_hand(record: &mut [u8], hand: &Hand) {
     }
 }
 
-/// Writes a win into 12 bytes: its type, the winning tile, the winds and the flags.
+/// Writes a win into 13 bytes: its type, the winning tile, the winds, the flags and the setting.
 pub fn put_win(record: &mut [u8], win: &Win) {
     record[0] = win.win_type;
     record[1] = win.winning_tile;
     record[2] = win.round_wind;
     record[3] = win.seat_wind;
     record[4..12].copy_from_slice(&win.flags().map(u8::from));
+    record[12] = win.double_wind_fu;
 }
 
 /// Writes a number into two bytes, the lower one first.

@@ -4,12 +4,12 @@ use crate::agreement::{ANSWERS, Outcome, PARTS, Twins};
 use crate::checker::SUFFICES;
 use crate::faults::{listed, listed_from};
 use crate::hand::Hand;
-use crate::library::Win;
+use crate::library::{SETTINGS, Win};
 use crate::renaming::Renaming;
 use crate::rng::Rng;
 use crate::scored_wins::random_wins;
 use crate::win_oracle::ExpectedWin;
-use crate::win_tally::counted;
+use crate::win_tally::{SETTING_NAMES, counted, setting};
 use std::fmt;
 use std::time::Instant;
 
@@ -69,7 +69,7 @@ impl TwinChecker {
             self.tally.count_green(unit, &outcome);
             return;
         }
-        self.tally.count(number, &outcome);
+        self.tally.count(number, win, &outcome);
         if outcome.differ.contains(&true) && self.tally.differ <= PRINTED {
             print(&twins, &outcome);
         }
@@ -100,7 +100,8 @@ struct TwinTally {
     /// The other pairs by renaming, and by readings, five or more together.
     renamings: [u64; Renaming::ALL],
     readings: [u64; 6],
-    /// The same by the answer to the first scored win.
+    /// The same by setting, which both wins share, and by the answer to the first scored win.
+    settings: [u64; SETTINGS.len()],
     answers: [u64; ANSWERS.len()],
     /// Those whose records did not fit into the shorter buffer.
     too_short: u64,
@@ -115,8 +116,9 @@ impl TwinTally {
         self.green_differ[unit] += u64::from(outcome.differ.contains(&true));
     }
 
-    fn count(&mut self, renaming: usize, outcome: &Outcome) {
+    fn count(&mut self, renaming: usize, win: &Win, outcome: &Outcome) {
         self.renamings[renaming] += 1;
+        self.settings[setting(win)] += 1;
         self.readings[outcome.readings.min(5)] += 1;
         let number = outcome.scores[0].number as usize;
         if let Some(place) = ANSWERS.iter().position(|&answer| answer == number) {
@@ -150,6 +152,8 @@ impl fmt::Display for TwinTally {
         write!(f, "  renamings: {occurred} of {}, ", Renaming::ALL)?;
         writeln!(f, "the rarest in {rarest} pairs")?;
         writeln!(f, "  pairs by readings: {readings}")?;
+        let settings = counted(&SETTING_NAMES, &self.settings);
+        writeln!(f, "    by setting: {settings}")?;
         writeln!(f, "    by answer to the scored wins: {answers}")?;
         writeln!(f, "    refused alike with 7: {}", self.too_short)?;
         writeln!(f, "  differ: {} ({parts})", self.differ)

@@ -3,7 +3,7 @@
 use crate::damage;
 use crate::differences::FAULTS;
 use crate::hand::*;
-use crate::library::Win;
+use crate::library::{SETTINGS, Win};
 use crate::random;
 use crate::rng::Rng;
 use crate::win_oracle::CHECKS;
@@ -49,18 +49,32 @@ fn any_held_tile(rng: &mut Rng, hand: &Hand) -> u8 {
     random::other_held_tile(rng, hand, KINDS).unwrap_or(any) as u8
 }
 
-/// A win type or a wind that is none, or all three.
-fn put_out_of_range(rng: &mut Rng, win: &mut Win) {
-    let place = rng.below(4);
-    if [0, 3].contains(&place) {
+/// A win type, a wind or a setting that is none, or all four.
+pub fn put_out_of_range(rng: &mut Rng, win: &mut Win) {
+    let place = rng.below(5);
+    if [0, 4].contains(&place) {
         let any = 2 + rng.below(254) as u8;
         win.win_type = rng.pick(&[2, 3, 128, 254, 255, any]);
     }
-    if [1, 3].contains(&place) {
+    if [1, 4].contains(&place) {
         win.round_wind = no_wind(rng);
     }
-    if [2, 3].contains(&place) {
+    if [2, 4].contains(&place) {
         win.seat_wind = no_wind(rng);
+    }
+    if [3, 4].contains(&place) {
+        win.double_wind_fu = no_setting(rng);
+    }
+}
+
+/// A setting that is none: one near four or two or with a bit more, or any.
+pub fn no_setting(rng: &mut Rng) -> u8 {
+    loop {
+        let any = rng.byte();
+        let setting = rng.pick(&[0, 1, 3, 5, 6, 20, 130, 132, 255, any, any, any]);
+        if !SETTINGS.contains(&setting) {
+            return setting;
+        }
     }
 }
 
@@ -71,7 +85,7 @@ fn no_wind(rng: &mut Rng) -> u8 {
 }
 
 /// A tile above 33, or one that the hand does not hold, half of these from a call where there is one.
-fn absent_tile(rng: &mut Rng, hand: &Hand) -> u8 {
+pub fn absent_tile(rng: &mut Rng, hand: &Hand) -> u8 {
     let beyond = 34 + rng.below(222) as u8;
     let absent = |&tile: &usize| tile < KINDS && hand.counts[tile] == 0;
     let anywhere: Vec<usize> = (0..KINDS).filter(absent).collect();

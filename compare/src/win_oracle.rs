@@ -41,7 +41,14 @@ impl ExpectedHand {
             faults,
             scores: read.map_or(Vec::new(), |read| read.scores(win)),
             waits: read.map_or(Vec::new(), |read| read.waits(win)),
+            double_winds: read.map_or(Vec::new(), |read| read.double_winds(win)),
         }
+    }
+
+    /// agari's fu of each reading, won so; none where the hand is refused.
+    pub fn fu(&self, win: &Win) -> Vec<u8> {
+        let read = self.read.as_ref();
+        read.map_or(Vec::new(), |read| read.fu(win))
     }
 }
 
@@ -53,6 +60,8 @@ pub struct ExpectedWin {
     pub scores: Vec<Score>,
     /// Their waits, likewise.
     pub waits: Vec<[u8; WAITS]>,
+    /// Whether the pair of each is both round and seat wind.
+    pub double_winds: Vec<bool>,
 }
 
 impl ExpectedWin {
@@ -140,22 +149,17 @@ fn refused(number: u32) -> Score {
 mod tests {
     use super::*;
     use crate::hand::*;
-    use crate::library::{Meld, RON};
+    use crate::library::{Meld, RON, SETTINGS, TSUMO};
 
     const MAN_1: u8 = 0;
     const MAN_4: u8 = 3;
+    const PIN_5: u8 = 13;
     const SOU_8: u8 = 25;
     const EAST: u8 = 27;
     const SOUTH: u8 = 28;
 
     fn ron(winning_tile: u8) -> Win {
-        Win {
-            win_type: RON,
-            winning_tile,
-            round_wind: EAST,
-            seat_wind: SOUTH,
-            ..Win::default()
-        }
+        Win::new(RON, winning_tile, EAST, SOUTH)
     }
 
     fn answer(hand: &Hand, win: &Win) -> (u32, usize, u64) {
@@ -220,6 +224,82 @@ mod tests {
         assert_eq!(no_reading.score_reading(0).number, 12);
     }
 
+    /// Fu and total of a win with setting four, and with two.
+    fn with_both(hand: &Hand, win: Win) -> [(u8, u64); 2] {
+        SETTINGS.map(|setting| {
+            let score = ExpectedWin::of(hand, &win.in_room(setting)).score_win();
+            (score.fu, score.total)
+        })
+    }
+
+    #[test]
+    fn a_pair_of_the_double_wind_has_four_fu_or_two() {
+        let hand = Hand::written("222m456p345678s11z");
+        let dealer = Win::new(TSUMO, PIN_5, EAST, EAST);
+        assert_eq!(with_both(&hand, dealer), [(40, 2100), (30, 1500)]);
+        let south = Win::new(TSUMO, PIN_5, EAST, SOUTH);
+        assert_eq!(with_both(&hand, south), [(30, 1100); 2]);
+        let dragons = Hand::written("222m456p345678s55z");
+        assert_eq!(with_both(&dragons, dealer), [(30, 1500); 2]);
+        let south = Win::new(TSUMO, PIN_5, SOUTH, SOUTH);
+        let hand = Hand::written("222m456p345678s22z");
+        assert_eq!(with_both(&hand, south), [(40, 1500), (30, 1100)]);
+    }
+
+    #[test]
+    fn an_open_hand_keeps_its_30_fu() {
+        let mut sequences = Hand::written("456p234678s11z");
+        sequences.call(Meld::new(MAN_1, OPEN_SEQUENCE));
+        let houtei = Win {
+            is_last_tile: true,
+            ..Win::new(RON, SOU_8, EAST, EAST)
+        };
+        assert_eq!(with_both(&sequences, houtei), [(30, 1500); 2]);
+        let mut triplets = Hand::written("444p678s11z");
+        triplets.call(Meld::new(33, OPEN_TRIPLET));
+        triplets.call(Meld::new(1, OPEN_SEQUENCE));
+        assert_eq!(with_both(&triplets, houtei), [(40, 3900), (30, 2900)]);
+    }
+
+    #[test]
+    fn yaku_waits_and_fixed_fu_do_not_go_by_the_setting() {
+        let both = |text, tile| {
+            let (hand, win) = (Hand::written(text), Win::new(TSUMO, tile, EAST, EAST));
+            SETTINGS.map(|setting| ExpectedWin::of(&hand, &win.in_room(setting)))
+        };
+        let fu = |expected: &ExpectedWin| -> Vec<u8> {
+            expected.scores.iter().map(|score| score.fu).collect()
+        };
+        let [four, two] = both("111222333m567p11z", MAN_1 + 2);
+        assert_eq!([&four, &two].map(fu), [[30, 50], [30, 40]]);
+        assert_eq!(four.double_winds, [true, true]);
+        assert_eq!(four.waits, two.waits);
+        for (four, two) in four.scores.iter().zip(&two.scores) {
+            assert_eq!((four.tallies, four.han), (two.tallies, two.han));
+        }
+        // Seven pairs, and beside them twice two equal sequences on the wait for their pair.
+        let [four, two] = both("223344m667788p11z", EAST);
+        assert_eq!([&four, &two].map(fu), [[25, 30]; 2]);
+        assert_eq!(four.double_winds, [false, true]);
+    }
+
+    #[test]
+    fn a_setting_that_is_none_is_refused_with_8() {
+        let hand = Hand::written("12355m456p234678s");
+        let short = Hand::written("1235m456p234678s");
+        for setting in 0..=u8::MAX {
+            let is_one = SETTINGS.contains(&setting);
+            let [good, absent] = [SOU_8, EAST].map(|tile| ron(tile).in_room(setting));
+            let first = |number| if is_one { number } else { 8 };
+            let expected = ExpectedWin::of(&hand, &good);
+            assert_eq!(expected.score_win().number, first(0));
+            assert_eq!(expected.score_reading(0).number, first(0));
+            assert_eq!(expected.name_waits(0).number, first(0));
+            assert_eq!(answer(&hand, &absent).0, first(9));
+            assert_eq!(answer(&short, &good).0, 6);
+        }
+    }
+
     #[test]
     fn the_rules_of_the_choice_decide_in_their_order() {
         let score = |total, is_yakuman, han, fu| Score {
@@ -250,6 +330,7 @@ mod tests {
                 faults: [false; CHECKS.len()],
                 scores: vec![no_yaku, better, worse],
                 waits: vec![],
+                double_winds: vec![],
             };
             assert_eq!(expected.score_win(), better);
             assert_eq!(expected.deciding_rule(), Some(rule));

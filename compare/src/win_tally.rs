@@ -1,9 +1,10 @@
 //! Counts of the wins that were compared, by the expected answers.
 
 use crate::agari_scores::{WAIT_ENTRIES, YAKU_ENTRIES};
+use crate::differences::out_of_range;
 use crate::faults::{FaultTally, add_each, listed_from};
 use crate::hand::{Hand, KINDS};
-use crate::library::{MIXTURES, Score, TSUMO, WAITS, Waits, Win};
+use crate::library::{MIXTURES, SETTINGS, Score, TSUMO, TWO, WAITS, Waits, Win};
 use crate::score_tally::named;
 use crate::win_oracle::{CHECKS, ExpectedWin};
 use agari_core::wait::WaitType;
@@ -23,6 +24,8 @@ pub const LEVELS: [&str; 6] = [
     "Yakuman",
 ];
 pub const SETTLEMENTS: [&str; 4] = ["ron", "ron to the dealer", "tsumo", "tsumo by the dealer"];
+/// The room's settings.
+pub const SETTING_NAMES: [&str; 2] = ["four", "two"];
 /// The rules of the choice.
 pub const RULES: [&str; 5] = ["total", "yakuman", "han", "fu", "earlier record"];
 
@@ -32,7 +35,7 @@ const ORPHANS: [&str; 3] = [
     "Tanki and KokushiMusou",
     "otherwise",
 ];
-const RANGES: [&str; 3] = ["win type", "round wind", "seat wind"];
+const RANGES: [&str; 4] = ["win type", "round wind", "seat wind", "setting"];
 const ABSENCES: [&str; 3] = ["above 33", "in a call alone", "nowhere"];
 
 /// An operation of the library.
@@ -65,8 +68,12 @@ pub struct WinTally {
     calls: [u64; 5],
     /// Whether each mixture of win type, winds and flags occurred in them.
     mixtures: Vec<bool>,
+    /// Those wins by setting.
+    settings: [u64; SETTINGS.len()],
     /// Their readings as thirteen orphans, by wait and yaku.
     orphans: [u64; ORPHANS.len()],
+    /// Scored wins whose chosen reading has a pair that is both round and seat wind, by setting.
+    double_winds: [u64; SETTINGS.len()],
     /// Scored wins by level, by settlement, and by the rule that decided where there was a choice.
     levels: [u64; LEVELS.len()],
     settlements: [u64; SETTLEMENTS.len()],
@@ -87,7 +94,9 @@ impl Default for WinTally {
             readings: [0; 6],
             calls: [0; 5],
             mixtures: vec![false; MIXTURES],
+            settings: [0; SETTINGS.len()],
             orphans: [0; ORPHANS.len()],
+            double_winds: [0; SETTINGS.len()],
             levels: [0; LEVELS.len()],
             settlements: [0; SETTLEMENTS.len()],
             rules: [0; RULES.len()],
@@ -131,6 +140,7 @@ impl WinTally {
         self.readings[expected.scores.len().min(5)] += 1;
         self.calls[hand.calls.count] += 1;
         self.mixtures[win.mixture()] = true;
+        self.settings[setting(win)] += 1;
         for (score, waits) in expected.scores.iter().zip(&expected.waits) {
             if let Some(named) = orphans_named(score, waits) {
                 self.orphans[named] += 1;
@@ -139,6 +149,7 @@ impl WinTally {
         let score = expected.score_win();
         if score.number == 0 {
             self.count_score(win, &score);
+            self.double_winds[setting(win)] += u64::from(expected.double_winds[score.reading]);
         }
         if let Some(rule) = expected.deciding_rule() {
             self.rules[rule] += 1;
@@ -146,13 +157,8 @@ impl WinTally {
     }
 
     fn count_out_of_range(&mut self, win: &Win) {
-        let winds = [win.round_wind, win.seat_wind];
-        let [round, seat] = winds.map(|wind| !(27..=30).contains(&wind));
-        for (count, is_out) in self
-            .out_of_range
-            .iter_mut()
-            .zip([win.win_type > TSUMO, round, seat])
-        {
+        let counts = self.out_of_range.iter_mut();
+        for (count, is_out) in counts.zip(out_of_range(win)) {
             *count += u64::from(is_out);
         }
     }
@@ -189,7 +195,9 @@ impl WinTally {
         for (mine, other) in self.mixtures.iter_mut().zip(&other.mixtures) {
             *mine |= other;
         }
+        add_each(&mut self.settings, &other.settings);
         add_each(&mut self.orphans, &other.orphans);
+        add_each(&mut self.double_winds, &other.double_winds);
         add_each(&mut self.levels, &other.levels);
         add_each(&mut self.settlements, &other.settlements);
         add_each(&mut self.rules, &other.rules);
@@ -216,6 +224,11 @@ fn orphans_named(score: &Score, waits: &[u8; WAITS]) -> Option<usize> {
     }
 }
 
+/// The place of a win's setting, which is one, among their names.
+pub fn setting(win: &Win) -> usize {
+    usize::from(win.double_wind_fu == TWO)
+}
+
 /// The place of a win's settlement among their names.
 pub fn settlement(win: &Win) -> usize {
     let is_dealer = win.seat_wind == EAST;
@@ -238,6 +251,8 @@ impl fmt::Display for WinTally {
             f,
             "    mixtures of win type, winds and flags: {seen} of {MIXTURES}"
         )?;
+        let settings = counted(&SETTING_NAMES, &self.settings);
+        writeln!(f, "    by setting: {settings}")?;
         let orphans = counted(&ORPHANS, &self.orphans);
         writeln!(f, "    readings as thirteen orphans: {orphans}")?;
         let levels = counted(&LEVELS, &self.levels);
@@ -253,6 +268,11 @@ impl fmt::Display for WinTally {
             counted(&RULES, &self.rules)
         )?;
         writeln!(f, "    not the first reading: {}", self.not_first)?;
+        let double_winds = counted(&SETTING_NAMES, &self.double_winds);
+        writeln!(
+            f,
+            "    with a pair that is both round and seat wind: {double_winds}"
+        )?;
         let ranges = counted(&RANGES, &self.out_of_range);
         writeln!(f, "  refused with 8, out of range: {ranges}")?;
         let absences = counted(&ABSENCES, &self.absent);

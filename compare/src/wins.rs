@@ -2,11 +2,11 @@
 //! circumstances.
 
 use crate::hand::*;
-use crate::library::{Meld, RON, TSUMO, Win};
+use crate::library::{Meld, RON, SETTINGS, TSUMO, Win};
 use crate::random::{self, ORPHANS, Pool, Style, add_meld, at_most_four};
 use crate::rng::Rng;
 
-const WINDS: [u8; 4] = [27, 28, 29, 30];
+pub const WINDS: [u8; 4] = [27, 28, 29, 30];
 const DRAGONS: [u8; 3] = [31, 32, 33];
 const HONOURS: [usize; 7] = [27, 28, 29, 30, 31, 32, 33];
 const TERMINALS: [usize; 6] = [0, 8, 9, 17, 18, 26];
@@ -96,6 +96,23 @@ fn gates_shape(rng: &mut Rng, first: u8) -> Shape {
 fn shaped(rng: &mut Rng) -> Hand {
     loop {
         let shape = shape(rng);
+        let hand = laid_out(rng, &shape);
+        if at_most_four(&hand) {
+            return hand;
+        }
+    }
+}
+
+/// A hand with a pair of this tile: of a shape, or with three neighbouring triplets or two twice equal
+/// sequences, which have several readings more often.
+fn hand_with_pair(rng: &mut Rng, pair: u8) -> Hand {
+    loop {
+        let mut shape = match rng.share(&[60, 20, 20]) {
+            0 => shape(rng),
+            1 => neighbours(rng),
+            _ => twins(rng),
+        };
+        shape.pair = pair;
         let hand = laid_out(rng, &shape);
         if at_most_four(&hand) {
             return hand;
@@ -225,6 +242,15 @@ fn twins(rng: &mut Rng) -> Shape {
     completed(rng, melds, pool, 0)
 }
 
+/// Three neighbouring triplets of a suit, which are three equal sequences too.
+fn neighbours(rng: &mut Rng) -> Shape {
+    let suit = rng.below(3);
+    let pool = rng.pick(&[Pool::suit(suit), Pool::all()]);
+    let first = Pool::suit(suit).start(rng);
+    let melds = [first, first + 1, first + 2].map(triplet).to_vec();
+    completed(rng, melds, pool, 60)
+}
+
 /// The hand of a shape: nothing called, closed kans alone, or any melds called.
 fn laid_out(rng: &mut Rng, shape: &Shape) -> Hand {
     let style = rng.share(&[45, 20, 35]);
@@ -267,7 +293,7 @@ pub fn held_tiles(hand: &Hand) -> Vec<u8> {
         .collect()
 }
 
-/// A win by this tile in any circumstances.
+/// A win by this tile in any circumstances and with either setting.
 pub fn win(rng: &mut Rng, hand: &Hand, winning_tile: u8) -> Win {
     // The chance of each flag in percent, of tenhou and chiihou apart: they hide all other yaku of
     // a closed hand.
@@ -285,7 +311,21 @@ pub fn win(rng: &mut Rng, hand: &Hand, winning_tile: u8) -> Win {
         is_last_tile: rng.percent(share),
         is_tenhou: rng.percent(first_draw),
         is_chiihou: rng.percent(first_draw),
+        double_wind_fu: rng.pick(&SETTINGS),
     }
+}
+
+/// A win with a pair that is both round and seat wind, in any other circumstances.
+pub fn double_wind(rng: &mut Rng) -> (Hand, Win) {
+    let wind = rng.pick(&WINDS);
+    let hand = hand_with_pair(rng, wind);
+    let tile = random::held_tile(rng, &hand) as u8;
+    let win = Win {
+        round_wind: wind,
+        seat_wind: wind,
+        ..win(rng, &hand, tile)
+    };
+    (hand, win)
 }
 
 /// A wind: in half the cases one that hand or calls hold, where they hold any.

@@ -3,12 +3,17 @@
 //! text, tiles, calls and whether there are red fives have to be the same. Where one of them alone does,
 //! the text has to show one of the differences that docs/DIFFERENCES.md lists under 'Notation'.
 //!
+//! Words for the room's setting, which agari has not, stand before, behind or inside of what the program
+//! is given. It has to take one of them, and to refuse a second.
+//!
 //! Prints how many texts there were of each sort and how many differ; exits with status 1 if any does.
 
 use agari_core::hand::{KanType, Meld};
 use agari_core::parse::ParsedHand;
 use agari_core::tile::{Suit, Tile};
 use compare::arguments::{self, Options};
+use compare::faults::listed_from;
+use compare::library::{FOUR, TWO};
 use compare::rng::Rng;
 use compare::{agari, answers};
 use std::collections::BTreeMap;
@@ -18,11 +23,19 @@ use std::process::{Command, ExitCode};
 const USAGE: &str = "usage: notation [--seed N] [--texts N]";
 const TEXTS: u64 = 20_000;
 
-/// A hand as it was read: in the words of the program, and whether it has red fives.
+/// A hand as it was read: in the words of the program, whether it has red fives, and the room's setting.
 #[derive(PartialEq)]
 struct Read {
     words: String,
     has_reds: bool,
+    setting: u8,
+}
+
+/// What the program is given: a text, and words for the room's setting.
+struct Given {
+    text: String,
+    settings: Vec<&'static str>,
+    arguments: Vec<String>,
 }
 
 // ---- random texts
@@ -96,6 +109,43 @@ fn text(rng: &mut Rng) -> String {
     text
 }
 
+/// Words for the room's setting: none, one, or seldom two.
+fn settings(rng: &mut Rng) -> Vec<&'static str> {
+    let words = rng.share(&[50, 40, 10]);
+    let word = |rng: &mut Rng| rng.pick(&["double-wind-2", "double-wind-4", "Double-Wind-2"]);
+    (0..words).map(|_| word(rng)).collect()
+}
+
+/// A text, with each word for the setting somewhere before or behind it, at times in one argument.
+fn given(rng: &mut Rng) -> Given {
+    let text = text(rng);
+    let settings = settings(rng);
+    let mut arguments: Vec<String> = [&text, "ron 1m"].map(String::from).to_vec();
+    for word in &settings {
+        let place = rng.below(arguments.len());
+        match rng.below(3) {
+            0 => arguments.insert(place, word.to_string()),
+            1 => arguments.push(word.to_string()),
+            _ => arguments[place].insert_str(0, &format!("{word} ")),
+        }
+    }
+    Given {
+        text,
+        settings,
+        arguments,
+    }
+}
+
+/// The setting that words for it say: four without one, and nothing where there are two.
+fn setting_of(words: &[&str]) -> Option<u8> {
+    match words {
+        [] => Some(FOUR),
+        [word] if word.ends_with('2') => Some(TWO),
+        [_] => Some(FOUR),
+        _ => None,
+    }
+}
+
 // ---- what agari reads
 
 /// The number of a tile.
@@ -153,42 +203,53 @@ fn tiles(tiles: &[Tile]) -> String {
     words.collect()
 }
 
-/// What agari read, as the program would say it: all but a closed meld in brackets can be said.
-fn in_words(parsed: &ParsedHand) -> Option<Read> {
+/// What agari read, as the program would say it with this setting: all but a closed meld in brackets can
+/// be said.
+fn in_words(parsed: &ParsedHand, setting: u8) -> Option<Read> {
     let calls: Option<String> = parsed
         .called_melds
         .iter()
         .map(|called| call(&called.meld))
         .collect();
-    Some(Read {
-        words: match parsed.called_melds.len() {
-            0..=4 => tiles(&parsed.tiles) + &calls?,
-            count => format!("{count} calls"),
+    Some(match parsed.called_melds.len() {
+        0..=4 => Read {
+            words: tiles(&parsed.tiles) + &calls?,
+            has_reds: parsed.aka_count > 0,
+            setting,
         },
-        has_reds: parsed.aka_count > 0 && parsed.called_melds.len() <= 4,
+        count => too_many(&format!("{count} calls")),
     })
+}
+
+/// More than four calls, of which the program says only how many there are.
+fn too_many(calls: &str) -> Read {
+    Read {
+        words: calls.to_string(),
+        has_reds: false,
+        setting: FOUR,
+    }
 }
 
 // ---- what the program reads
 
 /// What the program read, or nothing where it is bad input.
-fn by_program(text: &str) -> Option<Read> {
-    let output = Command::new("target/bin/score")
-        .args([text, "ron", "1m"])
-        .output();
+fn by_program(arguments: &[String]) -> Option<Read> {
+    let output = Command::new("target/bin/score").args(arguments).output();
     let output = output.expect("target/bin/score, made by `rt check score`");
     let written = String::from_utf8(output.stdout).expect("text");
     if let Some((_, count)) = written.split_once("more than four calls: ") {
-        let words = count.trim_end().to_string();
-        return Some(Read {
-            words,
-            has_reds: false,
-        });
+        return Some(too_many(count.trim_end()));
     }
-    let (hand, _) = written.strip_prefix("hand:")?.split_once(" ron 1m round")?;
+    let line = written.lines().next()?.strip_prefix("hand:")?;
+    let (hand, setting) = line.split_once(" ron 1m round east seat south")?;
     Some(Read {
         words: hand.to_string(),
         has_reds: written.contains("note: red fives"),
+        setting: match setting {
+            "" => FOUR,
+            " double-wind-2" => TWO,
+            _ => 0,
+        },
     })
 }
 
@@ -209,7 +270,7 @@ fn why_refused(text: &str, parsed: &ParsedHand) -> Option<&'static str> {
         Some("a suit without numbers")
     } else if pairs.iter().any(is_kept) {
         Some("numbers kept over a bracket")
-    } else if in_words(parsed).is_none() {
+    } else if in_words(parsed, FOUR).is_none() {
         Some("closed melds in brackets")
     } else {
         None
@@ -233,15 +294,20 @@ fn why_read(text: &str) -> Option<&'static str> {
 
 // ---- the comparison
 
-/// What came of a text, and whether that is a difference which is not listed.
-fn compared(text: &str) -> (&'static str, bool) {
-    let Ok(agari) = panic::catch_unwind(|| answers::parsed(text)) else {
-        let refused = by_program(text).is_none();
-        return ("agari panics: an honor that is none, in brackets", !refused);
+/// What came of what was given, and whether that is a difference which is not listed.
+fn compared(given: &Given) -> (&'static str, bool) {
+    let read = by_program(&given.arguments);
+    let text = &given.text;
+    let Some(setting) = setting_of(&given.settings) else {
+        return ("refused for a second setting", read.is_some());
     };
-    match (agari, by_program(text)) {
+    let Ok(agari) = panic::catch_unwind(|| answers::parsed(text)) else {
+        let is_read = read.is_some();
+        return ("agari panics: an honor that is none, in brackets", is_read);
+    };
+    match (agari, read) {
         (None, None) => ("refused by both", false),
-        (Some(parsed), Some(read)) => match in_words(&parsed) {
+        (Some(parsed), Some(read)) => match in_words(&parsed, setting) {
             Some(words) if words == read => ("read alike", false),
             _ => ("read by both, and not alike", true),
         },
@@ -263,17 +329,21 @@ fn main() -> ExitCode {
         let texts = options.number("--texts").unwrap_or(TEXTS);
         panic::set_hook(Box::new(|_| ()));
         let mut sorts: BTreeMap<&str, u64> = BTreeMap::new();
+        let mut with_setting = [0; 3];
         let mut differ = 0;
         for _ in 0..texts {
-            let text = text(&mut rng);
-            let (sort, differs) = compared(&text);
+            let given = given(&mut rng);
+            let (sort, differs) = compared(&given);
             *sorts.entry(sort).or_default() += 1;
+            with_setting[given.settings.len()] += 1;
             if differs {
                 differ += 1;
-                println!("{text:?}: {sort}");
+                println!("{:?}: {sort}", given.arguments);
             }
         }
         println!("texts {texts}, differ: {differ}");
+        let said = listed_from(0, &with_setting);
+        println!("by words for the room's setting: {said}");
         for (sort, count) in sorts {
             println!("{count:>8}  {sort}");
         }

@@ -17,13 +17,14 @@
 //! | 163..171  | four melds, each its tile and its kind                                       |
 //! | 171..175  | win type, winning tile, round wind, seat wind                                |
 //! | 175..183  | riichi, double riichi, ippatsu, rinshan, chankan, last tile, tenhou, chiihou |
-//! | 183, 184  | listing: the answer's number, the count of readings                          |
-//! | 185, 186  | the win: the answer's number, the chosen reading                             |
-//! | 187, 188  | how many readings are scored, and the number that refuses the one after them |
-//! | 189       | what is played: 0 a hand, 1 han and fu, 2 basic points                       |
-//! | 190..193  | han, fu, whether there is a yakuman                                          |
-//! | 193, 194  | win type, whether the dealer wins                                            |
-//! | 195       | payment: the answer's number                                                 |
+//! | 183       | the setting: fu of a pair that is both round and seat wind                   |
+//! | 184, 185  | listing: the answer's number, the count of readings                          |
+//! | 186, 187  | the win: the answer's number, the chosen reading                             |
+//! | 188, 189  | how many readings are scored, and the number that refuses the one after them |
+//! | 190       | what is played: 0 a hand, 1 han and fu, 2 basic points                       |
+//! | 191..194  | han, fu, whether there is a yakuman                                          |
+//! | 194, 195  | win type, whether the dealer wins                                            |
+//! | 196       | payment: the answer's number                                                 |
 //! | 256..1024 | a slot of 96 bytes for each reading; of points, the first                    |
 //!
 //! A slot holds 47 yaku tallies, 6 wait tallies, han, fu, whether it is a yakuman, the level and the
@@ -33,7 +34,7 @@
 use compare::agari_scores::{WAIT_ENTRIES, YAKU_ENTRIES, basic_points, level, payment};
 use compare::arguments;
 use compare::hand::*;
-use compare::library::{Level, PaymentAnswer, RON, Score, TSUMO, WAITS, Win};
+use compare::library::{FOUR, Level, PaymentAnswer, RON, Score, TSUMO, WAITS, Win};
 use compare::oracle::Expected;
 use compare::rows::{EAST, FLAGS, Row, SOUTH, Term};
 use compare::stored::put_win;
@@ -199,13 +200,13 @@ fn hand_record(title: &str, hand: &Hand, win: &Win, expected: &ExpectedWin) -> [
     let mut record = [0; RECORD];
     put_text(&mut record, &format!("{title}: {}", written(hand, win)));
     put_hand(&mut record, hand);
-    put_win(&mut record[171..183], win);
-    record[183] = listing.number as u8;
-    record[184] = listing.readings as u8;
-    record[185] = chosen.number as u8;
-    record[186] = chosen.reading as u8;
-    record[187] = readings as u8;
-    record[188] = expected.score_reading(readings).number as u8;
+    put_win(&mut record[171..184], win);
+    record[184] = listing.number as u8;
+    record[185] = listing.readings as u8;
+    record[186] = chosen.number as u8;
+    record[187] = chosen.reading as u8;
+    record[188] = readings as u8;
+    record[189] = expected.score_reading(readings).number as u8;
     for (place, (score, waits)) in expected.scores.iter().zip(&expected.waits).enumerate() {
         put_reading(&mut record[SLOTS + SLOT * place..][..SLOT], score, waits);
     }
@@ -224,13 +225,13 @@ fn points_record(title: &str, points: &Points, win_type: u8, dealer: bool) -> [u
     let slot = &mut [0; SLOT];
     let (basic, text) = match *points {
         Points::Basic(basic) => {
-            record[189] = 2;
+            record[190] = 2;
             (basic, format!("basic {basic}"))
         }
         Points::Han(han, fu, is_yakuman) => {
             let Level { level, count } = level(han, fu, is_yakuman);
-            record[189] = 1;
-            record[190..193].copy_from_slice(&[han, fu, u8::from(is_yakuman)]);
+            record[190] = 1;
+            record[191..194].copy_from_slice(&[han, fu, u8::from(is_yakuman)]);
             slot[56] = level;
             slot[57] = count;
             let yakuman = if is_yakuman { " yakuman" } else { "" };
@@ -245,10 +246,10 @@ fn points_record(title: &str, points: &Points, win_type: u8, dealer: bool) -> [u
         &mut record,
         &format!("{title}: {text}, {who}{}", type_name(win_type)),
     );
-    record[193] = win_type;
-    record[194] = u8::from(dealer);
+    record[194] = win_type;
+    record[195] = u8::from(dealer);
     let paid = payment(basic, dealer, win_type);
-    record[195] = paid.number as u8;
+    record[196] = paid.number as u8;
     put_points(slot, basic, &paid);
     record[SLOTS..][..SLOT].copy_from_slice(slot);
     record
@@ -269,7 +270,8 @@ fn type_name(win_type: u8) -> String {
     }
 }
 
-/// A hand and its win in short: `12355m456p234678s, chi 1m, ron 8s seat=1z riichi`.
+/// A hand and its win in short: `12355m456p234678s, chi 1m, ron 8s seat=1z riichi double-wind-2`. What
+/// is usual is left out.
 fn written(hand: &Hand, win: &Win) -> String {
     let mut text = String::new();
     for (suit, counts) in ["m", "p", "s", "z"].iter().zip(hand.counts().chunks(9)) {
@@ -309,6 +311,9 @@ fn written(hand: &Hand, win: &Win) -> String {
             text += &format!(" {name}");
         }
     }
+    if win.double_wind_fu != FOUR {
+        text += &format!(" double-wind-{}", win.double_wind_fu);
+    }
     text
 }
 
@@ -338,12 +343,8 @@ fn play(row: &Row) -> Played {
             // played as won by ron on the lowest tile
             let hand = hand.hand(calls);
             let lowest = hand.counts().iter().position(|&count| count > 0);
-            let win = Win {
-                winning_tile: lowest.expect("a tile") as u8,
-                round_wind: EAST,
-                seat_wind: SOUTH,
-                ..Win::default()
-            };
+            let lowest = lowest.expect("a tile") as u8;
+            let win = Win::new(RON, lowest, EAST, SOUTH);
             let expected = ExpectedWin::of(&hand, &win);
             Played {
                 record: hand_record(&title, &hand, &win, &expected),

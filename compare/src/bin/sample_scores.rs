@@ -11,20 +11,22 @@
 //! | 17..51   | the counts of hand and calls together                                         |
 //! | 51..55   | win type, winning tile, round wind, seat wind                                 |
 //! | 55..63   | riichi, double riichi, ippatsu, rinshan, chankan, last tile, tenhou, chiihou  |
-//! | 63       | whether the hand is open                                                      |
-//! | 64..111  | the yaku tallies                                                              |
-//! | 111..117 | the wait tallies                                                              |
-//! | 117      | han                                                                           |
-//! | 118      | fu                                                                            |
-//! | 119      | whether it is a yakuman                                                       |
+//! | 63       | the setting: fu of a pair that is both round and seat wind                    |
+//! | 64       | whether the hand is open                                                      |
+//! | 65..112  | the yaku tallies                                                              |
+//! | 112..118 | the wait tallies                                                              |
+//! | 118      | han                                                                           |
+//! | 119      | fu                                                                            |
+//! | 120      | whether it is a yakuman                                                       |
 
 use compare::agari_scores::{ReadHand, WAIT_ENTRIES, YAKU_ENTRIES};
 use compare::hand::{CLOSED_SEQUENCE, KINDS};
-use compare::library::Win;
+use compare::library::{FOUR, SETTINGS, TWO, Win};
 use compare::probe::{Reading, ReadingScore, STANDARD};
 use compare::rng::Rng;
 use compare::score_tally::*;
 use compare::stored::{self, Sample, put_win};
+use compare::win_tally::SETTING_NAMES;
 use compare::wins;
 use std::ops::Range;
 use std::process::ExitCode;
@@ -44,6 +46,8 @@ struct Scored {
     win: Win,
     is_open: bool,
     score: ReadingScore,
+    /// The fu with the other setting.
+    other_fu: u8,
 }
 
 /// Readings dealt until one fits.
@@ -93,8 +97,26 @@ fn parts() -> Vec<Part> {
         part("pinfu but for the pair", 50, is_nearly_pinfu),
         part("nine gates but for the calls", 50, is_nearly_nine_gates),
         part("no yaku", 150, |scored| scored.score.han == 0),
-        part("any", 600, |_| true),
     ]);
+    parts.extend(settings());
+    parts.push(part("any", 450, |_| true));
+    parts
+}
+
+/// Readings with a pair that is both round and seat wind, with each setting: those whose fu the other
+/// setting changes, and those whose fu stay.
+fn settings() -> Vec<Part> {
+    let mut parts = Vec::new();
+    for (setting, name) in SETTINGS.into_iter().zip(SETTING_NAMES) {
+        for (changes, what, records) in [(true, "changes", 50), (false, "leaves", 25)] {
+            let title = format!("setting {name}, the other {what} the fu of such a pair");
+            let deal = move |rng: &mut Rng| deal_double_wind(rng, setting);
+            parts.push(Part::new(&title, records, deal, move |scored| {
+                let has_pair = scored.reading.has_double_wind(&scored.win);
+                has_pair && (scored.score.fu != scored.other_fu) == changes
+            }));
+        }
+    }
     parts
 }
 
@@ -122,13 +144,27 @@ fn deal(rng: &mut Rng) -> Scored {
     let winning_tiles = wins::winning_tiles(rng, &hand);
     let winning_tile = rng.pick(&winning_tiles);
     let win = wins::win(rng, &hand, winning_tile);
-    let (reading, structure) = &read.readings[rng.below(read.readings.len())];
+    scored(rng, &read, win)
+}
+
+/// One reading of a random win with a pair that is both round and seat wind, with this setting.
+fn deal_double_wind(rng: &mut Rng, setting: u8) -> Scored {
+    let (hand, win) = wins::double_wind(rng);
+    scored(rng, &ReadHand::of(&hand), win.in_room(setting))
+}
+
+/// One of the readings, scored.
+fn scored(rng: &mut Rng, read: &ReadHand, win: Win) -> Scored {
+    let number = rng.below(read.readings.len());
+    let (reading, structure) = &read.readings[number];
+    let other = win.in_room(FOUR + TWO - win.double_wind_fu);
     Scored {
         reading: *reading,
         counts: read.counts,
         win,
         is_open: read.is_open,
         score: read.score(structure, &win),
+        other_fu: read.fu(&other)[number],
     }
 }
 
@@ -139,6 +175,7 @@ fn record(scored: &Scored) -> [u8; RECORD] {
         win,
         is_open,
         score,
+        ..
     } = scored;
     let mut record = [0; RECORD];
     record[0] = reading.kind;
@@ -149,13 +186,13 @@ fn record(scored: &Scored) -> [u8; RECORD] {
     }
     record[10..17].copy_from_slice(&reading.pairs);
     record[17..51].copy_from_slice(counts);
-    put_win(&mut record[51..63], win);
-    record[63] = u8::from(*is_open);
-    record[64..111].copy_from_slice(&score.tallies);
-    record[111..117].copy_from_slice(&score.waits);
-    record[117] = score.han;
-    record[118] = score.fu;
-    record[119] = score.is_yakuman;
+    put_win(&mut record[51..64], win);
+    record[64] = u8::from(*is_open);
+    record[65..112].copy_from_slice(&score.tallies);
+    record[112..118].copy_from_slice(&score.waits);
+    record[118] = score.han;
+    record[119] = score.fu;
+    record[120] = score.is_yakuman;
     record
 }
 

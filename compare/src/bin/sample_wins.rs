@@ -11,11 +11,12 @@
 //! | 43..51   | four melds, each its tile and its kind                                        |
 //! | 51..55   | win type, winning tile, round wind, seat wind                                 |
 //! | 55..63   | riichi, double riichi, ippatsu, rinshan, chankan, last tile, tenhou, chiihou  |
-//! | 63..65   | the number of a reading                                                       |
-//! | 65..139  | the score of the win                                                          |
-//! | 139..213 | the score of that reading                                                     |
-//! | 213      | the number answered where the waits of that reading are asked for             |
-//! | 214..220 | the wait tallies                                                              |
+//! | 63       | the setting: fu of a pair that is both round and seat wind                    |
+//! | 64..66   | the number of a reading                                                       |
+//! | 66..140  | the score of the win                                                          |
+//! | 140..214 | the score of that reading                                                     |
+//! | 214      | the number answered where the waits of that reading are asked for             |
+//! | 215..221 | the wait tallies                                                              |
 //!
 //! A score is the answer's number, the number of the reading, 47 yaku tallies, han, fu, whether it is
 //! a yakuman, the level and the count of yakuman, each in one byte; then in four bytes each basic
@@ -23,13 +24,15 @@
 
 use compare::agari_scores::YAKU_ENTRIES;
 use compare::hand::Hand;
-use compare::library::{Score, Win};
+use compare::library::{FOUR, SETTINGS, Score, TWO, Win};
 use compare::random;
 use compare::rng::Rng;
 use compare::stored::{self, MOST_CALLS, Sample, put_hand, put_u16, put_win};
-use compare::win_damage::with_faults;
+use compare::win_damage::{no_setting, with_faults};
 use compare::win_oracle::{CHECKS, ExpectedWin};
-use compare::win_tally::{LEVELS, Operation, RULES, SETTLEMENTS, WinTally, settlement};
+use compare::win_tally::{
+    LEVELS, Operation, RULES, SETTING_NAMES, SETTLEMENTS, WinTally, settlement,
+};
 use compare::wins;
 use std::process::ExitCode;
 
@@ -70,6 +73,7 @@ fn parts() -> Vec<Part> {
             dealt.hand.calls.count == calls
         }));
     }
+    parts.extend(settings());
     parts.extend(refusals());
     parts.push(Part::new("any", 300, any_win, |_| true));
     parts
@@ -117,6 +121,29 @@ fn scores() -> Vec<Part> {
     parts
 }
 
+/// Wins whose fu, and whose level, the setting changes, with each setting.
+fn settings() -> Vec<Part> {
+    let mut parts = Vec::new();
+    for (setting, name) in SETTINGS.into_iter().zip(SETTING_NAMES) {
+        let mut push = |what: &str, records, changes: fn(&Score, &Score) -> bool| {
+            let title = format!("setting {name}, the other changes the {what}");
+            let deal = move |rng: &mut Rng| double_wind_win(rng, setting);
+            parts.push(Part::new(&title, records, deal, move |dealt| {
+                changes(&dealt.expected.score_win(), &with_other_setting(dealt))
+            }));
+        };
+        push("fu", 60, |score, other| score.fu != other.fu);
+        push("level", 20, |score, other| score.level != other.level);
+    }
+    parts
+}
+
+/// The score of the win with the other setting.
+fn with_other_setting(dealt: &Dealt) -> Score {
+    let other = FOUR + TWO - dealt.win.double_wind_fu;
+    ExpectedWin::of(&dealt.hand, &dealt.win.in_room(other)).score_win()
+}
+
 /// Each refusal, and each two faults at once.
 fn refusals() -> Vec<Part> {
     let mut parts = Vec::new();
@@ -126,6 +153,8 @@ fn refusals() -> Vec<Part> {
             parts.push(faulty(earlier, later, 8));
         }
     }
+    parts.push(with_no_setting("refusal 8 by the setting alone", 60, 8));
+    parts.push(with_no_setting("likewise, ground for 9 too", 20, 9));
     let number = |dealt: &Dealt| dealt.expected.score_win().number;
     parts.push(Part::new("refusal 10", 150, near_win, move |dealt| {
         number(dealt) == 10
@@ -142,12 +171,33 @@ fn faulty(earlier: usize, later: usize, records: usize) -> Part {
     } else {
         format!("refusal {earlier}, ground for {later} too")
     };
-    let place = CHECKS.iter().position(|&number| number == later);
-    let place = place.expect("a fault is one of the checks");
+    let place = check_place(later);
     let deal = move |rng: &mut Rng| with_faults(rng, earlier, later);
     Part::new(&title, records, deal, move |dealt| {
         dealt.expected.score_win().number as usize == earlier && dealt.expected.faults[place]
     })
+}
+
+/// Wins whose setting is none and whose type and winds are in range, with this fault.
+fn with_no_setting(title: &str, records: usize, fault: usize) -> Part {
+    let place = check_place(fault);
+    let deal = move |rng: &mut Rng| {
+        let (hand, win) = if fault == 9 {
+            with_faults(rng, fault, fault)
+        } else {
+            any_win(rng)
+        };
+        (hand, win.in_room(no_setting(rng)))
+    };
+    Part::new(title, records, deal, move |dealt| {
+        dealt.expected.score_win().number == 8 && dealt.expected.faults[place]
+    })
+}
+
+/// The place of a fault among the checks.
+fn check_place(fault: usize) -> usize {
+    let place = CHECKS.iter().position(|&number| number == fault);
+    place.expect("a fault is one of the checks")
 }
 
 fn any_win(rng: &mut Rng) -> (Hand, Win) {
@@ -159,6 +209,12 @@ fn any_win(rng: &mut Rng) -> (Hand, Win) {
 fn several_win(rng: &mut Rng) -> (Hand, Win) {
     let hand = random::winning(rng);
     won(rng, hand)
+}
+
+/// A win with a pair that is both round and seat wind, with this setting.
+fn double_wind_win(rng: &mut Rng, setting: u8) -> (Hand, Win) {
+    let (hand, win) = wins::double_wind(rng);
+    (hand, win.in_room(setting))
 }
 
 fn near_win(rng: &mut Rng) -> (Hand, Win) {
@@ -210,12 +266,12 @@ fn record(dealt: &Dealt, number: usize) -> [u8; RECORD] {
     let waits = expected.name_waits(number);
     let mut record = [0; RECORD];
     put_hand(&mut record, &dealt.hand);
-    put_win(&mut record[51..63], &dealt.win);
-    put_u16(&mut record, 63, number);
-    put_score(&mut record[65..139], &expected.score_win());
-    put_score(&mut record[139..213], &expected.score_reading(number));
-    record[213] = waits.number as u8;
-    record[214..220].copy_from_slice(&waits.waits);
+    put_win(&mut record[51..64], &dealt.win);
+    put_u16(&mut record, 64, number);
+    put_score(&mut record[66..140], &expected.score_win());
+    put_score(&mut record[140..214], &expected.score_reading(number));
+    record[214] = waits.number as u8;
+    record[215..221].copy_from_slice(&waits.waits);
     record
 }
 

@@ -33,6 +33,8 @@ const STARTS: &[&str] = &[
     "55m456p234678s (123m) ron 8s",
     "11m|pon|222m|(333p)(1111s)[4444z]|ron|1m",
     "19m19p19seswnwhgrr|ron|7z|dealer",
+    "222m456p345678s11z|tsumo|5p|dealer",
+    "double-wind-2 111222333m 567p 22z tsumo 3m|seat|south|round|south",
     "",
 ];
 
@@ -72,6 +74,10 @@ const PIECES: &[&str] = &[
     "tenhou",
     "chiihou",
     "dealer",
+    "double-wind-2",
+    "double-wind-4",
+    "double-wind-2 riichi",
+    "double-wind-3",
     "dora",
     "0m",
     "help",

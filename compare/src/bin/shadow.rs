@@ -19,7 +19,7 @@ const USAGE: &str = "usage: shadow [--seed N] [--wins N] [--wrong]";
 const WINS: u64 = 1_000_000;
 
 /// As before: agari's readings, each scored, the best that has a yaku first. `answers` asks agari, and
-/// puts in the listed differences: each reading once, in the order of records.
+/// puts in the listed differences: each reading once, in the order of records, and the room's setting.
 fn by_agari(win: &TableWin) -> Ranked {
     let readings = answers::readings(&win.counts, &win.calls).into_iter();
     let scored: Vec<Settled> = readings
@@ -39,7 +39,7 @@ fn by_agari(win: &TableWin) -> Ranked {
 /// What agari makes of a reading.
 fn settled(win: &TableWin, reading: &HandStructure) -> Settled {
     let yaku = answers::yaku(reading, &win.all_counts, &win.context);
-    let score = answers::score(reading, &yaku, &win.context);
+    let score = answers::score(reading, &yaku, &win.context, win.setting);
     let list = yaku.yaku_list.into_iter();
     let mut list: Vec<Yaku> = list.filter_map(to_ziwhakemo::yaku).collect();
     list.sort_by_key(|yaku| Yaku::ALL.iter().position(|other| other == yaku));
@@ -61,6 +61,8 @@ fn by_library(win: &TableWin) -> Result<Settled, Refusal> {
     let calls = to_ziwhakemo::melds(&win.calls);
     let context = to_ziwhakemo::game_context(&win.context);
     let context = context.expect("the table deals no dora and has agari's default rules");
+    let setting = to_ziwhakemo::double_wind_fu(win.setting).expect("the room has a setting");
+    let context = context.with_double_wind_fu(setting);
     let scored = ziwhakemo::score_win(&counts, &calls, &context)?;
     Ok(Settled {
         yaku: scored.yaku_result.yaku_list,

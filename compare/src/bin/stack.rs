@@ -71,7 +71,7 @@ fn lent(hand: &Hand) -> [u64; 4] {
     ]
 }
 
-/// The win's twelve bytes, in two words.
+/// The win's thirteen bytes, in two words.
 fn words(win: &Win) -> [u64; 2] {
     let tiles = [
         win.win_type,
@@ -83,6 +83,7 @@ fn words(win: &Win) -> [u64; 2] {
     let mut bytes = [0; 16];
     bytes[..4].copy_from_slice(&tiles);
     bytes[4..12].copy_from_slice(&flags);
+    bytes[12] = win.double_wind_fu;
     let (low, high) = bytes.split_at(8);
     [low, high].map(|word| u64::from_le_bytes(word.try_into().unwrap()))
 }

@@ -23,7 +23,7 @@ fn list_win(rec: &[u8], counts: &[u8], row: &[u8], t: stored::Tally) -> stored::
     let calls = asked::lent(stored::u16_at(rec, 41));
     let a = lending::list(counts, asked::five_at(rec, 43), calls, &mut buf);
     let written = asked::same_records(&buf, a.readings, a.bytes);
-    let number = asked::number(rec[65]);
+    let number = asked::number(rec[66]);
     if number > 0 && number < 7 {
         let refused = (a.number == number) & (a.readings == 0) & written;
         return asked::count(t, asked::LIST, refused, row);
@@ -44,7 +44,7 @@ fn ask_win(rec: &[u8], counts: &[u8]) -> lending::Asked
         asked::five_at(rec, 43),
         calls,
         win,
-        stored::u16_at(rec, 63),
+        stored::u16_at(rec, 64),
     )
 }
 
@@ -55,12 +55,12 @@ fn count_win(rec: &[u8], a: lending::Asked, row: &[u8], t: stored::Tally) -> sto
     let win = a.win;
     let reading = a.reading;
     let waits = a.waits;
-    let won = asked::count(t, asked::WIN, same_answer(rec, 65, win), row);
-    let read = asked::count(won, asked::READING, same_answer(rec, 139, reading), row);
+    let won = asked::count(t, asked::WIN, same_answer(rec, 66, win), row);
+    let read = asked::count(won, asked::READING, same_answer(rec, 140, reading), row);
     asked::count(
         read,
         asked::WAITS,
-        asked::same_waits(rec, 214, rec[213], waits),
+        asked::same_waits(rec, 215, rec[214], waits),
         row,
     )
 }
@@ -69,12 +69,12 @@ fn count_win(rec: &[u8], a: lending::Asked, row: &[u8], t: stored::Tally) -> sto
 fn ask_win_points(rec: &[u8], row: &[u8], t: stored::Tally) -> stored::Tally
     requires { ⌜ length (now rec) ≡ 256 ⌝ }
 {
-    if rec[65] != 0 {
+    if rec[66] != 0 {
         return t;
     }
     let win = stored::win_at(rec, 51);
-    let leveled = asked::ask_level(rec, 114, 117, 119, row, t);
-    asked::ask_payment(rec, 119, 0, win.seat_wind == 27, win.win_type, row, leveled)
+    let leveled = asked::ask_level(rec, 115, 118, 120, row, t);
+    asked::ask_payment(rec, 120, 0, win.seat_wind == 27, win.win_type, row, leveled)
 }
 
 // The tally after a win with these counts, which the number of its record names.

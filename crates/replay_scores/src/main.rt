@@ -6,14 +6,14 @@
 //   2..10     four melds, each its tile and its kind
 //   10..17    the tiles of seven pairs
 //   17..51    the counts of hand and calls together
-//   51..63    the win: type, winning tile, round wind, seat wind, and eight flags as 0 or 1: riichi, double riichi, ippatsu, rinshan,
-//             chankan, last tile, tenhou, chiihou
-//   63        1 where the hand is open
-//   64..111   the answer's 47 tallies
-//   111..117  its 6 waits
-//   117       its han
-//   118       its fu
-//   119       1 where it has a yakuman
+//   51..64    the win: type, winning tile, round wind, seat wind, eight flags as 0 or 1: riichi, double riichi, ippatsu, rinshan, chankan,
+//             last tile, tenhou, chiihou, and the room's fu for a pair that is both round and seat wind
+//   64        1 where the hand is open
+//   65..112   the answer's 47 tallies
+//   112..118  its 6 waits
+//   118       its han
+//   119       its fu
+//   120       1 where it has a yakuman
 // The other bytes are zero.
 ghost use mathlib.Core.Path.{_≡_};
 ghost use lib.ListN.{length};
@@ -53,15 +53,15 @@ fn replay(rec: &[u8], t: stored::Tally) -> stored::Tally
 {
     let hand = reading_of(rec);
     let win = stored::win_at(rec, 51);
-    let opened = rec[63] == 1;
+    let opened = rec[64] == 1;
     let tiles = tile_yaku::tile_yaku(&rec[17..51], win.winning_tile);
     let found = yaku::detect_yaku_with_context(hand, tiles, win, opened);
     let tallies = found.tallies;
     let waits = wait::detect_wait_types(hand, tile::Tile(win.winning_tile));
     let fu = fu::calculate_fu(hand, win, opened);
-    let agrees = stored::same_tallies(rec, 64, tallies)
-        & stored::same_waits(rec, 111, waits)
-        & stored::same_numbers(rec, 117, found.han, fu, found.is_yakuman);
+    let agrees = stored::same_tallies(rec, 65, tallies)
+        & stored::same_waits(rec, 112, waits)
+        & stored::same_numbers(rec, 118, found.han, fu, found.is_yakuman);
     t.record(agrees)
         .kind_if(YAKUMAN, found.is_yakuman)
         .kind_if(WITHOUT, found.han == 0)

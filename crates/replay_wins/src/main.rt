@@ -6,13 +6,13 @@
 //   1..41     the counts
 //   41..43    number of calls
 //   43..51    four melds, each its tile and its kind
-//   51..63    the win: type, winning tile, round wind, seat wind, and eight flags as 0 or 1: riichi, double riichi, ippatsu, rinshan,
-//             chankan, last tile, tenhou, chiihou
-//   63..65    the number of a reading
-//   65..139   the score of the win
-//   139..213  the score of that reading
-//   213       the number answered where its waits are asked for
-//   214..220  their 6 tallies
+//   51..64    the win: type, winning tile, round wind, seat wind, eight flags as 0 or 1: riichi, double riichi, ippatsu, rinshan, chankan,
+//             last tile, tenhou, chiihou, and the room's fu for a pair that is both round and seat wind
+//   64..66    the number of a reading
+//   66..140   the score of the win
+//   140..214  the score of that reading
+//   214       the number answered where its waits are asked for
+//   215..221  their 6 tallies
 // The other bytes are zero. A score is the answer's number, the number of the reading, 47 tallies, han, fu, 1 where it has a yakuman, the
 // level and how many times a yakuman counts, each in one byte; then, in four bytes each, basic points, what each non-dealer, the dealer and
 // the discarder pays, and the total. A refusal has its number alone.
@@ -46,7 +46,7 @@ fn ask_win(rec: &[u8], counts: &[u8], t: stored::Tally) -> stored::Tally
 {
     let calls = stored::calls_at(rec, 41);
     let a = win::score_win(counts, calls, stored::win_at(rec, 51));
-    let agrees = same_answer(rec, 65, a);
+    let agrees = same_answer(rec, 66, a);
     t.kind(stored::wide(a.number)).record(agrees)
 }
 
@@ -54,10 +54,10 @@ fn ask_win(rec: &[u8], counts: &[u8], t: stored::Tally) -> stored::Tally
 fn ask_reading(rec: &[u8], counts: &[u8], t: stored::Tally) -> stored::Tally
     requires { ⌜ length (now rec) ≡ 256 ⌝ }
 {
-    let n = stored::u16_at(rec, 63);
+    let n = stored::u16_at(rec, 64);
     let calls = stored::calls_at(rec, 41);
     let a = win::score_reading(counts, calls, stored::win_at(rec, 51), n);
-    let agrees = same_answer(rec, 139, a);
+    let agrees = same_answer(rec, 140, a);
     t.kind_if(READINGS, a.number == 0)
         .kind_if(MISSING, a.number == 12)
         .answer(agrees)
@@ -67,11 +67,11 @@ fn ask_reading(rec: &[u8], counts: &[u8], t: stored::Tally) -> stored::Tally
 fn ask_waits(rec: &[u8], counts: &[u8], t: stored::Tally) -> stored::Tally
     requires { ⌜ length (now rec) ≡ 256 ⌝ }
 {
-    let n = stored::u16_at(rec, 63);
+    let n = stored::u16_at(rec, 64);
     let calls = stored::calls_at(rec, 41);
     let a = win::name_waits(counts, calls, stored::win_at(rec, 51), n);
     let waits = a.waits;
-    t.answer((a.number == rec[213]) & stored::same_waits(rec, 214, waits))
+    t.answer((a.number == rec[214]) & stored::same_waits(rec, 215, waits))
 }
 
 // The tally after a record. One with a length out of range differs, and nothing is asked.

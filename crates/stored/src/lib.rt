@@ -67,9 +67,9 @@ pub fn calls_at(s: &[u8], at: usize) -> checks::Calls
     calls_of(u16_at(s, at), s, at + 2)
 }
 
-// The win in twelve bytes: type, winning tile, round wind, seat wind, and eight flags as 0 or 1.
+// The win in thirteen bytes: type, winning tile, round wind, seat wind, eight flags as 0 or 1, and the room's fu for the pair of the double wind.
 pub fn win_at(s: &[u8], at: usize) -> context::GameContext
-    requires { ⌜ at + 12 ≤ length (now s) ⌝ }
+    requires { ⌜ at + 13 ≤ length (now s) ⌝ }
 {
     context::GameContext {
         win_type: s[at],
@@ -84,6 +84,7 @@ pub fn win_at(s: &[u8], at: usize) -> context::GameContext
         is_last_tile: s[at + 9] == 1,
         is_tenhou: s[at + 10] == 1,
         is_chiihou: s[at + 11] == 1,
+        double_wind_fu: s[at + 12],
     }
 }
 

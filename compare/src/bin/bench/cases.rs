@@ -130,18 +130,18 @@ pub struct Won {
 }
 
 /// A win as players have them: 6 in 10 by ron, the rounds of East and South, any seat; 4 in 10 closed
-/// hands in riichi, a tenth of these with ippatsu; the last tile in 2 of 100.
+/// hands in riichi, a tenth of these with ippatsu; the last tile in 2 of 100. The setting is four.
 fn win(rng: &mut Rng, hand: &Hand) -> Win {
     let is_riichi = !hand.is_open() && rng.percent(40);
+    let win_type = if rng.percent(60) { RON } else { TSUMO };
+    let winning_tile = any_tile(rng, hand);
+    let round_wind = EAST + rng.below(2) as u8;
+    let seat_wind = EAST + rng.below(4) as u8;
     Win {
-        win_type: if rng.percent(60) { RON } else { TSUMO },
-        winning_tile: any_tile(rng, hand),
-        round_wind: EAST + rng.below(2) as u8,
-        seat_wind: EAST + rng.below(4) as u8,
         is_riichi,
         is_ippatsu: is_riichi && rng.percent(10),
         is_last_tile: rng.percent(2),
-        ..Win::default()
+        ..Win::new(win_type, winning_tile, round_wind, seat_wind)
     }
 }
 

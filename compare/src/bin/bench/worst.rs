@@ -34,12 +34,8 @@ fn closed_flushes() -> Vec<Won> {
                 .map(move |(win_type, winning_tile)| Won {
                     hand,
                     win: Win {
-                        win_type,
-                        winning_tile,
-                        round_wind: EAST,
-                        seat_wind: EAST,
                         is_riichi: true,
-                        ..Win::default()
+                        ..Win::new(win_type, winning_tile, EAST, EAST)
                     },
                 })
         })
