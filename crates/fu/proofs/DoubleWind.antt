@@ -7,11 +7,12 @@ use mathlib.Core.List.{List}
 use Prim.Native.Nat.{ℕ, _+_, _*_, _<_, _≤_, min}
 use native.Mathlib.Omega.{arith}
 use native.Mathlib.Decide.{decLe}
-use lib.Dec.{T, eqb, leb, ltb, eqb→eq, ltb→lt, lit≤}
+use lib.Dec.{T, eqb, eqb→eq, lit≤}
 use borrow.Author.Tests.{ne-eqb, lt-leb, not-true}
 use Rattle.lists.specs.Fold.{one, sum}
 use Rattle.lists.proofs.Finite.{T→true, true→T, and-left, and-right, one-le, cond-le}
-use Rattle.tile.specs.Tile.{isDragon, isWind}
+use Rattle.tile.specs.Tile.{isDragon}
+use Rattle.tile.proofs.Tiles.{wind-below}
 use Rattle.meld.specs.declared.Meld.{Meld}
 use Rattle.context.specs.declared.GameContext.{GameContext}
 use Rattle.context.specs.Context.{inRange, isTsumo, inRoom}
@@ -22,10 +23,6 @@ use Rattle.wait.specs.Concealed.{spared}
 use Rattle.fu.specs.Fu.{meldFu, doubleWind, doubleWindFu, pairFu, waitFu, baseFu, roundUpTo10, atLeast30, pinfuFu, standardFu, fu}
 
 -- ---- how often a pair counts
--- a wind is no dragon
-below-dragons : (t : ℕ) → T (isWind t) → t < 31
-below-dragons t h = ltb→lt t 31 (and-right (leb 27 t) (ltb t 31) h)
-
 module _ (w : GameContext) (p : ℕ) where
   -- twice where it is both winds
   pub both-count-twice : T (inRange w) → T (doubleWind w p) → weight w p ≡ 2
@@ -33,7 +30,7 @@ module _ (w : GameContext) (p : ℕ) where
       let round = and-left (eqb p (w .«round_wind»)) (eqb p (w .«seat_wind»)) h in
       let seat = and-right (eqb p (w .«round_wind»)) (eqb p (w .«seat_wind»)) h in
       let e = eqb→eq p (w .«round_wind») round in
-      let l = below-dragons (w .«round_wind») (round-in w range) in
+      let l = wind-below (w .«round_wind») (round-in w range) in
       rw (lt-leb 31 p (omega arith), T→true (eqb p (w .«round_wind»)) round, T→true (eqb p (w .«seat_wind»)) seat)
 
   -- and never less often
@@ -58,10 +55,10 @@ module _ (w : GameContext) (p : ℕ) where
   once range h = go (decLe 31 p)
     where
       round : w .«round_wind» < 31
-      round = below-dragons (w .«round_wind») (round-in w range)
+      round = wind-below (w .«round_wind») (round-in w range)
 
       seat : w .«seat_wind» < 31
-      seat = below-dragons (w .«seat_wind») (seat-in w range)
+      seat = wind-below (w .«seat_wind») (seat-in w range)
 
       wind : (a b : Bool) → T (not (a && b)) → one a + one b ≤ 1
       wind true true h = absurd h
@@ -91,14 +88,10 @@ pair-fu-le w p =
     by-wind w p (λ (n : ℕ). n ≤ 4) (λ h. cond-le (eqb (w .«double_wind_fu») 2) _ _ 4 (lit≤ tt) (lit≤ tt))
     (λ h. let k = at-most-twice w p h in omega arith)
 
--- what the code answers is the pair's fu: of both winds what the room gives, of another pair twice how often it counts
-pub of-both : (w : GameContext) (p r : ℕ) → doubleWind w p ≡ true → r ≡ doubleWindFu w → (r ≡ pairFu w p) × (r ≤ 4)
-of-both w p r h e =
-    let is : r ≡ pairFu w p = rw h e in
-    (is, (let k = pair-fu-le w p in omega arith))
-
-pub of-other : (w : GameContext) (p r : ℕ) → doubleWind w p ≡ false → r ≡ 2 * weight w p → (r ≡ pairFu w p) × (r ≤ 4)
-of-other w p r h e =
+-- what is answered by a question b that is this one: of both winds what the room gives, of another pair twice how often it counts
+pub pair-fu-is :
+    (w : GameContext) (p r : ℕ) (b : Bool) → doubleWind w p ≡ b → r ≡ cond b (doubleWindFu w) (2 * weight w p) → (r ≡ pairFu w p) × (r ≤ 4)
+pair-fu-is w p r b h e =
     let is : r ≡ pairFu w p = rw h e in
     (is, (let k = pair-fu-le w p in omega arith))
 

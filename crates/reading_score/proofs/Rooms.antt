@@ -21,7 +21,7 @@ use Rattle.scoring.proofs.Shares.{total-rises}
 use Rattle.reading_score.specs.declared.ScoringResult.{ScoringResult}
 use Rattle.reading_score.specs.Score.{result, scoreOf}
 
--- x is the score where the room gives two, y where it gives more
+-- x is the score where the room gives two, y that of another room
 pub record LessFu (x y : ScoringResult) : Type 0 where
   pub same-tallies : x .tallies ≡ y .tallies
   pub same-han : x .han ≡ y .han

@@ -5,12 +5,13 @@ use mathlib.Core.Bool.{Bool, _&&_, _||_, not}
 use mathlib.Core.List.{List, [], _∷_}
 use Prim.Native.Nat.{ℕ, _+_, _<_}
 use native.Mathlib.Omega.{arith}
-use lib.Dec.{T, eqb, ltb, leb, ltb→lt}
+use lib.Dec.{T, eqb, ltb, ltb→lt}
 use Rattle.lists.specs.Fold.{all, one}
 use Rattle.lists.proofs.Finite.{and-left, and-right, and-cong}
 use Rattle.tile.specs.Tile.{isWind}
 use Rattle.tile.specs.declared.Renaming.{Renaming}
 use Rattle.tile.specs.Renaming.{ren}
+use Rattle.tile.proofs.Tiles.{wind-below}
 use Rattle.tile.proofs.Renamings.{ren-eqb, ren-isDragon, wind-stays}
 use Rattle.meld.specs.declared.Meld.{Meld}
 use Rattle.meld.specs.Meld.{isMeld, isSequence}
@@ -29,7 +30,7 @@ use Rattle.renamed_scores.proofs.Moved.{sorted-moved, pairs-any}
 
 -- ---- how often an honor counts: a tile is the round wind or the seat wind where the renamed tile is the renamed win's
 wind-lt : (t : ℕ) → T (isWind t) → t < 34
-wind-lt t h = let k = ltb→lt t 31 (and-right (leb 27 t) (ltb t 31) h) in omega arith
+wind-lt t h = let k = wind-below t h in omega arith
 
 wind-eqb : (ρ : Renaming) (t u : ℕ) → t < 34 → T (isWind u) → eqb (ren ρ t) u ≡ eqb t u
 wind-eqb ρ t u h k = ap (eqb (ren ρ t)) (sym (wind-stays ρ u (wind-lt u k) k)) ∙ ren-eqb ρ t u h (wind-lt u k)

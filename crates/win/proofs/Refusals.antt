@@ -5,14 +5,15 @@ use mathlib.Core.Bool.{Bool, true, false, _&&_, _||_, not}
 use mathlib.Core.List.{List, List·Memᴰ, List·Memᴰ·head, List·Memᴰ·tail}
 use Prim.Native.Nat.{ℕ}
 use native.Mathlib.Omega.{arith}
-use lib.Dec.{T, eqb, ltb, leb, eqb→eq, ltb→lt, eqb-refl}
+use lib.Dec.{T, eqb, ltb, eqb→eq, ltb→lt, eqb-refl}
 use borrow.Author.Tests.{lt-ltb, ltb-true}
 use Rattle.lists.specs.Fold.{allBelow, any}
 use Rattle.lists.specs.Refusals.{Answers}
 use Rattle.lists.proofs.Arranged.{any-mem}
-use Rattle.lists.proofs.Finite.{true→T, and-right, and-both, or-elim, or-skip, at}
+use Rattle.lists.proofs.Finite.{true→T, and-both, or-elim, or-skip, at}
 use Rattle.lists.proofs.Members.{all-mem}
 use Rattle.tile.specs.Tile.{isWind}
+use Rattle.tile.proofs.Tiles.{wind-below}
 use Rattle.context.specs.declared.GameContext.{GameContext}
 use Rattle.context.specs.Context.{isSetting, inRange}
 use Rattle.context.proofs.Range.{type-in, round-in, seat-in, setting-in}
@@ -39,7 +40,7 @@ is-wind : (t : ℕ) → T (isWind t) → List·Memᴰ t winds
 is-wind t h =
     any-mem eqb eqb→eq eqb-refl t winds
     (or-skip (isWind t) (any (eqb t) winds) h
-    (at 31 (λ t. not (isWind t) || any (eqb t) winds) wind-test t (ltb→lt t 31 (and-right (leb 27 t) _ h))))
+    (at 31 (λ t. not (isWind t) || any (eqb t) winds) wind-test t (wind-below t h)))
 
 is-setting : (n : ℕ) → T (isSetting n) → List·Memᴰ n settings
 is-setting n h =

@@ -6,7 +6,7 @@ use mathlib.Core.List.{List, [], _∷_, _++_, List·Memᴰ}
 use Prim.Native.Nat.{ℕ, _+_, _*_, _<_, _≤_}
 use native.Mathlib.Nat.{mul-le-mul}
 use native.Mathlib.Omega.{arith}
-use lib.Dec.{T, eqb, leb, ltb, leb→le, ltb→lt, lit≤}
+use lib.Dec.{T, eqb, leb, ltb, leb→le, lit≤}
 use lib.ListN.{length}
 use borrow.Author.Tests.{le-leb, ne-eqb}
 use Rattle.lists.specs.Fold.{all, any, count, one, sum}
@@ -16,6 +16,7 @@ use Rattle.lists.proofs.Permuted.{map-perm, total-perm}
 use Rattle.lists.proofs.Sums.{sum-append}
 use Rattle.tile.specs.Tile.{isDragon, isWind, tiles}
 use Rattle.tile.specs.Named.{East, South, West, North, White, Green, Red}
+use Rattle.tile.proofs.Tiles.{wind-below}
 use Rattle.meld.specs.declared.Meld.{Meld}
 use Rattle.meld.specs.Meld.{isCall, isConcealed, isKan, isMeld, isOpen, isTripletOrKan, setSize, uses}
 use Rattle.meld.proofs.Melds.{closed-melds, sorted-perm}
@@ -86,7 +87,7 @@ sets-use t (m ∷ ms) = let first = set-uses t m in let rest = sets-use t ms in 
 no-dragon : (t u : ℕ) → T (isDragon t) → T (isWind u) → one (eqb t u) ≡ 0
 no-dragon t u d v =
     let high = leb→le 31 t (and-left (leb 31 t) (ltb t 34) d) in
-    let low = ltb→lt u 31 (and-right (leb 27 u) (ltb u 31) v) in
+    let low = wind-below u v in
     ap one (ne-eqb t u (λ e. omega arith))
 
 weight-two : (w : GameContext) → T (isWind (w .«round_wind»)) → T (isWind (w .«seat_wind»)) → (t : ℕ) → weight w t ≤ 2
