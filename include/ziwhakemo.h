@@ -3,11 +3,12 @@
  * convention.
  *
  * It lists every reading of a finished hand, scores a win by the reading that pays most, scores any
- * reading by its number, names its waits, and gives level, basic points and payments. Each function
- * is proved to answer as its definition says on every input: every call comes back, and malformed
- * input gets a number (see "Refusals") instead of a score. This file is not part of the proof;
- * examples/c/boundary.c and the tests in rust/ hold it to the library. ziwhakemo_names.h, which
- * nobody has to use, has names to print: of yaku, waits, levels, settlements and refusals.
+ * reading by its number, names its waits, and gives level, basic points and payments. Dora are
+ * counted by the indicators that come with a win. Each function is proved to answer as its
+ * definition says on every input: every call comes back, and malformed input gets a number (see
+ * "Refusals") instead of a score. This file is not part of the proof; examples/c/boundary.c and the
+ * tests in rust/ hold it to the library. ziwhakemo_names.h, which nobody has to use, has names to
+ * print: of yaku, waits, levels, settlements and refusals.
  *
  * C99 and later, and C++. Link with libziwhakemo.a. All that the archive needs from outside is
  * memset, of any C library or your own.
@@ -57,8 +58,15 @@ extern "C" {
  *   4   ziwhakemo_game_context has the byte `double_wind_fu` behind the flags, and is 13 bytes long
  *       instead of 12. Every caller has to be compiled again and has to set it: 0, like every other
  *       number but 4 and 2, is refused with 8. A caller that sets 4 gets the answers of version 3.
+ *   5   Dora. ziwhakemo_game_context has `dora_indicators` and `ura_dora_indicators` behind
+ *       `double_wind_fu`, and is 35 bytes long instead of 13. It goes over the stack in every call,
+ *       in that of ziwhakemo_name_waits too, where it went in registers: every caller has to be
+ *       compiled again. Refusal 14, which comes after 8 and before 9. ziwhakemo_score_answer has
+ *       `regular_dora` and `ura_dora` behind `yakuman_count`, and its han are with dora. It is as
+ *       long as it was, but `basic_points` to `from_discarder` stand four bytes further on. A caller
+ *       that shows no indicator gets the answers of version 4.
  */
-#define ZIWHAKEMO_VERSION 4
+#define ZIWHAKEMO_VERSION 5
 
 /* The version of the archive. An archive of version 1 does not have this function. */
 uint32_t ziwhakemo_version(void);
@@ -120,9 +128,28 @@ enum {
     ZIWHAKEMO_DOUBLE_WIND_FU_TWO = 2
 };
 
-/* How the hand was won, and the room's setting. Every mixture of the flags is taken. The winner is
- * the dealer where the seat wind is East. Each bool must be 0 or 1. A struct that is filled with
- * zeros still has to have `double_wind_fu` set. */
+/* At most so many indicators, of dora and of ura dora each. */
+#define ZIWHAKEMO_INDICATORS 10
+
+/* Indicators: the tiles that are shown, not the dora themselves. The dora is the tile after the one
+ * that is shown: in a suit by number, and 1 after 9; East, South, West, North, East; White, Green,
+ * Red, White. Each indicator adds as many dora as hand and calls together hold of that tile: a kan of
+ * it adds four, and what is shown twice adds twice. Only han, and what follows from them, go by the
+ * dora: no yaku, no fu, no wait. What stands in `tiles` behind the first `count` is not read. A struct
+ * that is filled with zeros shows none. */
+typedef struct ziwhakemo_indicators {
+    uint8_t count;                       /* how many are shown: 0 to ZIWHAKEMO_INDICATORS */
+    uint8_t tiles[ZIWHAKEMO_INDICATORS]; /* their tile numbers, in any order */
+} ziwhakemo_indicators;
+
+/* How the hand was won, the room's setting, and what is shown. Every mixture of the flags is taken.
+ * The winner is the dealer where the seat wind is East. Each bool must be 0 or 1. A struct that is
+ * filled with zeros shows no indicator, but still has to have `double_wind_fu` set. It is 35 bytes
+ * long and goes over the stack.
+ *
+ * Ura dora count where `is_riichi` is set and nowhere else: on an open hand too, and not by
+ * `is_double_riichi` alone. Where they do not count, their indicators are checked all the same. Red
+ * fives and pulled Norths are not counted. */
 typedef struct ziwhakemo_game_context {
     uint8_t win_type;       /* ZIWHAKEMO_RON or ZIWHAKEMO_TSUMO */
     uint8_t winning_tile;   /* a tile that the hand holds (not one of a call) */
@@ -137,12 +164,15 @@ typedef struct ziwhakemo_game_context {
     bool is_tenhou;
     bool is_chiihou;
     uint8_t double_wind_fu; /* ZIWHAKEMO_DOUBLE_WIND_FU_FOUR or ZIWHAKEMO_DOUBLE_WIND_FU_TWO */
+    ziwhakemo_indicators dora_indicators;
+    ziwhakemo_indicators ura_dora_indicators;
 } ziwhakemo_game_context;
 
 /* ---- Refusals -----------------------------------------------------------------------------------
  *
  * An answer that may be a refusal begins with `number`: 0 where the call is accepted, else the first
- * of these that applies, in this order and of those that stand beside the function. A refusal has its
+ * that applies of those that stand beside the function, in the order in which they stand there. That
+ * is the order of the numbers, but for 14, which comes after 8 and before 9. A refusal has its
  * number, and 0 in every other field.
  */
 enum {
@@ -159,7 +189,9 @@ enum {
     ZIWHAKEMO_REFUSED_NO_READING = 10,      /* the hand has no reading */
     ZIWHAKEMO_REFUSED_NO_YAKU = 11,         /* no reading has a yaku */
     ZIWHAKEMO_REFUSED_NO_SUCH_READING = 12, /* there are not more readings than that number */
-    ZIWHAKEMO_REFUSED_BASIC_POINTS = 13     /* basic points above 152,000 */
+    ZIWHAKEMO_REFUSED_BASIC_POINTS = 13,    /* basic points above 152,000 */
+    ZIWHAKEMO_REFUSED_INDICATORS = 14       /* an indicator is above 33, or there are more than ten
+                                             * of a sort; comes after 8 and before 9 */
 };
 
 /* ---- Listing readings ---------------------------------------------------------------------------
@@ -319,17 +351,21 @@ enum {
     ZIWHAKEMO_YAKU
 };
 
-/* The score of a reading. */
+/* The score of a reading. Its dora are han but no yaku: they are added to the han of the yaku, unless
+ * there is a yakuman, which takes none. So a reading without a yaku may have han and a price; it is
+ * never chosen. */
 typedef struct ziwhakemo_score_answer {
     uint32_t number;                 /* 0, or the refusal */
     uint32_t settlement;             /* one of the settlements above */
     size_t reading;                  /* the number of the reading, counted from 0 */
     uint8_t tallies[ZIWHAKEMO_YAKU]; /* how often each yaku stands */
-    uint8_t han;
+    uint8_t han;                     /* with dora; those of a yakuman without */
     uint8_t fu;
     bool is_yakuman;                 /* is there a yakuman among the yaku? */
     uint8_t level;                   /* one of the levels above */
     uint8_t yakuman_count;           /* how many times a yakuman counts; 0 below that level */
+    uint8_t regular_dora;            /* by `dora_indicators`; counted beside a yakuman too */
+    uint8_t ura_dora;                /* by `ura_dora_indicators`, likewise; 0 without riichi */
     uint32_t basic_points;
     uint32_t from_non_dealer;        /* these four as in ziwhakemo_payment_answer */
     uint32_t from_dealer;
@@ -338,14 +374,16 @@ typedef struct ziwhakemo_score_answer {
 } ziwhakemo_score_answer;
 
 /* Scores a win by the reading with a yaku that pays most: the greatest total, then a yakuman before
- * none, then more han, then more fu, then the earlier record. Refuses with 1 to 6, 8, 9, 10, 11. */
+ * none, then more han, then more fu, then the earlier record. Dora alone are no yaku. Refuses with 1
+ * to 6, 8, 14, 9, 10, 11. */
 ziwhakemo_score_answer ziwhakemo_score_win(const uint8_t *counts, size_t counts_length,
                                            const ziwhakemo_meld *calls, size_t calls_length,
                                            ziwhakemo_game_context win);
 
 /* Scores the reading with a number, counted from 0 in the order of the records, with a yaku or
- * without: where it has none, han is 0 and the points are those of 0 han. Refuses with 1 to 6, 8,
- * 9, 12. */
+ * without: where it has none, its han are its dora, and level, points and payment are those of so
+ * many han, though ziwhakemo_score_win never chooses it, whatever its total. Refuses with 1 to 6, 8,
+ * 14, 9, 12. */
 ziwhakemo_score_answer ziwhakemo_score_reading(const uint8_t *counts, size_t counts_length,
                                                const ziwhakemo_meld *calls, size_t calls_length,
                                                ziwhakemo_game_context win, size_t reading);
@@ -373,25 +411,39 @@ typedef struct ziwhakemo_waits_answer {
  * closed triplet may have been completed by the winning tile. For thirteen orphans the wait is
  * Kokushi13 where the pair is the winning tile, as each of the thirteen would have served then, else
  * Tanki; so ZIWHAKEMO_WAIT_KOKUSHI_13 is tallied exactly where ZIWHAKEMO_YAKU_KOKUSHI_13_WAIT is.
- * Refuses with 1 to 6, 8, 9, 12. */
+ * Refuses with 1 to 6, 8, 14, 9, 12. */
 ziwhakemo_waits_answer ziwhakemo_name_waits(const uint8_t *counts, size_t counts_length,
                                             const ziwhakemo_meld *calls, size_t calls_length,
                                             ziwhakemo_game_context win, size_t reading);
 
 /* ---- Layout -------------------------------------------------------------------------------------
  *
- * The sizes of these structs in the library. Where a compiler lays them out otherwise (another
- * machine, packed structs), it stops at the line that does not fit.
+ * The sizes of these structs in the library, and where some of their fields stand. Where a compiler
+ * lays them out otherwise (another machine, packed structs), it stops at the line that does not fit.
  */
 #define ZIWHAKEMO_FITS(type, size) typedef char type##_fits[sizeof(type) == (size) ? 1 : -1]
+#define ZIWHAKEMO_STANDS(type, field, place) \
+    typedef char type##_##field##_stands[offsetof(type, field) == (place) ? 1 : -1]
 ZIWHAKEMO_FITS(ziwhakemo_meld, 2);
-ZIWHAKEMO_FITS(ziwhakemo_game_context, 13);
+ZIWHAKEMO_FITS(ziwhakemo_indicators, 11);
+ZIWHAKEMO_STANDS(ziwhakemo_indicators, tiles, 1);
+ZIWHAKEMO_FITS(ziwhakemo_game_context, 35);
+ZIWHAKEMO_STANDS(ziwhakemo_game_context, double_wind_fu, 12);
+ZIWHAKEMO_STANDS(ziwhakemo_game_context, dora_indicators, 13);
+ZIWHAKEMO_STANDS(ziwhakemo_game_context, ura_dora_indicators, 24);
 ZIWHAKEMO_FITS(ziwhakemo_listing_answer, 24);
 ZIWHAKEMO_FITS(ziwhakemo_level_answer, 2);
 ZIWHAKEMO_FITS(ziwhakemo_payment_answer, 32);
 ZIWHAKEMO_FITS(ziwhakemo_score_answer, 96);
+ZIWHAKEMO_STANDS(ziwhakemo_score_answer, tallies, 16);
+ZIWHAKEMO_STANDS(ziwhakemo_score_answer, han, 63);
+ZIWHAKEMO_STANDS(ziwhakemo_score_answer, regular_dora, 68);
+ZIWHAKEMO_STANDS(ziwhakemo_score_answer, ura_dora, 69);
+ZIWHAKEMO_STANDS(ziwhakemo_score_answer, basic_points, 72);
+ZIWHAKEMO_STANDS(ziwhakemo_score_answer, total, 88);
 ZIWHAKEMO_FITS(ziwhakemo_waits_answer, 12);
 #undef ZIWHAKEMO_FITS
+#undef ZIWHAKEMO_STANDS
 
 #ifdef __cplusplus
 }

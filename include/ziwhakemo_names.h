@@ -104,9 +104,9 @@ static inline const char *ziwhakemo_settlement_name(uint32_t settlement) {
     return settlement <= ZIWHAKEMO_SETTLEMENT_TSUMO ? names[settlement] : "?";
 }
 
-/* What the number of an answer means, ZIWHAKEMO_ACCEPTED to ZIWHAKEMO_REFUSED_BASIC_POINTS. */
+/* What the number of an answer means, ZIWHAKEMO_ACCEPTED to ZIWHAKEMO_REFUSED_INDICATORS. */
 static inline const char *ziwhakemo_number_meaning(uint32_t number) {
-    static const char *const meanings[ZIWHAKEMO_REFUSED_BASIC_POINTS + 1] = {
+    static const char *const meanings[ZIWHAKEMO_REFUSED_INDICATORS + 1] = {
         "accepted",
         "the counts are not 34 long",
         "more than four calls",
@@ -120,9 +120,10 @@ static inline const char *ziwhakemo_number_meaning(uint32_t number) {
         "the hand has no reading",
         "no reading has a yaku",
         "there are not more readings than that number",
-        "basic points above 152,000"
+        "basic points above 152,000",
+        "an indicator is above 33, or there are more than ten"
     };
-    return number <= ZIWHAKEMO_REFUSED_BASIC_POINTS ? meanings[number] : "?";
+    return number <= ZIWHAKEMO_REFUSED_INDICATORS ? meanings[number] : "?";
 }
 
 #ifdef __cplusplus

@@ -4,13 +4,13 @@ use crate::agari;
 use crate::answers;
 use crate::differences::payment_refusal;
 use crate::hand::*;
-use crate::library::{Level, PaymentAnswer, RON, Score, WAITS, Win, YAKU};
+use crate::library::{Indicators, Level, PaymentAnswer, RON, Score, WAITS, Win, YAKU};
 use crate::probe::{Reading, ReadingScore};
 use agari_core::context::{GameContext, WinType};
 use agari_core::hand::HandStructure;
 use agari_core::parse::TileCounts;
 use agari_core::scoring::{Payment, ScoreLevel};
-use agari_core::tile::Honor;
+use agari_core::tile::{Honor, Tile};
 use agari_core::wait::WaitType;
 use agari_core::yaku::Yaku;
 
@@ -96,7 +96,7 @@ impl ReadHand {
         }
     }
 
-    /// agari's score of one of the readings, before points.
+    /// agari's score of one of the readings, before points and without dora.
     pub fn score(&self, reading: &HandStructure, win: &Win) -> ReadingScore {
         let context = context(win, self.is_open);
         let yaku = answers::yaku(reading, &self.agari_counts, &context);
@@ -133,6 +133,8 @@ impl ReadHand {
             is_yakuman: u8::from(yaku.is_yakuman),
             level: level.level,
             yakuman_count: level.count,
+            regular_dora: yaku.regular_dora,
+            ura_dora: yaku.ura_dora,
             basic_points: result.basic_points,
             from_non_dealer: paid.from_non_dealer,
             from_dealer: paid.from_dealer,
@@ -178,11 +180,16 @@ fn readings(hand: &Hand) -> Vec<(Reading, HandStructure)> {
         .collect()
 }
 
-/// agari's circumstances of a win. The room's setting is none of them.
+/// agari's circumstances of a win that passes the checks, its indicators among them. The room's setting is
+/// none of them.
 pub fn context(win: &Win, is_open: bool) -> GameContext {
     let round_wind = agari::honor(win.round_wind);
     let seat_wind = agari::honor(win.seat_wind);
-    let context = GameContext::new(win_type(win.win_type), round_wind, seat_wind);
+    let [dora, ura_dora] = win.indicators().map(|sort| tiles(&sort));
+    let context = GameContext::new(win_type(win.win_type), round_wind, seat_wind)
+        .with_winning_tile(agari::tile(win.winning_tile))
+        .with_dora(dora)
+        .with_ura_dora(ura_dora);
     GameContext {
         is_open,
         is_riichi: win.is_riichi,
@@ -193,8 +200,14 @@ pub fn context(win: &Win, is_open: bool) -> GameContext {
         is_last_tile: win.is_last_tile,
         is_tenhou: win.is_tenhou,
         is_chiihou: win.is_chiihou,
-        ..context.with_winning_tile(agari::tile(win.winning_tile))
+        ..context
     }
+}
+
+/// agari's tiles of the indicators that are shown.
+fn tiles(indicators: &Indicators) -> Vec<Tile> {
+    let shown = indicators.shown().iter();
+    shown.map(|&tile| agari::tile(tile)).collect()
 }
 
 fn win_type(number: u8) -> WinType {

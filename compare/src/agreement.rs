@@ -2,6 +2,7 @@
 //! scores and payments the same.
 
 use crate::agari::Record;
+use crate::differences::bad_indicators;
 use crate::hand::{Hand, KINDS};
 use crate::library::{self, Listing, Score, Waits, Win, YAKU};
 use crate::oracle::{self, TOO_SHORT};
@@ -10,10 +11,54 @@ use crate::rng::Rng;
 use crate::win_oracle::ExpectedWin;
 use crate::wins::GREENS;
 
-/// What has to agree: three answers of the library, and at last agari's scores.
-pub const PARTS: [&str; 4] = ["listing", "readings by number", "scored win", "agari"];
-/// The answers to a win that passes the checks.
-pub const ANSWERS: [usize; 3] = [0, 10, 11];
+/// What may agree: four answers of the library, and at last agari's waits and scores.
+pub const PARTS: [&str; 6] = [
+    "listing",
+    "waits by number",
+    "scores by number",
+    "scored win",
+    "agari's waits",
+    "agari's scores",
+];
+/// The answers to a win of which something is promised.
+pub const ANSWERS: [usize; 4] = [0, 10, 11, BAD as usize];
+/// The refusal of indicators.
+pub const BAD: u32 = 14;
+
+/// What is promised of a win and its renamed one.
+#[derive(Clone, Copy, PartialEq, Eq)]
+pub enum Class {
+    /// No indicator of either sort: everything agrees, under every renaming.
+    Plain,
+    /// Indicators, even ura indicators that do not count, and an exchange of suits: everything agrees.
+    Suits,
+    /// Indicators and another renaming: listings and waits agree, scores need not.
+    Others,
+    /// The first is refused with 14: so is the second, under every renaming, and the listings agree.
+    Bad,
+}
+
+impl Class {
+    pub const ALL: usize = 4;
+
+    /// The class of a win that passes the checks, or of one that is refused with 14.
+    fn of(win: &Win, renaming: Renaming, is_bad: bool) -> Class {
+        match (is_bad, win.has_indicators(), renaming.is_of_suits()) {
+            (true, _, _) => Class::Bad,
+            (false, false, _) => Class::Plain,
+            (false, true, true) => Class::Suits,
+            (false, true, false) => Class::Others,
+        }
+    }
+
+    /// Which parts have to agree.
+    pub fn promises(self) -> [bool; PARTS.len()] {
+        match self {
+            Class::Others => [true, true, false, false, true, false],
+            Class::Plain | Class::Suits | Class::Bad => [true; PARTS.len()],
+        }
+    }
+}
 
 /// What is answered for a win: its score, and of each reading its score and its waits.
 struct Answers {
@@ -22,7 +67,7 @@ struct Answers {
 }
 
 impl Answers {
-    /// The library's answers to a win with so many readings.
+    /// The library's answers to a win, for so many numbers of readings.
     fn of_library(hand: &Hand, win: &Win, readings: usize) -> Answers {
         let (counts, calls) = (hand.counts(), hand.calls);
         let score = |number| library::score_reading(counts, calls, *win, number);
@@ -43,20 +88,42 @@ impl Answers {
         }
     }
 
-    /// Whether both scored wins have the same answer, and both pass the checks.
-    fn win_as(&self, other: &Answers) -> bool {
-        let number = self.win.number as usize;
-        ANSWERS.contains(&number) && settled(&self.win) == settled(&other.win)
+    /// Whether waits by number, scores by number and the scored win agree with the others, where each
+    /// reading has its renamed one at its place.
+    fn agree(&self, other: &Answers, places: &[usize]) -> [bool; 3] {
+        [
+            self.waits_as(other, places),
+            self.scores_as(other, places),
+            self.win_as(other),
+        ]
     }
 
-    /// Whether each reading has the score and the waits of the one at its place among the others.
-    fn readings_as(&self, other: &Answers, places: &[usize]) -> bool {
+    /// Whether each reading has the waits of the one at its place among the others.
+    fn waits_as(&self, other: &Answers, places: &[usize]) -> bool {
         let mut pairs = self.readings.iter().zip(places);
-        pairs.all(|((score, waits), &place)| {
-            let (other_score, other_waits) = &other.readings[place];
-            let is_answered = score.number == 0 && waits.number == 0;
-            is_answered && settled(score) == settled(other_score) && waits == other_waits
+        pairs.all(|((_, waits), &place)| waits.number == 0 && *waits == other.readings[place].1)
+    }
+
+    /// Whether each reading has the score of the one at its place among the others.
+    fn scores_as(&self, other: &Answers, places: &[usize]) -> bool {
+        let mut pairs = self.readings.iter().zip(places);
+        pairs.all(|((score, _), &place)| {
+            score.number == 0 && settled(score) == settled(&other.readings[place].0)
         })
+    }
+
+    /// Whether both scored wins have the same answer, and both pass the checks.
+    fn win_as(&self, other: &Answers) -> bool {
+        [0, 10, 11].contains(&self.win.number) && settled(&self.win) == settled(&other.win)
+    }
+
+    /// Whether waits by number, scores by number and the scored win are refused with 14.
+    fn are_refused(&self) -> [bool; 3] {
+        [
+            self.readings.iter().all(|(_, waits)| waits.number == BAD),
+            self.readings.iter().all(|(score, _)| score.number == BAD),
+            self.win.number == BAD,
+        ]
     }
 }
 
@@ -74,6 +141,7 @@ pub struct Twins {
     pub hands: [Hand; 2],
     pub wins: [Win; 2],
     pub renaming: Renaming,
+    pub class: Class,
 }
 
 /// How two wins were answered.
@@ -83,17 +151,28 @@ pub struct Outcome {
     /// Whether its records did not fit into the shorter buffer.
     pub is_too_short: bool,
     pub scores: [Score; 2],
-    /// Whether the answers differ, part by part.
+    /// Whether the answers differ, part by part, promised or not.
     pub differ: [bool; PARTS.len()],
 }
 
+impl Outcome {
+    /// Whether the answers differ in parts that are promised, part by part.
+    pub fn broken(&self, class: Class) -> [bool; PARTS.len()] {
+        let promises = class.promises();
+        std::array::from_fn(|part| promises[part] && self.differ[part])
+    }
+}
+
 impl Twins {
-    /// A win that passes the checks, beside its renamed one, with noise in what must not matter.
+    /// A win that passes the checks or is refused with 14, beside its renamed one, each with its own noise
+    /// in what must not matter.
     pub fn new(rng: &mut Rng, hand: &Hand, win: &Win, renaming: Renaming) -> Twins {
+        let is_bad = bad_indicators(win).contains(&true);
         Twins {
             hands: [*hand, renaming.hand(hand)].map(|hand| hand.with_noise(rng)),
-            wins: [*win, renaming.win(win)],
+            wins: [*win, renaming.win(win)].map(|win| win.with_noise(rng)),
             renaming,
+            class: Class::of(win, renaming, is_bad),
         }
     }
 
@@ -111,28 +190,44 @@ impl Twins {
         let (listing, places, whole) = self.listings(old);
         let lent = rng.below(listing.bytes + 1);
         let (shorter, _, part) = self.listings(&old[..lent]);
-        let [one, other] = self.answers(Answers::of_library, places.len());
-        let [agari, agari_other] = self.answers(Answers::of_agari, places.len());
-        let agari_agrees = agari.readings_as(&agari_other, &places) && agari.win_as(&agari_other);
+        let library = self.answers(Answers::of_library, places.len());
+        let agari = self.answers(Answers::of_agari, places.len());
+        let [waits, scores, win] = self.agree(&library, &places);
+        let [agari_waits, agari_scores, agari_win] = self.agree(&agari, &places);
         Outcome {
             readings: listing.readings,
             is_too_short: shorter.number == TOO_SHORT,
-            scores: [one.win, other.win],
+            scores: library.map(|answers| answers.win),
             differ: [
                 !whole || !part,
-                !one.readings_as(&other, &places),
-                !one.win_as(&other),
-                !agari_agrees,
+                !waits,
+                !scores,
+                !win,
+                !agari_waits,
+                !agari_scores || !agari_win,
             ],
         }
     }
 
+    /// The answers to both wins, for their readings and for the number past the last.
     fn answers(
         &self,
         ask: impl Fn(&Hand, &Win, usize) -> Answers,
         readings: usize,
     ) -> [Answers; 2] {
-        [0, 1].map(|win| ask(&self.hands[win], &self.wins[win], readings))
+        [0, 1].map(|win| ask(&self.hands[win], &self.wins[win], readings + 1))
+    }
+
+    /// Whether waits by number, scores by number and the scored wins are as they have to be, were all of
+    /// them promised.
+    fn agree(&self, [one, other]: &[Answers; 2], places: &[usize]) -> [bool; 3] {
+        match self.class {
+            Class::Bad => {
+                let [first, second] = [one, other].map(Answers::are_refused);
+                std::array::from_fn(|part| first[part] && second[part])
+            }
+            Class::Plain | Class::Suits | Class::Others => one.agree(other, places),
+        }
     }
 
     /// Lists both hands into a buffer of these bytes. Answers the first listing, the place of each of
@@ -181,7 +276,7 @@ fn records(mut bytes: &[u8]) -> Vec<Record> {
 #[cfg(test)]
 mod tests {
     use super::*;
-    use crate::library::RON;
+    use crate::library::{Indicators, RON};
 
     /// What differs where an all-green hand is won by ron of sou 2, and renamed.
     fn green_differ(renaming: usize) -> [bool; PARTS.len()] {
@@ -195,8 +290,45 @@ mod tests {
 
     #[test]
     fn all_green_hands_differ_where_sou_is_renamed() {
-        assert_eq!(green_differ(0), [false; 4]);
-        assert_eq!(green_differ(20), [false, true, true, true]);
+        assert_eq!(green_differ(0), [false; 6]);
+        assert_eq!(green_differ(20), [false, false, true, true, false, true]);
+    }
+
+    /// What differs, and what of it is promised, where this hand is won by ron of sou 8 with indicators, and
+    /// renamed.
+    fn shown_differ(text: &str, shown: &[u8], renaming: usize) -> ([bool; 6], [bool; 6]) {
+        let win = Win::new(RON, 25, 27, 28);
+        let win = win.showing([Indicators::of(shown), Indicators::default()]);
+        let mut rng = Rng::new(1);
+        let hand = Hand::written(text);
+        let twins = Twins::new(&mut rng, &hand, &win, Renaming::numbered(renaming));
+        let outcome = twins.outcome(&mut rng, &[0; 100]);
+        (outcome.differ, outcome.broken(twins.class))
+    }
+
+    #[test]
+    fn with_indicators_only_exchanges_of_suits_agree() {
+        let scores = [false, false, true, true, false, true];
+        // Man 1 shows man 2. Mirrored, man 9 shows man 1, and man 8 is not hit.
+        let pinfu = "12355m456p234678s";
+        assert_eq!(shown_differ(pinfu, &[0], 20), ([false; 6], [false; 6]));
+        assert_eq!(shown_differ(pinfu, &[0], 2), (scores, [false; 6]));
+        // White shows Green. With the dragons exchanged, Red shows White, of which there are three.
+        let dragons = "123m55678s555777z";
+        assert_eq!(shown_differ(dragons, &[31], 20), ([false; 6], [false; 6]));
+        assert_eq!(shown_differ(dragons, &[31], 1), (scores, [false; 6]));
+        assert_eq!(shown_differ(dragons, &[], 1), ([false; 6], [false; 6]));
+    }
+
+    #[test]
+    fn a_refusal_with_14_is_one_under_every_renaming() {
+        let pinfu = "12355m456p234678s";
+        for renaming in 0..Renaming::ALL {
+            for shown in [&[0, 34][..], &[0; 11]] {
+                let (differ, broken) = shown_differ(pinfu, shown, renaming);
+                assert_eq!((differ, broken), ([false; 6], [false; 6]));
+            }
+        }
     }
 
     #[test]

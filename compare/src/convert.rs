@@ -1,8 +1,9 @@
 //! agari's types as those of the crate `ziwhakemo`, and back, for a table that has both for a while.
 //!
 //! All but the win have the same shapes on both sides, so that the one macro below makes both directions.
-//! What the library leaves out is told: a local yaku, and a win with dora or with other rules. So is what
-//! agari has not: a room that gives two fu for a pair that is both round and seat wind.
+//! What the library leaves out is told: a local yaku, and a win with red fives, pulled Norths or other
+//! rules. So is what agari has not, a room that gives two fu for a pair that is both round and seat wind,
+//! and what the crate does not keep, the eleventh indicator and those behind it.
 
 use ziwhakemo as ours;
 
@@ -163,7 +164,7 @@ pub mod to_ziwhakemo {
     /// What the library leaves out, so that it would score the win otherwise.
     #[derive(Clone, Copy, Debug, PartialEq, Eq)]
     pub enum LeftOut {
-        /// Dora, red fives or pulled Norths.
+        /// Red fives or pulled Norths.
         Dora,
         /// Other rules than agari's default ones.
         Rules,
@@ -178,12 +179,16 @@ pub mod to_ziwhakemo {
         }
     }
 
+    /// Indicators in their order. More than ten are refused where a win is scored.
+    pub fn indicators(tiles: &[theirs::Tile]) -> ours::Indicators {
+        let tiles: Vec<ours::Tile> = tiles.iter().copied().map(tile).collect();
+        ours::Indicators::new(&tiles)
+    }
+
     /// A win. Whether the hand is open is not carried over: the calls say it. Nor are the flags of open
     /// riichi and renhou, which score nothing under the default rules. The setting is four, as in agari.
     pub fn game_context(context: &theirs::GameContext) -> Result<ours::GameContext, LeftOut> {
-        let indicators = [&context.dora_indicators, &context.ura_dora_indicators];
-        let has_indicators = indicators.iter().any(|tiles| !tiles.is_empty());
-        if has_indicators || context.aka_count > 0 || context.nukidora > 0 {
+        if context.aka_count > 0 || context.nukidora > 0 {
             return Err(LeftOut::Dora);
         }
         if context.rules != theirs::Rules::default() {
@@ -203,6 +208,8 @@ pub mod to_ziwhakemo {
             is_tenhou: context.is_tenhou,
             is_chiihou: context.is_chiihou,
             double_wind_fu: ours::DoubleWindFu::Four,
+            dora_indicators: indicators(&context.dora_indicators),
+            ura_dora_indicators: indicators(&context.ura_dora_indicators),
         })
     }
 }
@@ -218,8 +225,15 @@ pub mod to_agari {
         each_yaku!(yaku, ours, theirs)
     }
 
-    /// A win with these calls, which say whether the hand is open. No dora, and agari's default rules.
-    /// Nothing in a room with setting two, as agari gives four fu.
+    /// Indicators in their order. Nothing where there are more than ten, which the crate has not kept.
+    pub fn indicators(indicators: &ours::Indicators) -> Option<Vec<theirs::Tile>> {
+        let tiles = indicators.tiles();
+        let are_all = tiles.len() == indicators.count();
+        are_all.then(|| tiles.iter().copied().map(tile).collect())
+    }
+
+    /// A win with these calls, which say whether the hand is open. No red fives, and agari's default rules.
+    /// Nothing in a room with setting two, as agari gives four fu, nor with more than ten indicators.
     pub fn game_context(
         context: &ours::GameContext,
         calls: &[ours::Meld],
@@ -228,7 +242,9 @@ pub mod to_agari {
             return None;
         }
         let [round_wind, seat_wind] = [context.round_wind, context.seat_wind].map(honor);
-        let plain = theirs::GameContext::new(win_type(context.win_type), round_wind, seat_wind);
+        let plain = theirs::GameContext::new(win_type(context.win_type), round_wind, seat_wind)
+            .with_dora(indicators(&context.dora_indicators)?)
+            .with_ura_dora(indicators(&context.ura_dora_indicators)?);
         Some(theirs::GameContext {
             winning_tile: context.winning_tile.map(tile),
             is_open: calls.iter().any(ours::Meld::is_open),
@@ -320,6 +336,8 @@ mod tests {
             assert_eq!(text(back), text(Some(context)));
             let two = turned.with_double_wind_fu(ours::DoubleWindFu::Two);
             assert!(to_agari::game_context(&two, &turned_calls).is_none());
+            let eleven = turned.with_dora([to_ziwhakemo::tile(agari::tile(0)); 11]);
+            assert!(to_agari::game_context(&eleven, &turned_calls).is_none());
         }
     }
 
@@ -349,16 +367,14 @@ mod tests {
         let east = agari::honor(27);
         let tile = agari::tile(27);
         let plain = || theirs::GameContext::new(theirs::WinType::Ron, east, east);
-        let dora = [
-            plain().with_dora(vec![tile]),
-            plain().with_ura_dora(vec![tile]),
-            plain().with_aka(1),
-            plain().with_nukidora(1),
-        ];
-        for context in dora {
+        for context in [plain().with_aka(1), plain().with_nukidora(1)] {
             let turned = to_ziwhakemo::game_context(&context);
             assert_eq!(turned, Err(LeftOut::Dora));
         }
+        let shown = plain().with_dora(vec![tile; 2]).with_ura_dora(vec![tile]);
+        let turned = to_ziwhakemo::game_context(&shown).unwrap();
+        let sorts = [turned.dora_indicators, turned.ura_dora_indicators];
+        assert_eq!(sorts.map(|sort| sort.count()), [2, 1]);
         let rules = [
             theirs::Rules::sanma(),
             theirs::Rules::default().open_riichi(true),

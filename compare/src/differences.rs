@@ -14,7 +14,7 @@
 
 use crate::agari::{self, Record};
 use crate::hand::*;
-use crate::library::{Meld, SETTINGS, TSUMO, TWO, Win};
+use crate::library::{MOST_INDICATORS, Meld, SETTINGS, TSUMO, TWO, Win};
 use agari_core::context::{GameContext, WinType};
 use agari_core::hand::HandStructure;
 use agari_core::parse::TileCounts;
@@ -62,7 +62,7 @@ fn orphans_wait(pair: Tile, winning_tile: Tile) -> WaitType {
     }
 }
 
-/// The yaku of a reading, their han, and whether there is a yakuman.
+/// The yaku of a reading, their han, whether there is a yakuman, and the dora.
 pub fn yaku(
     theirs: YakuResult,
     _reading: &HandStructure,
@@ -193,12 +193,24 @@ pub fn out_of_range(win: &Win) -> [bool; 4] {
     ]
 }
 
-/// The grounds for the refusals 8 and 9, each looked at by itself. Row 'A winning tile that the hand
+/// What is wrong with the indicators: more than ten, or a shown one above 33; then the same of the ura
+/// indicators, with riichi or without. Row 'Indicators that are none'.
+pub fn bad_indicators(win: &Win) -> [bool; 4] {
+    let [dora, ura] = win.indicators().map(|sort| {
+        let is_none = |&tile: &u8| usize::from(tile) >= KINDS;
+        let are_many = usize::from(sort.count) > MOST_INDICATORS;
+        [are_many, sort.shown().iter().any(is_none)]
+    });
+    [dora[0], dora[1], ura[0], ura[1]]
+}
+
+/// The grounds for the refusals 8, 14 and 9, each looked at by itself. Row 'A winning tile that the hand
 /// does not hold'.
-pub fn win_faults(hand: &Hand, win: &Win) -> [bool; 2] {
+pub fn win_faults(hand: &Hand, win: &Win) -> [bool; 3] {
     let held = hand.counts().get(usize::from(win.winning_tile));
     [
         out_of_range(win).contains(&true),
+        bad_indicators(win).contains(&true),
         win.winning_tile > 33 || held.is_none_or(|&count| count == 0),
     ]
 }

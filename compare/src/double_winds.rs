@@ -1,14 +1,13 @@
 //! Wins with a pair that is most often both round and seat wind, in rooms with either setting, and with
 //! settings that are none.
 
-use crate::differences::FAULTS;
 use crate::hand::*;
 use crate::library::{SETTINGS, Score, Win};
 use crate::rng::Rng;
 use crate::win_checker::WinChecker;
-use crate::win_damage::{absent_tile, no_setting, put_out_of_range, with_faults};
+use crate::win_damage::{absent_tile, no_setting, put_out_of_range, refused_hand};
 use crate::win_oracle::{ExpectedHand, ExpectedWin};
-use crate::win_tally::counted;
+use crate::win_tally::{count_each, counted};
 use crate::wins::{self, WINDS};
 use std::fmt;
 
@@ -93,7 +92,7 @@ impl Dealt {
     /// refused.
     fn check_every_setting(&self, checker: &mut WinChecker, rng: &mut Rng) {
         let absent = self.with_absent_tile(rng);
-        let (refused, win) = refused(rng);
+        let (refused, win) = refused_hand(rng);
         for setting in 0..=u8::MAX {
             for win in [self.win, absent].map(|win| win.in_room(setting)) {
                 checker.check(&self.hand, &win, &self.expected.won(&self.hand, &win));
@@ -112,7 +111,7 @@ impl Dealt {
         for win in [absent, beyond] {
             checker.check(&self.hand, &win, &self.expected.won(&self.hand, &win));
         }
-        let (refused, win) = refused(rng);
+        let (refused, win) = refused_hand(rng);
         let win = win.in_room(no_setting(rng));
         checker.check(&refused, &win, &ExpectedWin::of(&refused, &win));
     }
@@ -123,12 +122,6 @@ impl Dealt {
             ..self.win
         }
     }
-}
-
-/// A win whose hand is refused with one of 1 to 6.
-fn refused(rng: &mut Rng) -> (Hand, Win) {
-    let fault = 1 + rng.below(FAULTS);
-    with_faults(rng, fault, fault)
 }
 
 /// The win, in 15 of 100 cases with any round wind, any seat wind, or both.
@@ -174,12 +167,6 @@ impl Corners {
         }
         let pairs = expected[0].scores.iter().zip(&expected[1].scores);
         self.readings += pairs.filter(|(four, two)| four.fu != two.fu).count() as u64;
-    }
-}
-
-fn count_each<const N: usize>(counts: &mut [u64; N], are_so: [bool; N]) {
-    for (count, is_so) in counts.iter_mut().zip(are_so) {
-        *count += u64::from(is_so);
     }
 }
 

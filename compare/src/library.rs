@@ -1,7 +1,10 @@
 //! The proved library, by its C interface.
 
+use crate::hand::KINDS;
+use crate::rng::Rng;
+
 /// The version of the interface that is declared here.
-pub const VERSION: u32 = 4;
+pub const VERSION: u32 = 5;
 
 /// The number of yaku tallies: one for each entry of `Yaku`, Yakuhai apart for each honour, without
 /// the three local entries.
@@ -17,6 +20,9 @@ pub const TSUMO: u8 = 1;
 pub const FOUR: u8 = 4;
 pub const TWO: u8 = 2;
 pub const SETTINGS: [u8; 2] = [FOUR, TWO];
+
+/// The most indicators of either sort.
+pub const MOST_INDICATORS: usize = 10;
 
 /// The number of mixtures of win type, winds and flags.
 pub const MIXTURES: usize = 2 * 4 * 4 * 256;
@@ -36,6 +42,55 @@ pub struct Calls {
     pub melds: [Meld; 4],
 }
 
+/// Indicators of one sort: the first `count` of the tiles are shown, and a count above ten is refused. What
+/// stands behind the count must not matter.
+#[repr(C)]
+#[derive(Clone, Copy, Debug, Default, PartialEq, Eq)]
+pub struct Indicators {
+    pub count: u8,
+    pub tiles: [u8; MOST_INDICATORS],
+}
+
+impl Indicators {
+    /// These tiles shown. Of more than ten the first ten are kept, and their number.
+    pub fn of(tiles: &[u8]) -> Indicators {
+        let mut shown = Indicators {
+            count: u8::try_from(tiles.len()).unwrap_or(u8::MAX),
+            ..Indicators::default()
+        };
+        for (place, &tile) in shown.tiles.iter_mut().zip(tiles) {
+            *place = tile;
+        }
+        shown
+    }
+
+    /// The tiles that are shown. Where the count is above ten, all ten.
+    pub fn shown(&self) -> &[u8] {
+        &self.tiles[..self.number()]
+    }
+
+    /// What stands behind the count.
+    pub fn behind(&self) -> &[u8] {
+        &self.tiles[self.number()..]
+    }
+
+    fn number(&self) -> usize {
+        usize::from(self.count).min(MOST_INDICATORS)
+    }
+
+    /// The same tiles shown, with noise behind them: any bytes, tiles alone, or both, so that some would
+    /// be refused and some would count.
+    pub fn with_noise(mut self, rng: &mut Rng) -> Indicators {
+        let tiles = rng.pick(&[0, 50, 100]);
+        let shown = self.number();
+        for behind in &mut self.tiles[shown..] {
+            let tile = rng.below(KINDS) as u8;
+            *behind = if rng.percent(tiles) { tile } else { rng.byte() };
+        }
+        self
+    }
+}
+
 /// A win, apart from its hand. There is no default: a setting of 0 is refused.
 #[repr(C)]
 #[derive(Clone, Copy, Debug)]
@@ -53,10 +108,12 @@ pub struct Win {
     pub is_tenhou: bool,
     pub is_chiihou: bool,
     pub double_wind_fu: u8,
+    pub dora_indicators: Indicators,
+    pub ura_dora_indicators: Indicators,
 }
 
 impl Win {
-    /// A win with no flags, in a room with setting four.
+    /// A win with no flags and no indicators, in a room with setting four.
     pub fn new(win_type: u8, winning_tile: u8, round_wind: u8, seat_wind: u8) -> Win {
         Win {
             win_type,
@@ -72,6 +129,8 @@ impl Win {
             is_tenhou: false,
             is_chiihou: false,
             double_wind_fu: FOUR,
+            dora_indicators: Indicators::default(),
+            ura_dora_indicators: Indicators::default(),
         }
     }
 
@@ -83,8 +142,32 @@ impl Win {
         }
     }
 
+    /// The same win with these indicators, and these ura indicators.
+    pub fn showing(self, [dora_indicators, ura_dora_indicators]: [Indicators; 2]) -> Win {
+        Win {
+            dora_indicators,
+            ura_dora_indicators,
+            ..self
+        }
+    }
+
+    /// Both sorts of indicators, the ura indicators last.
+    pub fn indicators(&self) -> [Indicators; 2] {
+        [self.dora_indicators, self.ura_dora_indicators]
+    }
+
+    /// Whether an indicator of either sort is there, even an ura indicator that does not count.
+    pub fn has_indicators(&self) -> bool {
+        self.indicators().iter().any(|sort| sort.count > 0)
+    }
+
+    /// The same win, with noise in what must not matter: behind the counts of the indicators.
+    pub fn with_noise(self, rng: &mut Rng) -> Win {
+        self.showing(self.indicators().map(|sort| sort.with_noise(rng)))
+    }
+
     /// A win by this tile in the mixture of win type, winds and flags with this number, with setting
-    /// four.
+    /// four and no indicators.
     pub fn in_mixture(number: usize, winning_tile: u8) -> Win {
         let flag = |place: usize| number >> (7 - place) & 1 == 1;
         let win_type = (number >> 8 & 1) as u8;
@@ -172,6 +255,8 @@ pub struct Score {
     pub is_yakuman: u8,
     pub level: u8,
     pub yakuman_count: u8,
+    pub regular_dora: u8,
+    pub ura_dora: u8,
     pub basic_points: u32,
     pub from_non_dealer: u32,
     pub from_dealer: u32,
@@ -300,9 +385,55 @@ mod tests {
     }
 
     #[test]
-    fn the_setting_is_the_last_of_13_bytes() {
-        assert_eq!((size_of::<Win>(), align_of::<Win>()), (13, 1));
+    fn a_win_is_35_bytes_and_the_indicators_are_the_last_22() {
+        assert_eq!((size_of::<Win>(), align_of::<Win>()), (35, 1));
         assert_eq!(offset_of!(Win, double_wind_fu), 12);
+        assert_eq!(offset_of!(Win, dora_indicators), 13);
+        assert_eq!(offset_of!(Win, ura_dora_indicators), 24);
+        assert_eq!(size_of::<Indicators>(), 11);
+        assert_eq!(offset_of!(Indicators, tiles), 1);
+    }
+
+    #[test]
+    fn the_dora_of_a_score_stand_where_nothing_else_does() {
+        assert_eq!((size_of::<Score>(), align_of::<Score>()), (96, 8));
+        assert_eq!(offset_of!(Score, yakuman_count), 67);
+        assert_eq!(offset_of!(Score, regular_dora), 68);
+        assert_eq!(offset_of!(Score, ura_dora), 69);
+        assert_eq!(offset_of!(Score, basic_points), 72);
+        assert_eq!(offset_of!(Score, total), 88);
+    }
+
+    #[test]
+    fn noise_stands_behind_the_count_alone() {
+        let mut rng = Rng::new(3);
+        let mut are_tiles = [false; 2];
+        for count in (0..=u8::MAX).cycle().take(2000) {
+            let plain = Indicators {
+                count,
+                tiles: [7; MOST_INDICATORS],
+            };
+            let noisy = plain.with_noise(&mut rng);
+            let number = usize::from(count).min(MOST_INDICATORS);
+            assert_eq!(noisy.count, count);
+            assert_eq!(noisy.shown(), &[7; MOST_INDICATORS][..number]);
+            assert_eq!(noisy.behind().len(), MOST_INDICATORS - number);
+            for &tile in noisy.behind() {
+                are_tiles[usize::from(tile < KINDS as u8)] = true;
+            }
+        }
+        assert_eq!(are_tiles, [true; 2]);
+    }
+
+    #[test]
+    fn more_than_ten_indicators_are_counted() {
+        assert_eq!(Indicators::of(&[3, 5]).shown(), [3, 5]);
+        let eleven = Indicators::of(&[0, 1, 2, 3, 4, 5, 6, 7, 8, 9, 10]);
+        assert_eq!((eleven.count, eleven.shown().len()), (11, 10));
+        assert_eq!(Indicators::of(&[0; 300]).count, 255);
+        let ura = Win::new(RON, 0, 27, 27).showing([Indicators::default(), Indicators::of(&[0])]);
+        assert!(ura.has_indicators());
+        assert!(!Win::new(RON, 0, 27, 27).has_indicators());
     }
 
     #[test]

@@ -8,7 +8,7 @@ use std::time::Duration;
 const USAGE: &str = "usage: compare readings [--seed N] [--random N] [--suit] [--mixed SECONDS]
        compare points
        compare scores [--seed N] [--wins N]
-       compare wins [--seed N] [--random N] [--suit] [--orphans] [--double-winds [N]]
+       compare wins [--seed N] [--random N] [--suit] [--orphans] [--double-winds [N]] [--dora [N]]
        compare twins [--seed N] [--random N]";
 const SEED: u64 = 1;
 const RANDOM_HANDS: u64 = 5_000_000;
@@ -16,6 +16,7 @@ const MIXED_SECONDS: u64 = 600;
 const SCORED_WINS: u64 = 3_000_000;
 const RANDOM_WINS: u64 = 7_000_000;
 const DOUBLE_WINDS: u64 = 2_000_000;
+const DORA_WINS: u64 = 20_000_000;
 const RANDOM_TWINS: u64 = 1_000_000;
 
 fn main() -> ExitCode {
@@ -72,7 +73,7 @@ fn compare_wins(words: &[&str]) -> Option<u64> {
         words,
         &["--seed", "--random"],
         &["--suit", "--orphans"],
-        &[("--double-winds", DOUBLE_WINDS)],
+        &[("--double-winds", DOUBLE_WINDS), ("--dora", DORA_WINS)],
     )?;
     let mut options = scored_wins::Options {
         seed: given.number("--seed").unwrap_or(SEED),
@@ -80,13 +81,15 @@ fn compare_wins(words: &[&str]) -> Option<u64> {
         suit: given.has("--suit"),
         orphans: given.has("--orphans"),
         double_winds: given.number("--double-winds"),
+        dora: given.number("--dora"),
     };
-    let is_random = options.random.or(options.double_winds).is_some();
-    if !is_random && !options.suit && !options.orphans {
+    let is_random = options.random.or(options.double_winds).or(options.dora);
+    if is_random.is_none() && !options.suit && !options.orphans {
         options.random = Some(RANDOM_WINS);
         options.suit = true;
         options.orphans = true;
         options.double_winds = Some(DOUBLE_WINDS);
+        options.dora = Some(DORA_WINS);
     }
     Some(scored_wins::compare(&options))
 }

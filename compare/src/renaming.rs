@@ -2,7 +2,7 @@
 
 use crate::agari::Record;
 use crate::hand::*;
-use crate::library::{Meld, Win};
+use crate::library::{Indicators, Meld, Win};
 use crate::probe::STANDARD;
 
 const WHITE: u8 = 31;
@@ -41,6 +41,21 @@ impl Renaming {
         }
     }
 
+    /// The number of the renaming that does the same to the suits, and no more.
+    pub fn suits_alone(number: usize) -> usize {
+        number / 4 * 4
+    }
+
+    /// Whether it exchanges suits and no more: numbers and dragons stay as they are.
+    pub fn is_of_suits(&self) -> bool {
+        !self.is_mirrored && !self.are_dragons_exchanged
+    }
+
+    /// Which of the other two it does: the mirror, and the exchange of dragons.
+    pub fn others(&self) -> [bool; 2] {
+        [self.is_mirrored, self.are_dragons_exchanged]
+    }
+
     fn tile(&self, tile: u8) -> u8 {
         let (suit, place) = (tile / 9, tile % 9);
         match tile {
@@ -71,12 +86,22 @@ impl Renaming {
         renamed
     }
 
-    /// The same win by the renamed tile, in the same room.
+    /// The same win by the renamed tile, in the same room, its indicators renamed too. One above 33 stays,
+    /// and so does what stands behind their counts.
     pub fn win(&self, win: &Win) -> Win {
-        Win {
+        let renamed = Win {
             winning_tile: self.tile(win.winning_tile),
             ..*win
+        };
+        renamed.showing(win.indicators().map(|sort| self.indicators(sort)))
+    }
+
+    fn indicators(&self, mut indicators: Indicators) -> Indicators {
+        let number = indicators.shown().len();
+        for tile in &mut indicators.tiles[..number] {
+            *tile = self.tile(*tile);
         }
+        indicators
     }
 
     /// The record of a reading that is renamed in its pair or pairs and its melds, which are put in
@@ -139,6 +164,33 @@ mod tests {
         for setting in 0..=u8::MAX {
             let renamed = renaming.win(&win.in_room(setting));
             assert_eq!((renamed.winning_tile, renamed.double_wind_fu), (9, setting));
+        }
+    }
+
+    #[test]
+    fn indicators_are_renamed_and_one_above_33_stays() {
+        let shown = [Indicators::of(&[0, 9, 31, 34]), Indicators::of(&[8, 255])];
+        let mut win = Win::new(0, 8, 27, 27).showing(shown);
+        win.dora_indicators.tiles[4] = 7;
+        // Man becomes pin, pin becomes man, numbers are mirrored, White and Red change places.
+        let renamed = Renaming::numbered(4 * 2 + 3).win(&win);
+        assert_eq!(renamed.dora_indicators.shown(), [17, 8, 33, 34]);
+        assert_eq!(renamed.ura_dora_indicators.shown(), [9, 255]);
+        assert_eq!(renamed.dora_indicators.behind()[0], 7);
+        // Of more than ten the ten are renamed, and the number stays.
+        win.dora_indicators = Indicators::of(&[0; 12]);
+        let renamed = Renaming::numbered(4 * 2).win(&win).dora_indicators;
+        assert_eq!((renamed.count, renamed.tiles), (12, [9; 10]));
+    }
+
+    #[test]
+    fn six_renamings_are_exchanges_of_suits() {
+        let all = (0..Renaming::ALL).map(Renaming::numbered);
+        assert_eq!(all.clone().filter(Renaming::is_of_suits).count(), 6);
+        for (number, renaming) in all.enumerate() {
+            let alone = Renaming::numbered(Renaming::suits_alone(number));
+            assert!(alone.is_of_suits());
+            assert_eq!(alone.suits, renaming.suits);
         }
     }
 

@@ -1,10 +1,10 @@
 //! The rows of the proved tables of hands, read from the files in which they are defined.
 //!
 //! Of antt only what those rows are written in is read: a name with its arguments, numbers, `++`,
-//! lists by `∷` and `[]`, parentheses. Anything else ends the program.
+//! lists by `∷`, `[]` and `replicate`, parentheses. Anything else ends the program.
 
 use crate::hand::*;
-use crate::library::{Calls, Meld, RON, TSUMO, Win};
+use crate::library::{Calls, Indicators, Meld, RON, TSUMO, Win};
 use std::fmt;
 use std::iter::Peekable;
 use std::slice::Iter;
@@ -135,13 +135,14 @@ impl Term {
         }
     }
 
-    /// Tiles: `mans 12355`, `orphanTiles`, a list, or some of these joined.
+    /// Tiles: `mans 12355`, `orphanTiles`, `replicate 4 (man 1)`, a list, or some of these joined.
     fn tiles(&self) -> Vec<u8> {
         if let Term::List(tiles) = self {
             return tiles.iter().map(Term::tile).collect();
         }
         match self.parts() {
             ("++", [left, right]) => [left.tiles(), right.tiles()].concat(),
+            ("replicate", [number, tile]) => vec![tile.tile(); number.number() as usize],
             ("orphanTiles", []) => vec![0, 8, 9, 17, 18, 26, 27, 28, 29, 30, 31, 32, 33],
             (suit, arguments) => {
                 let first = first_tile(suit.strip_suffix('s').expect("tiles of a suit"));
@@ -186,15 +187,20 @@ impl Term {
     }
 
     /// A win: `ron (sou 8)`, `southWins byRon (sou 8) (riichi ∷ [])` and the like, or such a win in a
-    /// room with another setting: `inRoom 2 (ron (sou 8))`.
+    /// room with another setting, `inRoom 2 (ron (sou 8))`, or with indicators and ura indicators,
+    /// `showing (man 1 ∷ []) [] (ron (sou 8))`.
     pub fn win(&self) -> Win {
         match self.parts() {
             ("inRoom", [setting, win]) => win.win().in_room(setting.number() as u8),
+            ("showing", [dora, ura, win]) => {
+                let shown = [dora, ura].map(|tiles| Indicators::of(&tiles.tiles()));
+                win.win().showing(shown)
+            }
             _ => self.plain_win(),
         }
     }
 
-    /// A win with setting four.
+    /// A win with setting four and no indicators.
     fn plain_win(&self) -> Win {
         let plain = Term::List(Vec::new());
         let (win_type, tile, round, seat, flags) = match self.parts() {
@@ -363,5 +369,45 @@ mod tests {
         assert_eq!((win.win_type, win.winning_tile), (TSUMO, 13));
         assert_eq!((win.round_wind, win.seat_wind), (EAST, EAST));
         assert!(win.is_riichi);
+    }
+
+    #[test]
+    fn a_row_may_show_indicators() {
+        let text = "scored (hand (mans 222333444 ++ pins 666 ++ sous 88)) [] (showing (man 1 ∷ man 1 ∷ \
+            man 1 ∷ man 1 ∷ man 2 ∷ man 2 ∷ man 2 ∷ man 3 ∷ man 3 ∷ man 3 ∷ []) [] (southWins byTsumo \
+            (pin 6) [])) (Suuankou ∷ []) 13 50 (Yakuman 1) (Tsumo 16000 8000)";
+        let row = Term::of(text);
+        let ("scored", [tiles, calls, win, ..]) = row.parts() else {
+            panic!();
+        };
+        let hand = tiles.hand(calls);
+        assert_eq!(
+            (hand.counts[1], hand.counts[14], hand.counts[25]),
+            (3, 3, 2)
+        );
+        let win = win.win();
+        assert_eq!((win.win_type, win.winning_tile), (TSUMO, 14));
+        assert_eq!(win.dora_indicators.shown(), [0, 0, 0, 0, 1, 1, 1, 2, 2, 2]);
+        assert_eq!(win.ura_dora_indicators, Indicators::default());
+        assert_eq!(Term::of(&row.to_string()), row);
+    }
+
+    #[test]
+    fn indicators_may_be_joined_and_repeated() {
+        let shown = |text| {
+            Term::of(text)
+                .win()
+                .indicators()
+                .map(|sort| sort.shown().to_vec())
+        };
+        let joined = "showing (replicate 4 (man 1) ++ replicate 2 East ++ (pin 9 ∷ [])) (34 ∷ 255 ∷ []) \
+            (inRoom 2 (ron (sou 8)))";
+        assert_eq!(shown(joined), [vec![0, 0, 0, 0, 27, 27, 17], vec![34, 255]]);
+        assert_eq!(Term::of(joined).win().double_wind_fu, 2);
+        let chained = "inRoom 2 (showing (man 1 ∷ replicate 2 (man 2)) (mans 55) (ron (sou 8)))";
+        assert_eq!(shown(chained), [vec![0, 1, 1], vec![4, 4]]);
+        let eleven = Term::of("showing [] (replicate 11 Red) (ron (sou 8))").win();
+        assert_eq!(eleven.ura_dora_indicators.count, 11);
+        assert_eq!(eleven.dora_indicators.count, 0);
     }
 }

@@ -1,5 +1,6 @@
 //! The comparison of scored wins and readings and of named waits, class by class.
 
+use crate::dora_wins;
 use crate::double_winds;
 use crate::every::{hand_of, suit_counts};
 use crate::hand::*;
@@ -23,6 +24,7 @@ pub struct Options {
     pub suit: bool,
     pub orphans: bool,
     pub double_winds: Option<u64>,
+    pub dora: Option<u64>,
 }
 
 /// Compares the classes that are asked for, and answers the number of inputs that differ.
@@ -30,38 +32,43 @@ pub fn compare(options: &Options) -> u64 {
     let seed = options.seed;
     let mut checker = WinChecker::new(seed);
     let mut total = WinTally::default();
+    let mut add = |title: &str, class: &dyn Fn(&mut WinChecker)| {
+        total.add(&run(&mut checker, title, class));
+    };
     if options.suit {
         let title = "every closed hand of one suit, won by each of its tiles, by ron and by tsumo";
-        total.add(&run(&mut checker, title, |checker| {
-            compare_suits(checker, seed)
-        }));
+        add(title, &|checker| compare_suits(checker, seed));
     }
     if options.orphans {
         let title = "every hand of thirteen orphans, won by each of the 34 tiles, in each mixture of \
                      win type, winds and flags";
-        total.add(&run(&mut checker, title, compare_orphans));
+        add(title, &compare_orphans);
     }
     if let Some(wins) = options.random {
         let title = format!("random wins, seed {seed}");
-        total.add(&run(&mut checker, &title, |checker| {
-            compare_random(checker, seed, wins)
-        }));
+        add(&title, &|checker| compare_random(checker, seed, wins));
     }
     if let Some(wins) = options.double_winds {
         let title = format!(
             "wins with a pair that is most often both round and seat wind, with setting four and with \
              two, seed {seed}"
         );
-        total.add(&run(&mut checker, &title, |checker| {
+        add(&title, &|checker| {
             double_winds::compare(checker, seed, wins)
-        }));
+        });
+    }
+    if let Some(wins) = options.dora {
+        let title = format!(
+            "wins with indicators whose dora the hand most often holds, good and bad ones, seed {seed}"
+        );
+        add(&title, &|checker| dora_wins::compare(checker, seed, wins));
     }
     println!("all\n{total}  {}", total.differences());
     total.differ()
 }
 
 /// Compares a class, and prints its tally.
-fn run(checker: &mut WinChecker, title: &str, class: impl FnOnce(&mut WinChecker)) -> WinTally {
+fn run(checker: &mut WinChecker, title: &str, class: &dyn Fn(&mut WinChecker)) -> WinTally {
     println!("{title}");
     let start = Instant::now();
     class(checker);
@@ -71,8 +78,8 @@ fn run(checker: &mut WinChecker, title: &str, class: impl FnOnce(&mut WinChecker
     tally
 }
 
-/// Each hand, winning tile and win type twice: by seat South in the round of East with no flags and
-/// setting four, and in any circumstances.
+/// Each hand, winning tile and win type twice: by seat South in the round of East with no flags, setting
+/// four and no indicators, and in any circumstances.
 fn compare_suits(checker: &mut WinChecker, seed: u64) {
     let mut rng = Rng::new(!seed);
     let numbers = suit_counts(14);
@@ -95,7 +102,8 @@ fn compare_suits(checker: &mut WinChecker, seed: u64) {
     }
 }
 
-/// A tile that is not among the thirteen is refused, and compared too. The setting is four.
+/// A tile that is not among the thirteen is refused, and compared too. The setting is four, and there are
+/// no indicators.
 fn compare_orphans(checker: &mut WinChecker) {
     for hand in random::ORPHANS.map(random::orphans_with) {
         let expected = ExpectedHand::of(&hand);

@@ -29,7 +29,7 @@ pub fn compare(seed: u64, wins: u64) -> u64 {
         hands += 1;
         for tile in wins::winning_tiles(&mut rng, &hand) {
             if left > 0 {
-                let win = wins::win(&mut rng, &hand, tile);
+                let win = wins::win(&mut rng, &hand, tile).with_noise(&mut rng);
                 check(&read, &win, &mut tally);
                 by_readings[read.readings.len() - 1] += 1;
                 left -= 1;

@@ -63,6 +63,9 @@ pub struct Settled {
     /// In the order of `Yaku::ALL`.
     pub yaku: Vec<Yaku>,
     pub is_yakuman: bool,
+    /// Dora and ura dora.
+    pub dora: [u8; 2],
+    /// With the dora, but for a yakuman.
     pub han: u8,
     pub fu: u8,
     pub level: ScoreLevel,
@@ -141,6 +144,9 @@ fn corners(win: &TableWin, agari: &Ranked) -> Vec<(&'static str, bool)> {
             "with setting two",
             win.setting == TWO && has_double_pair(win),
         ),
+        ("dora", is_best(|best| best.dora[0] > 0)),
+        ("ura dora", is_best(|best| best.dora[1] > 0)),
+        ("ura indicators without riichi", has_hidden_ura(win)),
         ("yakuman by yaku", is_best(|best| best.is_yakuman)),
         ("yakuman several times", is_best(is_several_yakuman)),
         ("yakuman by 13 or more han", is_best(is_counted_yakuman)),
@@ -175,6 +181,11 @@ fn has_double_wind(best: &Settled) -> bool {
 fn has_double_pair(win: &TableWin) -> bool {
     let [round, seat] = [win.context.round_wind, win.context.seat_wind];
     round == seat && win.counts.get(&Tile::honor(round)) == Some(&2)
+}
+
+/// Whether there are ura indicators that do not count.
+fn has_hidden_ura(win: &TableWin) -> bool {
+    !win.context.ura_dora_indicators.is_empty() && !win.context.is_riichi
 }
 
 fn is_several_yakuman(best: &Settled) -> bool {

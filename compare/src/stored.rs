@@ -110,7 +110,8 @@ pub fn put_hand(record: &mut [u8], hand: &Hand) {
     }
 }
 
-/// Writes a win into 13 bytes: its type, the winning tile, the winds, the flags and the setting.
+/// Writes a win into 35 bytes: its type, the winning tile, the winds, the flags, the setting, and of each
+/// sort of indicators the count and ten tiles.
 pub fn put_win(record: &mut [u8], win: &Win) {
     record[0] = win.win_type;
     record[1] = win.winning_tile;
@@ -118,10 +119,36 @@ pub fn put_win(record: &mut [u8], win: &Win) {
     record[3] = win.seat_wind;
     record[4..12].copy_from_slice(&win.flags().map(u8::from));
     record[12] = win.double_wind_fu;
+    for (place, sort) in win.indicators().iter().enumerate() {
+        let start = 13 + 11 * place;
+        record[start] = sort.count;
+        record[start + 1..start + 11].copy_from_slice(&sort.tiles);
+    }
 }
 
 /// Writes a number into two bytes, the lower one first.
 pub fn put_u16(record: &mut [u8], at: usize, value: usize) {
     let value = u16::try_from(value).expect("the number fits in its two bytes");
     record[at..at + 2].copy_from_slice(&value.to_le_bytes());
+}
+
+#[cfg(test)]
+mod tests {
+    use super::*;
+    use crate::library::{Indicators, TSUMO};
+
+    #[test]
+    fn a_win_is_written_field_by_field() {
+        let shown = [Indicators::of(&[1, 2]), Indicators::of(&[3; 12])];
+        let win = Win {
+            is_chiihou: true,
+            ..Win::new(TSUMO, 5, 27, 28).showing(shown)
+        };
+        let mut record = [0; 35];
+        put_win(&mut record, &win);
+        let start = [1, 5, 27, 28, 0, 0, 0, 0, 0, 0, 0, 1, 4];
+        assert_eq!(record[..13], start);
+        assert_eq!(record[13..24], [2, 1, 2, 0, 0, 0, 0, 0, 0, 0, 0]);
+        assert_eq!(record[24..], [12, 3, 3, 3, 3, 3, 3, 3, 3, 3, 3]);
+    }
 }

@@ -1,6 +1,6 @@
 //! The comparison of random wins with the same wins renamed.
 
-use crate::agreement::{ANSWERS, Outcome, PARTS, Twins};
+use crate::agreement::{ANSWERS, BAD, Class, Outcome, PARTS, Twins};
 use crate::checker::SUFFICES;
 use crate::faults::{listed, listed_from};
 use crate::hand::Hand;
@@ -9,15 +9,25 @@ use crate::renaming::Renaming;
 use crate::rng::Rng;
 use crate::scored_wins::random_wins;
 use crate::win_oracle::ExpectedWin;
-use crate::win_tally::{SETTING_NAMES, counted, setting};
+use crate::win_tally::{SETTING_NAMES, count_each, counted, setting};
 use std::fmt;
 use std::time::Instant;
 
 /// How many differences are printed.
 const PRINTED: u64 = 5;
 
+/// The classes of pairs.
+const CLASSES: [&str; Class::ALL] = [
+    "no indicators",
+    "indicators, exchange of suits",
+    "indicators, other renaming",
+    "refused with 14",
+];
+/// What another renaming than an exchange of suits does.
+const OTHERS: [&str; 3] = ["mirror", "dragons exchanged", "both"];
+
 /// Compares so many random wins, each with one of the renamings by turns, and answers the number of
-/// pairs that differ.
+/// pairs that differ in what is promised.
 pub fn compare(seed: u64, wins: u64) -> u64 {
     println!("random wins and the same wins renamed, seed {seed}");
     let start = Instant::now();
@@ -55,29 +65,45 @@ impl TwinChecker {
         }
     }
 
-    /// Compares a win that passes the checks with its renamed one.
+    /// Compares a win that passes the checks, or is refused with 14, with its renamed one. Where it has
+    /// indicators and the renaming does more than exchange suits, the exchange alone is tried too.
     fn check(&mut self, hand: &Hand, win: &Win) {
         let number = (self.tally.wins % Renaming::ALL as u64) as usize;
         self.tally.wins += 1;
-        if ExpectedWin::of(hand, win).faults.contains(&true) {
+        let expected = ExpectedWin::of(hand, win);
+        let is_damaged = expected.faults.contains(&true);
+        if is_damaged && expected.score_win().number != BAD {
             self.tally.damaged += 1;
             return;
         }
-        let twins = Twins::new(&mut self.rng, hand, win, Renaming::numbered(number));
-        let outcome = twins.outcome(&mut self.rng, &self.old);
-        if let Some(unit) = twins.are_green().iter().position(|&green| green) {
-            self.tally.count_green(unit, &outcome);
-            return;
+        let class = self.check_pair(hand, win, number);
+        if class == Class::Others {
+            self.check_pair(hand, win, Renaming::suits_alone(number));
         }
-        self.tally.count(number, win, &outcome);
-        if outcome.differ.contains(&true) && self.tally.differ <= PRINTED {
+    }
+
+    /// Compares a win with its renamed one by the renaming of this number, and answers their class.
+    fn check_pair(&mut self, hand: &Hand, win: &Win, number: usize) -> Class {
+        let twins = Twins::new(&mut self.rng, hand, win, Renaming::numbered(number));
+        let class = twins.class;
+        let outcome = twins.outcome(&mut self.rng, &self.old);
+        let green = twins.are_green().iter().position(|&green| green);
+        match green {
+            Some(unit) if class != Class::Bad => {
+                self.tally.count_green(unit, &outcome);
+                return class;
+            }
+            _ => self.tally.count(number, &twins, &outcome),
+        }
+        if outcome.broken(class).contains(&true) && self.tally.differ <= PRINTED {
             print(&twins, &outcome);
         }
+        class
     }
 }
 
 fn print(twins: &Twins, outcome: &Outcome) {
-    let parts = PARTS.iter().zip(outcome.differ);
+    let parts = PARTS.iter().zip(outcome.broken(twins.class));
     let differing: Vec<&str> = parts.filter(|part| part.1).map(|part| *part.0).collect();
     println!("DIFFERS: {}, {:?}", differing.join(", "), twins.renaming);
     for unit in 0..2 {
@@ -91,13 +117,14 @@ fn print(twins: &Twins, outcome: &Outcome) {
 #[derive(Default)]
 struct TwinTally {
     wins: u64,
-    /// Wins that are refused with 1 to 6, 8 or 9, which are not renamed.
+    /// Wins that are refused with 1 to 6, 8 or 9, of which nothing is promised.
     damaged: u64,
     /// Pairs whose first hand is all green, and those whose second alone is.
     green: [u64; 2],
     /// Those of them that differ.
     green_differ: [u64; 2],
-    /// The other pairs by renaming, and by readings, five or more together.
+    /// The other pairs by class, by renaming, and by readings, five or more together.
+    classes: [u64; Class::ALL],
     renamings: [u64; Renaming::ALL],
     readings: [u64; 6],
     /// The same by setting, which both wins share, and by the answer to the first scored win.
@@ -105,7 +132,11 @@ struct TwinTally {
     answers: [u64; ANSWERS.len()],
     /// Those whose records did not fit into the shorter buffer.
     too_short: u64,
-    /// Those that differ, all together and part by part.
+    /// Those with indicators by what another renaming does, and of these those whose scores differ, which
+    /// is not promised otherwise.
+    others: [u64; OTHERS.len()],
+    others_differ: [u64; OTHERS.len()],
+    /// Those that differ in what is promised, all together and part by part.
     differ: u64,
     parts: [u64; PARTS.len()],
 }
@@ -116,19 +147,33 @@ impl TwinTally {
         self.green_differ[unit] += u64::from(outcome.differ.contains(&true));
     }
 
-    fn count(&mut self, renaming: usize, win: &Win, outcome: &Outcome) {
+    fn count(&mut self, renaming: usize, twins: &Twins, outcome: &Outcome) {
+        self.classes[twins.class as usize] += 1;
         self.renamings[renaming] += 1;
-        self.settings[setting(win)] += 1;
+        self.settings[setting(&twins.wins[0])] += 1;
         self.readings[outcome.readings.min(5)] += 1;
         let number = outcome.scores[0].number as usize;
         if let Some(place) = ANSWERS.iter().position(|&answer| answer == number) {
             self.answers[place] += 1;
         }
         self.too_short += u64::from(outcome.is_too_short);
-        self.differ += u64::from(outcome.differ.contains(&true));
-        for (count, differs) in self.parts.iter_mut().zip(outcome.differ) {
-            *count += u64::from(differs);
+        if twins.class == Class::Others {
+            self.count_other(twins, outcome);
         }
+        let broken = outcome.broken(twins.class);
+        self.differ += u64::from(broken.contains(&true));
+        count_each(&mut self.parts, broken);
+    }
+
+    /// Counts a pair with indicators whose renaming does more than exchange suits.
+    fn count_other(&mut self, twins: &Twins, outcome: &Outcome) {
+        let place = match twins.renaming.others() {
+            [true, true] => 2,
+            [false, _] => 1,
+            [true, false] => 0,
+        };
+        self.others[place] += 1;
+        self.others_differ[place] += u64::from(outcome.differ.contains(&true));
     }
 }
 
@@ -151,11 +196,42 @@ impl fmt::Display for TwinTally {
         writeln!(f, "of which differ: {second_differ}")?;
         write!(f, "  renamings: {occurred} of {}, ", Renaming::ALL)?;
         writeln!(f, "the rarest in {rarest} pairs")?;
-        writeln!(f, "  pairs by readings: {readings}")?;
+        let classes = counted(&CLASSES, &self.classes);
+        writeln!(f, "  pairs: {classes}")?;
+        writeln!(f, "    by readings: {readings}")?;
         let settings = counted(&SETTING_NAMES, &self.settings);
         writeln!(f, "    by setting: {settings}")?;
         writeln!(f, "    by answer to the scored wins: {answers}")?;
         writeln!(f, "    refused alike with 7: {}", self.too_short)?;
+        let others = counted(&OTHERS, &self.others);
+        let others_differ = counted(&OTHERS, &self.others_differ);
+        writeln!(f, "  indicators, other renaming: {others}")?;
+        writeln!(
+            f,
+            "    of which scores differ, as they may: {others_differ}"
+        )?;
         writeln!(f, "  differ: {} ({parts})", self.differ)
+    }
+}
+
+#[cfg(test)]
+mod tests {
+    use super::*;
+
+    #[test]
+    fn pairs_of_every_class_are_compared_and_none_differs() {
+        let mut rng = Rng::new(3);
+        let mut checker = TwinChecker::new(3);
+        for _ in 0..4000 {
+            let (hand, wins) = random_wins(&mut rng, 1);
+            checker.check(&hand, &wins[0]);
+        }
+        let tally = checker.tally;
+        assert_eq!(tally.differ, 0, "{tally}");
+        assert!(tally.classes.iter().all(|&pairs| pairs > 20), "{tally}");
+        assert!(
+            tally.others_differ.iter().all(|&pairs| pairs > 2),
+            "{tally}"
+        );
     }
 }

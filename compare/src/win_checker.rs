@@ -24,6 +24,11 @@ impl WinChecker {
         }
     }
 
+    /// The number of wins that were compared since the tally was last taken.
+    pub fn wins(&self) -> u64 {
+        self.tally.wins()
+    }
+
     /// The tally since it was last taken.
     pub fn take_tally(&mut self) -> WinTally {
         std::mem::take(&mut self.tally)
@@ -32,9 +37,10 @@ impl WinChecker {
     /// Compares the score of a win, and of every reading its score and its waits. Readings that are
     /// not there are asked for too: the one past the last, and one far behind.
     pub fn check(&mut self, hand: &Hand, win: &Win, expected: &ExpectedWin) {
-        self.tally.count_win(hand, win, expected);
         let given = hand.with_noise(&mut self.rng);
+        let win = &win.with_noise(&mut self.rng);
         let (counts, calls) = (given.counts(), given.calls);
+        self.tally.count_win(hand, win, expected);
         let want = expected.score_win();
         self.tally.count_answer(Operation::ScoreWin, want.number);
         let got = library::score_win(counts, calls, *win);

@@ -7,7 +7,7 @@ use crate::hand::Hand;
 use crate::library::{Score, WAITS, Waits, Win, YAKU};
 
 /// The refusals of a win that do not depend on its readings, in their order.
-pub const CHECKS: [usize; FAULTS + 2] = [1, 2, 3, 4, 5, 6, 8, 9];
+pub const CHECKS: [usize; FAULTS + 3] = [1, 2, 3, 4, 5, 6, 8, 14, 9];
 
 // The refusals that do.
 const NO_READING: u32 = 10;
@@ -34,8 +34,8 @@ impl ExpectedHand {
     /// What is expected for the hand, won so.
     pub fn won(&self, hand: &Hand, win: &Win) -> ExpectedWin {
         let [one, two, three, four, five, six] = self.faults;
-        let [range, tile] = win_faults(hand, win);
-        let faults = [one, two, three, four, five, six, range, tile];
+        let [range, indicators, tile] = win_faults(hand, win);
+        let faults = [one, two, three, four, five, six, range, indicators, tile];
         let read = self.read.as_ref().filter(|_| !faults.contains(&true));
         ExpectedWin {
             faults,
@@ -137,6 +137,8 @@ fn refused(number: u32) -> Score {
         is_yakuman: 0,
         level: 0,
         yakuman_count: 0,
+        regular_dora: 0,
+        ura_dora: 0,
         basic_points: 0,
         from_non_dealer: 0,
         from_dealer: 0,
@@ -149,7 +151,7 @@ fn refused(number: u32) -> Score {
 mod tests {
     use super::*;
     use crate::hand::*;
-    use crate::library::{Meld, RON, SETTINGS, TSUMO};
+    use crate::library::{Indicators, MOST_INDICATORS, Meld, RON, SETTINGS, TSUMO};
 
     const MAN_1: u8 = 0;
     const MAN_4: u8 = 3;
@@ -222,6 +224,110 @@ mod tests {
         }
         let no_reading = ExpectedWin::of(&Hand::written("12345m456p234678s"), &ron(SOU_8));
         assert_eq!(no_reading.score_reading(0).number, 12);
+    }
+
+    /// Indicators and ura indicators.
+    fn shown(dora: &[u8], ura: &[u8]) -> [Indicators; 2] {
+        [dora, ura].map(Indicators::of)
+    }
+
+    #[test]
+    fn indicators_are_checked_after_8_and_before_9() {
+        let hand = Hand::written("12355m456p234678s");
+        let short = Hand::written("1235m456p234678s");
+        let no_reading = Hand::written("12345m456p234678s");
+        for bad in [shown(&[34], &[]), shown(&[], &[0; 11])] {
+            let [good, absent, far] = [SOU_8, EAST, 34].map(|tile| ron(tile).showing(bad));
+            let type_2 = Win {
+                win_type: 2,
+                ..absent
+            };
+            let cases = [
+                (&short, type_2, 6),
+                (&hand, type_2, 8),
+                (&hand, absent.in_room(3), 8),
+                (&hand, absent, 14),
+                (&hand, far, 14),
+                (&hand, good, 14),
+                (&no_reading, good, 14),
+            ];
+            for (hand, win, number) in cases {
+                let expected = ExpectedWin::of(hand, &win);
+                assert_eq!(expected.score_win(), refused(number), "{hand}, {win:?}");
+                assert_eq!(expected.score_reading(7), refused(number));
+                assert_eq!(expected.name_waits(0).number, number);
+            }
+        }
+    }
+
+    #[test]
+    fn what_stands_behind_the_count_is_not_read() {
+        let hand = Hand::written("12355m456p234678s");
+        for count in 0..=u8::MAX {
+            for above in 0..MOST_INDICATORS {
+                let mut sort = Indicators {
+                    count,
+                    tiles: [EAST; MOST_INDICATORS],
+                };
+                let number = |sort| {
+                    let both = [[sort, Indicators::default()], [Indicators::default(), sort]];
+                    both.map(|shown| answer(&hand, &ron(SOU_8).showing(shown)).0)
+                };
+                let is_many = count > 10;
+                assert_eq!(number(sort), [if is_many { 14 } else { 0 }; 2]);
+                sort.tiles[above] = 34;
+                let is_bad = is_many || above < usize::from(count);
+                assert_eq!(number(sort), [if is_bad { 14 } else { 0 }; 2]);
+            }
+        }
+    }
+
+    #[test]
+    fn dora_are_added_to_the_han_and_ura_with_riichi_alone() {
+        let mut hand = Hand::written("55m456p222678s");
+        hand.call(Meld::new(EAST, CLOSED_KAN));
+        let won = |is_riichi, is_double_riichi, dora: &[u8], ura: &[u8]| {
+            let win = Win {
+                is_riichi,
+                is_double_riichi,
+                ..Win::new(TSUMO, PIN_5, EAST, SOUTH)
+            };
+            let win = win.showing(shown(dora, ura));
+            let score = ExpectedWin::of(&hand, &win).score_win();
+            (score.han, score.regular_dora, score.ura_dora)
+        };
+        // Menzen tsumo and the round wind; North shows East, four of them in the kan.
+        let (north, sou_1, man_4) = (30, 18, 3);
+        assert_eq!(won(false, false, &[], &[]), (2, 0, 0));
+        assert_eq!(won(false, false, &[north], &[]), (6, 4, 0));
+        assert_eq!(won(false, false, &[north, north, sou_1], &[]), (13, 11, 0));
+        assert_eq!(won(false, false, &[man_4], &[north]), (4, 2, 0));
+        assert_eq!(won(false, true, &[man_4], &[north]), (4, 2, 0));
+        assert_eq!(won(true, false, &[man_4], &[north]), (9, 2, 4));
+        assert_eq!(won(true, true, &[man_4], &[north]), (10, 2, 4));
+    }
+
+    #[test]
+    fn a_yakuman_counts_its_dora_and_its_han_does_not() {
+        let orphans = Hand::written("19m19p19s12345677z");
+        // Green shows Red, two of them; White shows Green.
+        let win = ron(33).showing(shown(&[32, 32, 31], &[32]));
+        let score = ExpectedWin::of(&orphans, &win).score_win();
+        assert_eq!((score.han, score.total), (26, 64_000));
+        assert_eq!((score.regular_dora, score.ura_dora), (5, 0));
+    }
+
+    #[test]
+    fn dora_make_no_yaku_and_may_price_as_a_yakuman() {
+        let mut open = Hand::written("55m456p234678s");
+        open.call(Meld::new(0, OPEN_SEQUENCE));
+        let win = ron(SOU_8).showing(shown(&[3; 7], &[3; 3]));
+        let expected = ExpectedWin::of(&open, &win);
+        assert_eq!(expected.score_win(), refused(11));
+        let reading = expected.score_reading(0);
+        assert_eq!((reading.han, reading.fu, reading.total), (14, 30, 32_000));
+        assert_eq!((reading.level, reading.yakuman_count), (5, 1));
+        assert_eq!((reading.is_yakuman, reading.regular_dora), (0, 14));
     }
 
     /// Fu and total of a win with setting four, and with two.

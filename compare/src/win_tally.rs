@@ -1,10 +1,10 @@
 //! Counts of the wins that were compared, by the expected answers.
 
 use crate::agari_scores::{WAIT_ENTRIES, YAKU_ENTRIES};
-use crate::differences::out_of_range;
+use crate::differences::{bad_indicators, out_of_range};
 use crate::faults::{FaultTally, add_each, listed_from};
 use crate::hand::{Hand, KINDS};
-use crate::library::{MIXTURES, SETTINGS, Score, TSUMO, TWO, WAITS, Waits, Win};
+use crate::library::{Indicators, MIXTURES, SETTINGS, Score, TSUMO, TWO, WAITS, Waits, Win};
 use crate::score_tally::named;
 use crate::win_oracle::{CHECKS, ExpectedWin};
 use agari_core::wait::WaitType;
@@ -13,8 +13,8 @@ use std::fmt;
 
 const OPERATIONS: [&str; 3] = ["score_win", "score_reading", "name_waits"];
 const EAST: u8 = 27;
-/// The answers 0 to 12.
-const ANSWERS: usize = 13;
+/// The answers 0 to 14.
+const ANSWERS: usize = 15;
 pub const LEVELS: [&str; 6] = [
     "Normal",
     "Mangan",
@@ -37,6 +37,15 @@ const ORPHANS: [&str; 3] = [
 ];
 const RANGES: [&str; 4] = ["win type", "round wind", "seat wind", "setting"];
 const ABSENCES: [&str; 3] = ["above 33", "in a call alone", "nowhere"];
+/// Which indicators a win has.
+pub const INDICATORS: [&str; 4] = ["none", "shown alone", "ura alone", "both"];
+/// What is wrong with them.
+pub const BAD_INDICATORS: [&str; 4] = [
+    "more than ten",
+    "one above 33",
+    "more than ten ura",
+    "an ura above 33",
+];
 
 /// An operation of the library.
 #[derive(Clone, Copy)]
@@ -60,16 +69,20 @@ pub struct WinTally {
     answers: [[u64; ANSWERS]; OPERATIONS.len()],
     differ: [u64; OPERATIONS.len()],
     faults: FaultTally<{ CHECKS.len() }>,
-    /// Wins that are refused with 8, by what is out of range, and with 9, by where the tile is.
+    /// Wins that are refused with 8, by what is out of range, with 14, by what is wrong with the
+    /// indicators, and with 9, by where the tile is.
     out_of_range: [u64; RANGES.len()],
+    bad_indicators: [u64; BAD_INDICATORS.len()],
     absent: [u64; ABSENCES.len()],
     /// Wins that pass the checks, by readings, five or more together, and by number of calls.
     readings: [u64; 6],
     calls: [u64; 5],
     /// Whether each mixture of win type, winds and flags occurred in them.
     mixtures: Vec<bool>,
-    /// Those wins by setting.
+    /// Those wins by setting, by indicators, and with a byte above 33 behind a count of them.
     settings: [u64; SETTINGS.len()],
+    indicators: [u64; INDICATORS.len()],
+    above_behind: u64,
     /// Their readings as thirteen orphans, by wait and yaku.
     orphans: [u64; ORPHANS.len()],
     /// Scored wins whose chosen reading has a pair that is both round and seat wind, by setting.
@@ -90,11 +103,14 @@ impl Default for WinTally {
             differ: [0; OPERATIONS.len()],
             faults: FaultTally::new("wins", CHECKS),
             out_of_range: [0; RANGES.len()],
+            bad_indicators: [0; BAD_INDICATORS.len()],
             absent: [0; ABSENCES.len()],
             readings: [0; 6],
             calls: [0; 5],
             mixtures: vec![false; MIXTURES],
             settings: [0; SETTINGS.len()],
+            indicators: [0; INDICATORS.len()],
+            above_behind: 0,
             orphans: [0; ORPHANS.len()],
             double_winds: [0; SETTINGS.len()],
             levels: [0; LEVELS.len()],
@@ -106,6 +122,11 @@ impl Default for WinTally {
 }
 
 impl WinTally {
+    /// The number of wins.
+    pub fn wins(&self) -> u64 {
+        self.wins
+    }
+
     /// The number of inputs on which the sides differ.
     pub fn differ(&self) -> u64 {
         self.differ.iter().sum()
@@ -130,7 +151,8 @@ impl WinTally {
         self.wins += 1;
         self.faults.count(&expected.faults);
         match expected.score_win().number {
-            8 => self.count_out_of_range(win),
+            8 => count_each(&mut self.out_of_range, out_of_range(win)),
+            14 => count_each(&mut self.bad_indicators, bad_indicators(win)),
             9 => self.count_absent(hand, win),
             _ => {}
         }
@@ -141,6 +163,8 @@ impl WinTally {
         self.calls[hand.calls.count] += 1;
         self.mixtures[win.mixture()] = true;
         self.settings[setting(win)] += 1;
+        self.indicators[indicators(win)] += 1;
+        self.above_behind += u64::from(is_above_behind(win));
         for (score, waits) in expected.scores.iter().zip(&expected.waits) {
             if let Some(named) = orphans_named(score, waits) {
                 self.orphans[named] += 1;
@@ -153,13 +177,6 @@ impl WinTally {
         }
         if let Some(rule) = expected.deciding_rule() {
             self.rules[rule] += 1;
-        }
-    }
-
-    fn count_out_of_range(&mut self, win: &Win) {
-        let counts = self.out_of_range.iter_mut();
-        for (count, is_out) in counts.zip(out_of_range(win)) {
-            *count += u64::from(is_out);
         }
     }
 
@@ -189,6 +206,7 @@ impl WinTally {
         add_each(&mut self.differ, &other.differ);
         self.faults.add(&other.faults);
         add_each(&mut self.out_of_range, &other.out_of_range);
+        add_each(&mut self.bad_indicators, &other.bad_indicators);
         add_each(&mut self.absent, &other.absent);
         add_each(&mut self.readings, &other.readings);
         add_each(&mut self.calls, &other.calls);
@@ -196,6 +214,8 @@ impl WinTally {
             *mine |= other;
         }
         add_each(&mut self.settings, &other.settings);
+        add_each(&mut self.indicators, &other.indicators);
+        self.above_behind += other.above_behind;
         add_each(&mut self.orphans, &other.orphans);
         add_each(&mut self.double_winds, &other.double_winds);
         add_each(&mut self.levels, &other.levels);
@@ -229,10 +249,65 @@ pub fn setting(win: &Win) -> usize {
     usize::from(win.double_wind_fu == TWO)
 }
 
+/// The place of a win's indicators among their names.
+pub fn indicators(win: &Win) -> usize {
+    let [dora, ura] = win.indicators().map(|sort| usize::from(sort.count > 0));
+    dora + 2 * ura
+}
+
+/// Whether a byte that is no tile stands behind a count of indicators, where it is not read.
+fn is_above_behind(win: &Win) -> bool {
+    let is_above = |sort: &Indicators| sort.behind().iter().any(|&tile| tile >= KINDS as u8);
+    win.indicators().iter().any(is_above)
+}
+
+/// Counts what is so, place by place.
+pub fn count_each<const N: usize>(counts: &mut [u64; N], are_so: [bool; N]) {
+    for (count, is_so) in counts.iter_mut().zip(are_so) {
+        *count += u64::from(is_so);
+    }
+}
+
 /// The place of a win's settlement among their names.
 pub fn settlement(win: &Win) -> usize {
     let is_dealer = win.seat_wind == EAST;
     2 * usize::from(win.win_type == TSUMO) + usize::from(is_dealer)
+}
+
+impl WinTally {
+    /// Writes the counts of the wins that pass the checks.
+    fn fmt_passed(&self, f: &mut fmt::Formatter) -> fmt::Result {
+        let readings = listed_from(0, &self.readings);
+        let calls = listed_from(0, &self.calls);
+        let seen = self.mixtures.iter().filter(|&&seen| seen).count();
+        let settings = counted(&SETTING_NAMES, &self.settings);
+        let indicators = counted(&INDICATORS, &self.indicators);
+        let above = self.above_behind;
+        let orphans = counted(&ORPHANS, &self.orphans);
+        writeln!(f, "  wins that pass the checks, by readings: {readings}")?;
+        writeln!(f, "    by calls: {calls}")?;
+        write!(f, "    mixtures of win type, winds and flags: ")?;
+        writeln!(f, "{seen} of {MIXTURES}")?;
+        writeln!(f, "    by setting: {settings}")?;
+        writeln!(f, "    by indicators: {indicators}")?;
+        write!(f, "    with a byte above 33 behind a count of indicators: ")?;
+        writeln!(f, "{above}")?;
+        writeln!(f, "    readings as thirteen orphans: {orphans}")
+    }
+
+    /// Writes the counts of the wins that are scored.
+    fn fmt_scored(&self, f: &mut fmt::Formatter) -> fmt::Result {
+        let levels = counted(&LEVELS, &self.levels);
+        let settlements = counted(&SETTLEMENTS, &self.settlements);
+        let rules = counted(&RULES, &self.rules);
+        let double_winds = counted(&SETTING_NAMES, &self.double_winds);
+        writeln!(f, "  scored wins by level: {levels}")?;
+        writeln!(f, "    by settlement: {settlements}")?;
+        writeln!(f, "    told from the next reading by: {rules}")?;
+        writeln!(f, "    not the first reading: {}", self.not_first)?;
+        write!(f, "    with a pair that is both round and seat wind: ")?;
+        writeln!(f, "{double_winds}")
+    }
 }
 
 impl fmt::Display for WinTally {
@@ -243,38 +318,12 @@ impl fmt::Display for WinTally {
             writeln!(f, "  {operation}: inputs {inputs}")?;
             writeln!(f, "    by answer: {}", listed_from(0, answers))?;
         }
-        let readings = listed_from(0, &self.readings);
-        let seen = self.mixtures.iter().filter(|&&seen| seen).count();
-        writeln!(f, "  wins that pass the checks, by readings: {readings}")?;
-        writeln!(f, "    by calls: {}", listed_from(0, &self.calls))?;
-        writeln!(
-            f,
-            "    mixtures of win type, winds and flags: {seen} of {MIXTURES}"
-        )?;
-        let settings = counted(&SETTING_NAMES, &self.settings);
-        writeln!(f, "    by setting: {settings}")?;
-        let orphans = counted(&ORPHANS, &self.orphans);
-        writeln!(f, "    readings as thirteen orphans: {orphans}")?;
-        let levels = counted(&LEVELS, &self.levels);
-        writeln!(f, "  scored wins by level: {levels}")?;
-        writeln!(
-            f,
-            "    by settlement: {}",
-            counted(&SETTLEMENTS, &self.settlements)
-        )?;
-        writeln!(
-            f,
-            "    told from the next reading by: {}",
-            counted(&RULES, &self.rules)
-        )?;
-        writeln!(f, "    not the first reading: {}", self.not_first)?;
-        let double_winds = counted(&SETTING_NAMES, &self.double_winds);
-        writeln!(
-            f,
-            "    with a pair that is both round and seat wind: {double_winds}"
-        )?;
+        self.fmt_passed(f)?;
+        self.fmt_scored(f)?;
         let ranges = counted(&RANGES, &self.out_of_range);
         writeln!(f, "  refused with 8, out of range: {ranges}")?;
+        let bad = counted(&BAD_INDICATORS, &self.bad_indicators);
+        writeln!(f, "  refused with 14, indicators: {bad}")?;
         let absences = counted(&ABSENCES, &self.absent);
         writeln!(f, "  refused with 9, winning tile: {absences}")?;
         write!(f, "{}", self.faults)
@@ -298,6 +347,7 @@ impl fmt::Display for Score {
         write!(f, "yaku [{yaku}], han {}, fu {}, ", self.han, self.fu)?;
         write!(f, "yakuman {}, level {} ", self.is_yakuman, self.level)?;
         write!(f, "count {}, ", self.yakuman_count)?;
+        write!(f, "dora {} and ura {}, ", self.regular_dora, self.ura_dora)?;
         write!(f, "basic points {}, ", self.basic_points)?;
         write!(f, "settlement {}, ", self.settlement)?;
         write!(f, "from non-dealer {}, ", self.from_non_dealer)?;

@@ -2,6 +2,7 @@
 //! circumstances.
 
 use crate::hand::*;
+use crate::indicators;
 use crate::library::{Meld, RON, SETTINGS, TSUMO, Win};
 use crate::random::{self, ORPHANS, Pool, Style, add_meld, at_most_four};
 use crate::rng::Rng;
@@ -251,6 +252,29 @@ fn neighbours(rng: &mut Rng) -> Shape {
     completed(rng, melds, pool, 60)
 }
 
+/// Three neighbouring triplets and a fourth, nothing called but that one as a closed kan now and then:
+/// four concealed triplets, or three equal sequences beside one.
+pub fn concealed(rng: &mut Rng) -> Hand {
+    let suit = rng.below(3);
+    let pool = rng.pick(&[Pool::suit(suit), Pool::all()]);
+    loop {
+        let first = Pool::suit(suit).start(rng);
+        let mut hand = Hand::empty();
+        for tile in first..first + 3 {
+            add_meld(&mut hand, triplet(tile));
+        }
+        let fourth = pool.tile(rng);
+        match rng.percent(15) {
+            true => hand.call(Meld::new(fourth, CLOSED_KAN)),
+            false => add_meld(&mut hand, triplet(fourth)),
+        }
+        hand.counts[usize::from(pool.tile(rng))] += 2;
+        if at_most_four(&hand) {
+            return hand;
+        }
+    }
+}
+
 /// The hand of a shape: nothing called, closed kans alone, or any melds called.
 fn laid_out(rng: &mut Rng, shape: &Shape) -> Hand {
     let style = rng.share(&[45, 20, 35]);
@@ -293,11 +317,12 @@ pub fn held_tiles(hand: &Hand) -> Vec<u8> {
         .collect()
 }
 
-/// A win by this tile in any circumstances and with either setting.
+/// A win by this tile in any circumstances, with either setting and any indicators.
 pub fn win(rng: &mut Rng, hand: &Hand, winning_tile: u8) -> Win {
     // The chance of each flag in percent, of tenhou and chiihou apart: they hide all other yaku of
     // a closed hand.
     let (share, first_draw) = rng.pick(&[(0, 0), (50, 50), (30, 2)]);
+    let [dora_indicators, ura_dora_indicators] = indicators::any(rng, hand);
     Win {
         win_type: rng.pick(&[RON, TSUMO]),
         winning_tile,
@@ -312,6 +337,8 @@ pub fn win(rng: &mut Rng, hand: &Hand, winning_tile: u8) -> Win {
         is_tenhou: rng.percent(first_draw),
         is_chiihou: rng.percent(first_draw),
         double_wind_fu: rng.pick(&SETTINGS),
+        dora_indicators,
+        ura_dora_indicators,
     }
 }
 

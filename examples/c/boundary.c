@@ -1,8 +1,8 @@
 /* Calls every function of the library on random inputs, damaged ones among them, and holds each
-   answer to what can be said of it without scoring: the refusals, the bytes, the choice among the
-   readings, what the room's setting changes. Whatever is lent is allocated at exactly its size, so
-   that valgrind sees every read or write outside of it. Before them, one hand under every setting.
-   In the root:
+   answer to what can be said of it without scoring: the refusals, the bytes, the dora, the choice
+   among the readings, what the room's setting and the indicators change. Whatever is lent is
+   allocated at exactly its size, so that valgrind sees every read or write outside of it. Before
+   them, single hands: one under every setting, and some with dora. In the root:
 
      cc -std=c99 -O1 -g -Iinclude examples/c/boundary.c target/staticlib/libziwhakemo.a \
          -o target/boundary
@@ -11,13 +11,15 @@
 
    The first argument is the number of inputs, the second the seed (1 without it). An input is a
    hand, its calls, a win, a number of a reading, a number of bytes to lend, han, fu and basic points;
-   each is given to all functions. It exits with status 1 where an answer is wrong. */
+   each is given to all functions. It exits with status 1 where an answer is wrong, and where of
+   10,000 inputs or more none was refused with a number that a function has. */
 #include "ziwhakemo.h"
 #include <stdio.h>
 #include <stdlib.h>
 #include <string.h>
 
-enum { MOST_COUNTS = 40, MOST_CALLS = 6, MOST_BYTES = 120, GUARD = 64, NUMBERS = 14, MANY = 5 };
+enum { MOST_COUNTS = 40, MOST_CALLS = 6, MOST_BYTES = 120, GUARD = 64 };
+enum { NUMBERS = 15, MANY = 5, ENOUGH = 10000 };
 
 /* ---- Random numbers (splitmix64) ---- */
 
@@ -75,27 +77,34 @@ static bool is_call(ziwhakemo_meld meld) {
     }
 }
 
+/* How many of a tile a call holds. */
+static unsigned called(ziwhakemo_meld meld, unsigned tile) {
+    if (meld.kind == ZIWHAKEMO_MELD_OPEN_SEQUENCE)
+        return tile >= meld.tile && tile < meld.tile + 3u ? 1 : 0;
+    if (tile != meld.tile) return 0;
+    return meld.kind == ZIWHAKEMO_MELD_OPEN_TRIPLET ? 3 : 4;
+}
+
+/* How many of a tile hand and calls hold together. */
+static unsigned held(const input *in, unsigned tile) {
+    unsigned sum = in->counts[tile];
+    for (size_t i = 0; i < in->calls_length; i++) sum += called(in->calls[i], tile);
+    return sum;
+}
+
 /* The first of the checks 1 to 6 that fails, or 0. */
 static unsigned hand_check(const input *in) {
+    unsigned sum = 0;
     if (in->counts_length != ZIWHAKEMO_TILES) return 1;
     if (in->calls_length > 4) return 2;
-    unsigned all[ZIWHAKEMO_TILES + 2] = {0}, sum = 0;
     for (size_t i = 0; i < in->calls_length; i++)
         if (!is_call(in->calls[i])) return 3;
-    for (int i = 0; i < ZIWHAKEMO_TILES; i++) {
+    for (int i = 0; i < ZIWHAKEMO_TILES; i++)
         if (in->counts[i] > 4) return 4;
-        all[i] = in->counts[i];
+    for (unsigned i = 0; i < ZIWHAKEMO_TILES; i++) {
+        if (held(in, i) > 4) return 5;
         sum += in->counts[i];
     }
-    for (size_t i = 0; i < in->calls_length; i++) {
-        ziwhakemo_meld meld = in->calls[i];
-        if (meld.kind == ZIWHAKEMO_MELD_OPEN_SEQUENCE)
-            for (int k = 0; k < 3; k++) all[meld.tile + k]++;
-        else
-            all[meld.tile] += meld.kind == ZIWHAKEMO_MELD_OPEN_TRIPLET ? 3 : 4;
-    }
-    for (int i = 0; i < ZIWHAKEMO_TILES; i++)
-        if (all[i] > 4) return 5;
     return sum + 3 * in->calls_length != 14 ? 6 : 0;
 }
 
@@ -107,15 +116,52 @@ static bool is_setting(uint8_t fu) {
     return fu == ZIWHAKEMO_DOUBLE_WIND_FU_FOUR || fu == ZIWHAKEMO_DOUBLE_WIND_FU_TWO;
 }
 
-/* The first of the checks 1 to 6, 8 and 9 that fails, or 0. */
+/* At most ten, and each that is shown a tile? */
+static bool are_indicators(const ziwhakemo_indicators *shown) {
+    if (shown->count > ZIWHAKEMO_INDICATORS) return false;
+    for (int i = 0; i < shown->count; i++)
+        if (shown->tiles[i] >= ZIWHAKEMO_TILES) return false;
+    return true;
+}
+
+/* The first of the checks 1 to 6, 8, 14 and 9, in this order, that fails, or 0. */
 static unsigned win_check(const input *in) {
     unsigned number = hand_check(in);
     const ziwhakemo_game_context *win = &in->win;
     if (number != 0) return number;
     if (win->win_type > 1 || !is_wind(win->round_wind) || !is_wind(win->seat_wind)) return 8;
     if (!is_setting(win->double_wind_fu)) return 8;
+    if (!are_indicators(&win->dora_indicators)) return 14;
+    if (!are_indicators(&win->ura_dora_indicators)) return 14;
     if (win->winning_tile >= ZIWHAKEMO_TILES || in->counts[win->winning_tile] == 0) return 9;
     return 0;
+}
+
+/* ---- Dora ---- */
+
+/* The tile that an indicator makes dora: the next of its suit, of the winds or of the dragons, and
+   after the last of them the first. */
+static unsigned dora_of(uint8_t indicator) {
+    if (indicator < ZIWHAKEMO_EAST) return indicator % 9 == 8 ? indicator - 8u : indicator + 1u;
+    if (indicator == ZIWHAKEMO_NORTH) return ZIWHAKEMO_EAST;
+    if (indicator == ZIWHAKEMO_RED) return ZIWHAKEMO_WHITE;
+    return indicator + 1u;
+}
+
+/* The dora of hand and calls, for indicators that pass the check. */
+static unsigned dora(const input *in, const ziwhakemo_indicators *shown) {
+    unsigned sum = 0;
+    for (int i = 0; i < shown->count; i++) sum += held(in, dora_of(shown->tiles[i]));
+    return sum;
+}
+
+static unsigned regular_dora(const input *in) {
+    return dora(in, &in->win.dora_indicators);
+}
+
+/* By riichi alone. */
+static unsigned ura_dora(const input *in) {
+    return in->win.is_riichi ? dora(in, &in->win.ura_dora_indicators) : 0;
 }
 
 /* ---- Drawing ---- */
@@ -216,6 +262,26 @@ static uint8_t paired_wind(const input *in) {
     return wind();
 }
 
+/* An indicator whose dora the hand holds, where one is found. */
+static uint8_t hitting(const input *in) {
+    for (int tries = 0; tries < 50; tries++) {
+        uint8_t tile = (uint8_t)below(ZIWHAKEMO_TILES);
+        if (in->counts[dora_of(tile)] > 0) return tile;
+    }
+    return 0;
+}
+
+/* Up to ten indicators, often the same one again, and any bytes behind them. */
+static void draw_indicators(const input *in, ziwhakemo_indicators *shown) {
+    unsigned again = below(3) * 40;
+    shown->count = (uint8_t)(percent(30) ? 0 : below(percent(70) ? 6 : ZIWHAKEMO_INDICATORS + 1));
+    for (int i = 0; i < ZIWHAKEMO_INDICATORS; i++) {
+        if (i >= shown->count) shown->tiles[i] = byte();
+        else if (i > 0 && percent(again)) shown->tiles[i] = shown->tiles[i - 1];
+        else shown->tiles[i] = percent(60) ? hitting(in) : any_tile();
+    }
+}
+
 static void draw_win(input *in) {
     unsigned share = below(3) * 25;
     bool double_wind = percent(25);
@@ -234,13 +300,21 @@ static void draw_win(input *in) {
     win->is_chiihou = percent(share / 10);
     win->double_wind_fu =
         percent(50) ? ZIWHAKEMO_DOUBLE_WIND_FU_FOUR : ZIWHAKEMO_DOUBLE_WIND_FU_TWO;
+    draw_indicators(in, &win->dora_indicators);
+    draw_indicators(in, &win->ura_dora_indicators);
+}
+
+/* Any number of indicators, or any byte for one of them. */
+static void damage_indicators(ziwhakemo_indicators *shown) {
+    if (percent(50)) shown->count = percent(50) ? (uint8_t)(9 + below(4)) : byte();
+    else shown->tiles[below(ZIWHAKEMO_INDICATORS)] = percent(50) ? (uint8_t)below(36) : byte();
 }
 
 /* Any bytes in one of the places. */
 static void damage(input *in) {
     unsigned tile = below(ZIWHAKEMO_TILES);
-    bool round = percent(50);
-    switch (below(10)) {
+    bool first = percent(50);
+    switch (below(12)) {
     case 0:
         in->counts_length = below(MOST_COUNTS + 1);
         for (int i = ZIWHAKEMO_TILES; i < MOST_COUNTS; i++) in->counts[i] = byte();
@@ -257,8 +331,12 @@ static void damage(input *in) {
     case 4: in->counts[tile] = (uint8_t)below(6); break;
     case 5: in->win.win_type = byte(); break;
     case 6: in->win.winning_tile = percent(50) ? (uint8_t)below(36) : byte(); break;
-    case 7: *(round ? &in->win.round_wind : &in->win.seat_wind) = byte(); break;
+    case 7: *(first ? &in->win.round_wind : &in->win.seat_wind) = byte(); break;
     case 8: in->win.double_wind_fu = percent(50) ? (uint8_t)below(6) : byte(); break;
+    case 9:
+    case 10:
+        damage_indicators(first ? &in->win.dora_indicators : &in->win.ura_dora_indicators);
+        break;
     default:
         for (int i = 0; i < MOST_COUNTS; i++) in->counts[i] = byte();
     }
@@ -284,6 +362,11 @@ static input draw_input(void) {
 
 static uint64_t wrong;
 
+static void print_indicators(const char *name, const ziwhakemo_indicators *shown) {
+    printf("\n  %s (%d):", name, shown->count);
+    for (int i = 0; i < ZIWHAKEMO_INDICATORS; i++) printf(" %d", shown->tiles[i]);
+}
+
 static void hold(bool good, const char *what, const input *in) {
     if (good) return;
     if (++wrong <= 5) {
@@ -292,9 +375,11 @@ static void hold(bool good, const char *what, const input *in) {
         printf("\n  calls (%zu):", in->calls_length);
         for (size_t i = 0; i < in->calls_length; i++)
             printf(" %d-%d", in->calls[i].tile, in->calls[i].kind);
-        printf("\n  win %d by %d, winds %d %d, setting %d, reading %zu, %zu bytes\n",
+        print_indicators("dora indicators", &in->win.dora_indicators);
+        print_indicators("ura dora indicators", &in->win.ura_dora_indicators);
+        printf("\n  win %d by %d, winds %d %d, riichi %d, setting %d, reading %zu, %zu bytes\n",
                in->win.win_type, in->win.winning_tile, in->win.round_wind, in->win.seat_wind,
-               in->win.double_wind_fu, in->reading, in->out_length);
+               in->win.is_riichi, in->win.double_wind_fu, in->reading, in->out_length);
     }
 }
 
@@ -409,9 +494,9 @@ static uint32_t settlement(uint8_t win_type, bool is_dealer) {
 /* Does the refusal have its number alone? */
 static bool is_alone(const ziwhakemo_score_answer *a) {
     return a->reading == 0 && tally(a) == 0 && a->han == 0 && a->fu == 0 && !a->is_yakuman &&
-           a->level == 0 && a->yakuman_count == 0 && a->basic_points == 0 && a->settlement == 0 &&
-           a->from_non_dealer == 0 && a->from_dealer == 0 && a->from_discarder == 0 &&
-           a->total == 0;
+           a->level == 0 && a->yakuman_count == 0 && a->regular_dora == 0 && a->ura_dora == 0 &&
+           a->basic_points == 0 && a->settlement == 0 && a->from_non_dealer == 0 &&
+           a->from_dealer == 0 && a->from_discarder == 0 && a->total == 0;
 }
 
 /* Do level, points and payment follow from han, fu and the yakuman flag? */
@@ -429,6 +514,11 @@ static bool follows(const input *in, const ziwhakemo_score_answer *a) {
            a->total == pay.total;
 }
 
+/* The dora that are among the han: none where there is a yakuman. */
+static unsigned added_dora(const ziwhakemo_score_answer *a) {
+    return a->is_yakuman ? 0 : (unsigned)a->regular_dora + a->ura_dora;
+}
+
 static void hold_score(const input *in, const ziwhakemo_score_answer *a, unsigned number,
                        size_t reading) {
     hold(a->number == number, "the number of a score", in);
@@ -438,7 +528,9 @@ static void hold_score(const input *in, const ziwhakemo_score_answer *a, unsigne
     } else {
         hold(a->reading == reading, "the number of the reading", in);
         hold(follows(in, a), "level, points or payment", in);
-        hold((tally(a) > 0) == (a->han > 0), "han without yaku, or yaku without han", in);
+        hold(a->regular_dora == regular_dora(in) && a->ura_dora == ura_dora(in), "the dora", in);
+        hold(a->han >= added_dora(a) && (tally(a) > 0) == (a->han > added_dora(a)),
+             "han without yaku, or yaku without han", in);
     }
 }
 
@@ -495,6 +587,11 @@ static void by_number(const input *in, lent from, size_t readings) {
 
 static uint64_t fewer_fu[2];
 
+/* Do two answers have the same yaku? */
+static bool same_yaku(const ziwhakemo_score_answer *a, const ziwhakemo_score_answer *b) {
+    return memcmp(a->tallies, b->tallies, sizeof a->tallies) == 0 && a->is_yakuman == b->is_yakuman;
+}
+
 /* Is the pair of this reading both round and seat wind? */
 static bool has_double_wind(const input *in, const uint8_t *record) {
     return record[2] == ZIWHAKEMO_RECORD_STANDARD && record[4] == in->win.round_wind &&
@@ -520,9 +617,7 @@ static void under_both(const input *in, lent from, const uint8_t *record, size_t
         bool double_wind = has_double_wind(in, record);
         hold_score(in, &a, 0, n);
         hold_score(in, &b, 0, n);
-        hold(memcmp(a.tallies, b.tallies, sizeof a.tallies) == 0 && a.han == b.han &&
-                 a.is_yakuman == b.is_yakuman,
-             "yaku or han by the room's setting", in);
+        hold(same_yaku(&a, &b) && a.han == b.han, "yaku or han by the room's setting", in);
         hold(c.number == 0 && d.number == 0 && memcmp(c.waits, d.waits, sizeof c.waits) == 0,
              "waits by the room's setting", in);
         hold(a.fu == b.fu || (double_wind && a.fu == b.fu + 10), "fu by the room's setting", in);
@@ -549,7 +644,7 @@ static input pair_of_east(uint8_t double_wind_fu) {
     return in;
 }
 
-/* What each operation that takes a win answers to one without calls. */
+/* What each operation that takes a win answers, by number to reading 0. */
 typedef struct {
     ziwhakemo_score_answer win, reading;
     ziwhakemo_waits_answer waits;
@@ -557,9 +652,12 @@ typedef struct {
 
 static answers ask(const input *in) {
     answers a;
-    a.win = ziwhakemo_score_win(in->counts, in->counts_length, NULL, 0, in->win);
-    a.reading = ziwhakemo_score_reading(in->counts, in->counts_length, NULL, 0, in->win, 0);
-    a.waits = ziwhakemo_name_waits(in->counts, in->counts_length, NULL, 0, in->win, 0);
+    const uint8_t *counts = in->counts;
+    const ziwhakemo_meld *calls = in->calls;
+    size_t tiles = in->counts_length, melds = in->calls_length;
+    a.win = ziwhakemo_score_win(counts, tiles, calls, melds, in->win);
+    a.reading = ziwhakemo_score_reading(counts, tiles, calls, melds, in->win, 0);
+    a.waits = ziwhakemo_name_waits(counts, tiles, calls, melds, in->win, 0);
     return a;
 }
 
@@ -604,6 +702,260 @@ static void settings(void) {
     }
 }
 
+/* ---- Indicators ---- */
+
+static uint64_t with_dora[3], yakuman_with_dora, no_yaku_at_13;
+
+static void count_dora(const ziwhakemo_score_answer *a) {
+    unsigned sum = (unsigned)a->regular_dora + a->ura_dora;
+    with_dora[sum == 0 ? 0 : sum < 13 ? 1 : 2]++;
+    if (a->is_yakuman && sum > 0) yakuman_with_dora++;
+    if (tally(a) == 0 && a->han >= 13) no_yaku_at_13++;
+}
+
+/* Other bytes behind the indicators. */
+static void other_noise(ziwhakemo_indicators *shown) {
+    for (int i = shown->count; i < ZIWHAKEMO_INDICATORS; i++) shown->tiles[i] = byte();
+}
+
+/* Each reading with its indicators, with none, and with other bytes behind them: they change the han
+   by the dora, what follows from the han, and nothing else; the bytes behind them nothing at all. */
+static void without_dora(const input *in, lent from, size_t readings) {
+    ziwhakemo_game_context none = in->win, noise = in->win;
+    if (win_check(in) != 0) return;
+    none.dora_indicators.count = none.ura_dora_indicators.count = 0;
+    other_noise(&noise.dora_indicators);
+    other_noise(&noise.ura_dora_indicators);
+    for (size_t n = 0; n < readings; n++) {
+        ziwhakemo_score_answer a = ziwhakemo_score_reading(
+            from.counts, in->counts_length, from.calls, in->calls_length, in->win, n);
+        ziwhakemo_score_answer b = ziwhakemo_score_reading(
+            from.counts, in->counts_length, from.calls, in->calls_length, none, n);
+        ziwhakemo_score_answer c = ziwhakemo_score_reading(
+            from.counts, in->counts_length, from.calls, in->calls_length, noise, n);
+        ziwhakemo_waits_answer d = ziwhakemo_name_waits(
+            from.counts, in->counts_length, from.calls, in->calls_length, in->win, n);
+        ziwhakemo_waits_answer e = ziwhakemo_name_waits(
+            from.counts, in->counts_length, from.calls, in->calls_length, none, n);
+        hold(b.number == 0 && b.regular_dora == 0 && b.ura_dora == 0, "dora of no indicator", in);
+        hold(same_yaku(&a, &b) && a.fu == b.fu, "yaku or fu by the indicators", in);
+        hold(a.han == b.han + added_dora(&a), "han by the indicators", in);
+        hold_score(in, &c, 0, n);
+        hold(same_yaku(&a, &c) && a.han == c.han && a.fu == c.fu, "a byte behind the indicators", in);
+        hold(d.number == 0 && e.number == 0 && memcmp(d.waits, e.waits, sizeof d.waits) == 0,
+             "waits by the indicators", in);
+        count_dora(&a);
+    }
+}
+
+/* So many of a tile, and behind them what would be refused if it were read. */
+static void show(ziwhakemo_indicators *shown, unsigned count, uint8_t tile) {
+    shown->count = (uint8_t)count;
+    for (unsigned i = 0; i < ZIWHAKEMO_INDICATORS; i++)
+        shown->tiles[i] = i < count ? tile : (uint8_t)(ZIWHAKEMO_TILES + below(222));
+}
+
+/* The indicators of one sort. */
+static ziwhakemo_indicators *sort(input *in, bool ura) {
+    return ura ? &in->win.ura_dora_indicators : &in->win.dora_indicators;
+}
+
+/* The hand with three of man 2 and a pair of East, one yaku and 40 fu; it shows so many of a tile. */
+static input showing(bool ura, unsigned count, uint8_t tile) {
+    input in = pair_of_east(ZIWHAKEMO_DOUBLE_WIND_FU_FOUR);
+    show(sort(&in, ura), count, tile);
+    show(sort(&in, !ura), 0, 0);
+    return in;
+}
+
+/* The win, and reading 0 by number, with so many han. */
+static answers hold_han(const input *in, unsigned han) {
+    answers a = ask(in);
+    hold_score(in, &a.win, 0, 0);
+    hold_score(in, &a.reading, 0, 0);
+    hold(a.waits.number == 0, "the number of waits", in);
+    hold(a.win.han == han && a.reading.han == han, "han with dora", in);
+    return a;
+}
+
+/* man 1 shown up to four times, for three of man 2 each: 13 han are paid like a yakuman and are none.
+   Then each of the 34 tiles shown once, as either sort. */
+static void counted(void) {
+    static const unsigned level[] = {ZIWHAKEMO_LEVEL_NORMAL, ZIWHAKEMO_LEVEL_MANGAN,
+                                     ZIWHAKEMO_LEVEL_HANEMAN, ZIWHAKEMO_LEVEL_BAIMAN,
+                                     ZIWHAKEMO_LEVEL_YAKUMAN};
+    static const uint64_t total[] = {2100, 12000, 18000, 24000, 48000};
+    for (unsigned count = 0; count <= 4; count++) {
+        input in = showing(false, count, ZIWHAKEMO_MAN(1));
+        ziwhakemo_score_answer a = hold_han(&in, 1 + 3 * count).win;
+        hold(a.level == level[count] && a.total == total[count], "the win with dora", &in);
+        hold(!a.is_yakuman, "13 han called a yakuman", &in);
+    }
+    for (uint8_t tile = 0; tile < ZIWHAKEMO_TILES; tile++) {
+        for (int ura = 0; ura < 2; ura++) {
+            input in = showing(ura, 1, tile);
+            in.win.is_riichi = true;
+            hold_han(&in, 2u + in.counts[dora_of(tile)]);
+        }
+    }
+}
+
+/* Each number of indicators from 0 to 255, of either sort. Ura dora count by riichi alone, and not by
+   the flag of a double one. */
+static void numbers(bool ura, bool is_riichi, bool is_double_riichi) {
+    for (unsigned count = 0; count < 256; count++) {
+        input in = showing(ura, count, ZIWHAKEMO_MAN(1));
+        in.win.is_riichi = is_riichi;
+        in.win.is_double_riichi = is_double_riichi;
+        unsigned yaku = 1u + is_riichi + (is_riichi && is_double_riichi);
+        unsigned dora_each = ura && !is_riichi ? 0 : 3;
+        if (count > ZIWHAKEMO_INDICATORS) hold_refused(&in, 14);
+        else hold_han(&in, yaku + dora_each * count);
+    }
+}
+
+/* What is no tile, at each place of up to ten: refused exactly where it is shown, and of ura dora
+   without riichi too. */
+static void no_tile(bool ura, uint8_t tile) {
+    for (unsigned count = 0; count <= ZIWHAKEMO_INDICATORS; count++) {
+        for (unsigned place = 0; place < ZIWHAKEMO_INDICATORS; place++) {
+            input in = showing(ura, count, ZIWHAKEMO_MAN(1));
+            sort(&in, ura)->tiles[place] = tile;
+            if (place < count) hold_refused(&in, 14);
+            else hold_han(&in, ura ? 1 : 1 + 3 * count);
+        }
+    }
+}
+
+/* Grounds for 6, 8, 14 and 9 in every mixture: the first of them, in this order, is answered. */
+static void in_order(bool ura, unsigned count, uint8_t tile) {
+    for (unsigned grounds = 0; grounds < 16; grounds++) {
+        bool six = grounds & 1, eight = grounds & 2, fourteen = grounds & 4, nine = grounds & 8;
+        input in = showing(ura, count, tile);
+        if (!fourteen) show(sort(&in, ura), 1, ZIWHAKEMO_RED);
+        if (six) in.counts[ZIWHAKEMO_EAST] = 1;
+        if (eight) in.win.seat_wind = ZIWHAKEMO_WHITE;
+        if (nine) in.win.winning_tile = ZIWHAKEMO_MAN(9);
+        if (six) hold_refused(&in, 6);
+        else if (eight) hold_refused(&in, 8);
+        else if (fourteen) hold_refused(&in, 14);
+        else if (nine) hold_refused(&in, 9);
+        else hold_han(&in, 1);
+    }
+}
+
+/* pin 456, sou 234 678, man 55, a call, ron on sou 8 by South. It has no yaku, but by the call. */
+static input with_call(uint8_t tile, uint8_t kind) {
+    input in = pair_of_east(ZIWHAKEMO_DOUBLE_WIND_FU_FOUR);
+    memset(in.counts, 0, sizeof in.counts);
+    in.counts[ZIWHAKEMO_MAN(5)] = 2;
+    for (int n = 4; n <= 6; n++) in.counts[ZIWHAKEMO_PIN(n)] = 1;
+    for (int n = 2; n <= 8; n++) in.counts[ZIWHAKEMO_SOU(n)] = n == 5 ? 0 : 1;
+    in.calls[0].tile = tile;
+    in.calls[0].kind = kind;
+    in.calls_length = 1;
+    in.win.win_type = ZIWHAKEMO_RON;
+    in.win.winning_tile = ZIWHAKEMO_SOU(8);
+    in.win.seat_wind = ZIWHAKEMO_SOUTH;
+    return in;
+}
+
+/* Called tiles count too: three by a pon, four by a kan, one by a chi. Ura dora count on the open
+   hand where the riichi flag is set. */
+static void called_dora(void) {
+    static const struct {
+        uint8_t tile, kind, shown, dora;
+    } calls[] = {{ZIWHAKEMO_MAN(1), ZIWHAKEMO_MELD_OPEN_SEQUENCE, ZIWHAKEMO_MAN(9), 1},
+                 {ZIWHAKEMO_EAST, ZIWHAKEMO_MELD_OPEN_TRIPLET, ZIWHAKEMO_NORTH, 3},
+                 {ZIWHAKEMO_EAST, ZIWHAKEMO_MELD_CLOSED_KAN, ZIWHAKEMO_NORTH, 4},
+                 {ZIWHAKEMO_EAST, ZIWHAKEMO_MELD_OPEN_KAN, ZIWHAKEMO_NORTH, 4},
+                 {ZIWHAKEMO_EAST, ZIWHAKEMO_MELD_ADDED_KAN, ZIWHAKEMO_NORTH, 4}};
+    for (int i = 0; i < 5; i++) {
+        for (int ura = 0; ura < 2; ura++) {
+            input in = with_call(calls[i].tile, calls[i].kind);
+            show(sort(&in, ura), 1, calls[i].shown);
+            show(sort(&in, !ura), 0, 0);
+            in.win.is_riichi = ura;
+            ziwhakemo_score_answer a = ask(&in).reading;
+            hold_score(&in, &a, 0, 0);
+            hold((ura ? a.ura_dora : a.regular_dora) == calls[i].dora, "dora of a call", &in);
+        }
+    }
+}
+
+/* With no yaku 12 dora and 13 are refused with 11 as none are, while the reading has its price. */
+static void no_yaku(void) {
+    static const uint64_t total[] = {500, 24000, 32000};
+    static const unsigned han[] = {0, 12, 13};
+    for (int i = 0; i < 3; i++) {
+        input in = with_call(ZIWHAKEMO_MAN(1), ZIWHAKEMO_MELD_OPEN_SEQUENCE);
+        show(&in.win.dora_indicators, i == 0 ? 0 : 6, ZIWHAKEMO_MAN(4));
+        if (i == 2) in.win.dora_indicators.tiles[in.win.dora_indicators.count++] = ZIWHAKEMO_SOU(7);
+        answers a = ask(&in);
+        hold_score(&in, &a.win, 11, 0);
+        hold_score(&in, &a.reading, 0, 0);
+        hold(tally(&a.reading) == 0 && a.reading.han == han[i] && a.reading.total == total[i],
+             "a reading with dora alone", &in);
+    }
+}
+
+/* man 222 333 444, pin 666, sou 88, tsumo on pin 6 by South: by triplets a yakuman, which takes none
+   of 30 dora, and by sequences as much by 33 han. The yakuman is chosen. */
+static void beside_a_yakuman(void) {
+    input in = pair_of_east(ZIWHAKEMO_DOUBLE_WIND_FU_FOUR);
+    memset(in.counts, 0, sizeof in.counts);
+    for (int n = 2; n <= 4; n++) in.counts[ZIWHAKEMO_MAN(n)] = 3;
+    in.counts[ZIWHAKEMO_PIN(6)] = 3;
+    in.counts[ZIWHAKEMO_SOU(8)] = 2;
+    in.win.winning_tile = ZIWHAKEMO_PIN(6);
+    in.win.seat_wind = ZIWHAKEMO_SOUTH;
+    show(&in.win.dora_indicators, 10, ZIWHAKEMO_MAN(1));
+    for (int i = 4; i < 10; i++) in.win.dora_indicators.tiles[i] = ZIWHAKEMO_MAN(i % 2 + 2);
+    answers a = ask(&in);
+    hold_score(&in, &a.win, 0, 1);
+    hold_score(&in, &a.reading, 0, 0);
+    hold(a.win.is_yakuman && a.win.tallies[ZIWHAKEMO_YAKU_SUUANKOU] == 1, "the yakuman", &in);
+    hold(a.win.han == 13 && a.win.regular_dora == 30, "the yakuman's han and dora", &in);
+    hold(!a.reading.is_yakuman && a.reading.han == 33, "han beside the yakuman", &in);
+    hold(a.win.total == 32000 && a.reading.total == 32000, "the totals beside a yakuman", &in);
+}
+
+/* An answer field by field: South's tsumo by riichi, with three dora and two ura dora. */
+static void each_field(void) {
+    input in = showing(false, 1, ZIWHAKEMO_MAN(1));
+    show(&in.win.ura_dora_indicators, 1, ZIWHAKEMO_NORTH);
+    in.win.is_riichi = true;
+    in.win.seat_wind = ZIWHAKEMO_SOUTH;
+    ziwhakemo_score_answer a = ask(&in).win;
+    hold_score(&in, &a, 0, 0);
+    hold(a.settlement == ZIWHAKEMO_SETTLEMENT_TSUMO && a.tallies[ZIWHAKEMO_YAKU_RIICHI] == 1 &&
+             a.tallies[ZIWHAKEMO_YAKU_MENZEN_TSUMO] == 1 && tally(&a) == 2,
+         "the yaku with dora", &in);
+    hold(a.han == 7 && a.fu == 30 && a.level == ZIWHAKEMO_LEVEL_HANEMAN && a.yakuman_count == 0 &&
+             a.regular_dora == 3 && a.ura_dora == 2,
+         "han, fu, level or dora", &in);
+    hold(a.basic_points == 3000 && a.from_non_dealer == 3000 && a.from_dealer == 6000 &&
+             a.from_discarder == 0 && a.total == 12000,
+         "the payment with dora", &in);
+}
+
+static void indicators(void) {
+    for (int i = 0; i < 8; i++) numbers(i & 1, i & 2, i & 4);
+    for (int ura = 0; ura < 2; ura++) {
+        no_tile(ura, ZIWHAKEMO_TILES);
+        no_tile(ura, 255);
+        in_order(ura, 11, ZIWHAKEMO_MAN(1));
+        in_order(ura, 255, ZIWHAKEMO_MAN(1));
+        in_order(ura, 1, ZIWHAKEMO_TILES);
+        in_order(ura, 10, 255);
+    }
+    counted();
+    called_dora();
+    no_yaku();
+    beside_a_yakuman();
+    each_field();
+}
+
 /* ---- Points ---- */
 
 static void points(const input *in) {
@@ -642,6 +994,7 @@ static void run(const input *in) {
     score(in, from, readings);
     by_number(in, from, readings);
     under_both(in, from, all, readings);
+    without_dora(in, from, readings);
     points(in);
     hold(same(from.counts, in->counts, in->counts_length), "the counts changed", in);
     hold(same(from.calls, in->calls, in->calls_length * sizeof(ziwhakemo_meld)), "a call changed",
@@ -657,6 +1010,30 @@ static void print(const char *name, const uint64_t *answers) {
     printf("\n");
 }
 
+/* Prints how often each number was answered. Of these, closed by -1, each has to be among them where
+   there were inputs enough. */
+static void print_numbers(const char *name, const uint64_t *answers, const int *numbers,
+                          bool enough) {
+    print(name, answers);
+    for (; enough && *numbers >= 0; numbers++) {
+        if (answers[*numbers] > 0) continue;
+        printf("WRONG: never answered with %d\n", *numbers);
+        wrong++;
+    }
+}
+
+static void print_operations(bool enough) {
+    static const int listing[] = {0, 1, 2, 3, 4, 5, 6, 7, -1};
+    static const int win[] = {0, 1, 2, 3, 4, 5, 6, 8, 14, 9, 10, 11, -1};
+    static const int reading[] = {0, 1, 2, 3, 4, 5, 6, 8, 14, 9, 12, -1};
+    static const int payment[] = {0, 8, 13, -1};
+    print_numbers("ziwhakemo_list_readings", listed, listing, enough);
+    print_numbers("ziwhakemo_score_win", won, win, enough);
+    print_numbers("ziwhakemo_score_reading", scored, reading, enough);
+    print_numbers("ziwhakemo_name_waits", named, reading, enough);
+    print_numbers("ziwhakemo_payment", paid, payment, enough);
+}
+
 int main(int words, char **arguments) {
     if (ziwhakemo_version() != ZIWHAKEMO_VERSION) {
         printf("the library is of version %lu, the header of version %d\n",
@@ -667,22 +1044,22 @@ int main(int words, char **arguments) {
     unsigned long seed = words > 2 ? strtoul(arguments[2], NULL, 10) : 1;
     state = seed;
     settings();
+    indicators();
     for (unsigned long i = 0; i < inputs; i++) {
         input in = draw_input();
         run(&in);
     }
     printf("%lu inputs, seed %lu; by answer:\n", inputs, seed);
-    print("ziwhakemo_list_readings", listed);
-    print("ziwhakemo_score_win", won);
-    print("ziwhakemo_score_reading", scored);
-    print("ziwhakemo_name_waits", named);
-    print("ziwhakemo_payment", paid);
+    print_operations(inputs >= ENOUGH);
     print("ziwhakemo_payment, by settlement", settled);
     print("ziwhakemo_score_level and ziwhakemo_basic_points, by level", levels);
     printf("accepted hands with 0, 1, 2, 3, 4, more readings:");
     for (int i = 0; i <= MANY; i++) printf(" %lu", (unsigned long)with_readings[i]);
     printf("\nreadings whose pair is both winds, as many fu by two as by four, ten fewer:");
     for (int i = 0; i < 2; i++) printf(" %lu", (unsigned long)fewer_fu[i]);
+    printf("\nreadings without dora, with some, with 13 and more; yakuman with some; no yaku at 13:");
+    for (int i = 0; i < 3; i++) printf(" %lu", (unsigned long)with_dora[i]);
+    printf(" %lu %lu", (unsigned long)yakuman_with_dora, (unsigned long)no_yaku_at_13);
     printf("\nNULL lent for nothing: %lu\nwrong: %lu\n", (unsigned long)nulls, (unsigned long)wrong);
     return wrong > 0;
 }

@@ -1,6 +1,6 @@
-/* Lists the readings of three hands, decodes each record, and prints it with its waits and its
-   score, then what the win scores and who pays what. The first hand has a chi, a pon and a closed
-   kan. In the root:
+/* Lists the readings of three hands, decodes each record, and prints it with its waits, yaku, dora
+   and score, then what the win scores and who pays what. The first hand has a chi, a pon and a
+   closed kan, whose four tiles are dora. In the root:
 
      cc -std=c99 -Iinclude examples/c/calls.c target/staticlib/libziwhakemo.a -o target/calls
      target/calls
@@ -79,6 +79,8 @@ static void print_score(const ziwhakemo_score_answer *score) {
         if (score->tallies[i] > 0) printf(" [%s]", ziwhakemo_yaku_name((size_t)i));
         if (score->tallies[i] > 1) printf(" x%d", score->tallies[i]);
     }
+    printf("\n    dora: %d, ura dora: %d", score->regular_dora, score->ura_dora);
+    if (score->is_yakuman) printf(" (a yakuman takes none)");
     printf("\n    %d han %d fu, %s", score->han, score->fu, ziwhakemo_level_name(score->level));
     if (score->yakuman_count > 1) printf(" x%d", score->yakuman_count);
     printf(", basic points %lu\n", (unsigned long)score->basic_points);
@@ -146,7 +148,8 @@ static bool show(const char *what, const hand *h) {
 
 /* ---- The hands ---- */
 
-/* No tile, no call and no flag, in a room that gives four fu for a pair that is both winds. */
+/* No tile, no call, no flag and no indicator, in a room that gives four fu for a pair that is both
+   winds. */
 static hand nothing(uint8_t win_type, uint8_t winning_tile, uint8_t seat_wind) {
     hand h;
     memset(&h, 0, sizeof h);
@@ -164,6 +167,11 @@ static void call(hand *h, uint8_t tile, uint8_t kind) {
     meld->kind = kind;
 }
 
+/* Shows one indicator more: the tile that lies there, not the dora. */
+static void show_indicator(ziwhakemo_indicators *shown, uint8_t tile) {
+    shown->tiles[shown->count++] = tile;
+}
+
 static hand with_calls(void) {
     hand h = nothing(ZIWHAKEMO_RON, ZIWHAKEMO_PIN(6), ZIWHAKEMO_SOUTH);
     h.counts[ZIWHAKEMO_PIN(4)] = h.counts[ZIWHAKEMO_PIN(5)] = h.counts[ZIWHAKEMO_PIN(6)] = 1;
@@ -171,6 +179,8 @@ static hand with_calls(void) {
     call(&h, ZIWHAKEMO_MAN(2), ZIWHAKEMO_MELD_OPEN_SEQUENCE);
     call(&h, ZIWHAKEMO_RED, ZIWHAKEMO_MELD_OPEN_TRIPLET);
     call(&h, ZIWHAKEMO_EAST, ZIWHAKEMO_MELD_CLOSED_KAN);
+    show_indicator(&h.win.dora_indicators, ZIWHAKEMO_NORTH);
+    show_indicator(&h.win.dora_indicators, ZIWHAKEMO_MAN(1));
     return h;
 }
 
@@ -180,6 +190,8 @@ static hand seven_pairs(void) {
     h.counts[ZIWHAKEMO_PIN(7)] = h.counts[ZIWHAKEMO_PIN(8)] = h.counts[ZIWHAKEMO_PIN(9)] = 2;
     h.counts[ZIWHAKEMO_SOU(5)] = 2;
     h.win.is_riichi = true;
+    show_indicator(&h.win.dora_indicators, ZIWHAKEMO_MAN(1));
+    show_indicator(&h.win.ura_dora_indicators, ZIWHAKEMO_SOU(4));
     return h;
 }
 
@@ -190,6 +202,7 @@ static hand orphans(void) {
     h.counts[ZIWHAKEMO_SOU(1)] = h.counts[ZIWHAKEMO_SOU(9)] = 1;
     for (int tile = ZIWHAKEMO_EAST; tile <= ZIWHAKEMO_RED; tile++) h.counts[tile] = 1;
     h.counts[ZIWHAKEMO_RED] = 2;
+    show_indicator(&h.win.dora_indicators, ZIWHAKEMO_GREEN);
     return h;
 }
 
@@ -200,8 +213,12 @@ int main(void) {
         return 2;
     }
     hand first = with_calls(), second = seven_pairs(), third = orphans();
-    bool good = show("456p 88s, chi 234m, pon Red, closed kan East: South, ron on 6p", &first);
-    good = show("112233m 778899p 55s: East, riichi, tsumo on 2m", &second) && good;
-    good = show("19m 19p 19s, each honor, Red twice: West, tsumo on Red", &third) && good;
+    bool good = show("456p 88s, chi 234m, pon Red, closed kan East: South, ron on 6p; "
+                     "indicators North and 1m",
+                     &first);
+    good = show("112233m 778899p 55s: East, riichi, tsumo on 2m; indicator 1m, ura indicator 4s",
+                &second) && good;
+    good = show("19m 19p 19s, each honor, Red twice: West, tsumo on Red; indicator Green", &third) &&
+           good;
     return good ? 0 : 1;
 }

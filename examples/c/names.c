@@ -10,7 +10,7 @@
 #include <stdio.h>
 #include <string.h>
 
-enum { MOST_TEXT = 200, NUMBERS = ZIWHAKEMO_REFUSED_BASIC_POINTS + 1 };
+enum { MOST_TEXT = 200, NUMBERS = ZIWHAKEMO_REFUSED_INDICATORS + 1 };
 
 static unsigned wrong;
 
@@ -72,7 +72,7 @@ static void read_calls(hand *h, const char *text) {
 }
 
 /* The winning tile, round and seat wind, and a letter for tsumo and each flag. The room gives four
-   fu for a pair that is both winds. */
+   fu for a pair that is both winds. No indicator is shown. */
 static void read_win(ziwhakemo_game_context *win, const char *text) {
     win->winning_tile = tile_of(text[0], text[1]);
     win->round_wind = tile_of(text[3], 'z');
@@ -279,6 +279,13 @@ static uint32_t beyond(void) {
     return ziwhakemo_score_reading(h.counts, ZIWHAKEMO_TILES, NULL, 0, h.win, 1).number;
 }
 
+/* What a win with more than ten indicators is answered with. */
+static uint32_t shown_eleven(void) {
+    hand h = read_hand("123678m456p789s22p", "", "1m 12");
+    h.win.dora_indicators.count = ZIWHAKEMO_INDICATORS + 1;
+    return ziwhakemo_score_win(h.counts, ZIWHAKEMO_TILES, NULL, 0, h.win).number;
+}
+
 static void refusals(void) {
     const char *good = "123678m456p789s22p";
     size_t room = ZIWHAKEMO_ALWAYS_ENOUGH, tiles = ZIWHAKEMO_TILES;
@@ -299,6 +306,7 @@ static void refusals(void) {
     hold_number(beyond(), "there are not more readings than that number");
     hold_number(ziwhakemo_payment(ZIWHAKEMO_MOST_BASIC_POINTS + 1, false, ZIWHAKEMO_RON).number,
                 "basic points above 152,000");
+    hold_number(shown_eleven(), "an indicator is above 33, or there are more than ten");
     hold_all(answered, NUMBERS, "number");
     hold(ziwhakemo_number_meaning(NUMBERS), "?", "no number");
 }

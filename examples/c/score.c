@@ -20,7 +20,7 @@ int main(void) {
     counts[ZIWHAKEMO_SOU(8)] = 2;
 
     ziwhakemo_game_context win;
-    memset(&win, 0, sizeof win); /* no flag is set */
+    memset(&win, 0, sizeof win); /* no flag is set, and no indicator is shown */
     win.win_type = ZIWHAKEMO_RON;
     win.winning_tile = ZIWHAKEMO_SOU(8);
     win.round_wind = ZIWHAKEMO_EAST;

@@ -120,7 +120,7 @@ fn waits(structure: &HandStructure, winning_tile: Tile) -> Option<Vec<WaitType>>
     let (counts, calls) = hand_of(&reading)?;
     let readings = hand::decompose_hand(&counts, &calls).ok()?;
     let n = readings.iter().position(|other| *other == reading)?;
-    // Neither win type, winds nor the room's setting matter for waits.
+    // Neither win type, winds, the room's setting nor indicators matter for waits.
     let context = GameContext::new(WinType::Ron, Honor::East, Honor::East);
     let context = context.with_winning_tile(winning_tile);
     wait::detect_wait_types(&counts, &calls, &context, n).ok()

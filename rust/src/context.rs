@@ -1,9 +1,11 @@
-//! The win (agari's `context.rs`), with a setting of the room, which agari does not have.
+//! The win (agari's `context.rs`), with a setting of the room, which agari does not have, and with the
+//! indicators of dora.
 //!
 //! Whether the hand is open is not part of it: the library reads that off the calls.
 
 use crate::ffi;
-use crate::tile::{Honor, NO_TILE, Tile};
+use crate::tile::{Honor, NO_TILE, Suit, Tile};
+use core::fmt;
 
 /// How the hand was won.
 #[derive(Debug, Clone, Copy, PartialEq, Eq)]
@@ -53,6 +55,104 @@ impl DoubleWindFu {
     }
 }
 
+/// The indicators that are shown, of dora or of ura dora: the tiles shown, not the dora themselves. Up to
+/// ten are taken.
+///
+/// Nothing is refused here: a win with more than ten, or with one that is no tile, is refused with 14 where
+/// it is scored. Of more than ten, the first ten are kept and how many there are.
+///
+/// ```
+/// use ziwhakemo::{Indicators, Suit, Tile};
+///
+/// let shown = [1, 4].map(|value| Tile::suited(Suit::Pin, value));
+/// let indicators = Indicators::new(&shown);
+/// assert_eq!((indicators.count(), indicators.tiles()), (2, &shown[..]));
+/// assert_eq!(Indicators::new(&[]), Indicators::NONE);
+/// ```
+#[derive(Clone, Copy, PartialEq, Eq)]
+pub struct Indicators {
+    count: u8,
+    /// Behind the count stands man 1, so that equal ones are equal in every field.
+    tiles: [Tile; Indicators::MOST],
+}
+
+impl Indicators {
+    /// At most so many of either sort.
+    pub const MOST: usize = 10;
+
+    /// None is shown.
+    pub const NONE: Indicators = Indicators {
+        count: 0,
+        tiles: [Tile::Suited {
+            suit: Suit::Man,
+            value: 1,
+        }; Indicators::MOST],
+    };
+
+    /// These are shown, in any order; one that is shown twice counts twice.
+    pub fn new(tiles: &[Tile]) -> Indicators {
+        let mut indicators = Indicators::NONE;
+        indicators.count = tiles.len().try_into().unwrap_or(u8::MAX);
+        for (place, &tile) in indicators.tiles.iter_mut().zip(tiles) {
+            *place = tile;
+        }
+        indicators
+    }
+
+    /// How many there are. More than 255 count as 255.
+    pub fn count(&self) -> usize {
+        self.count.into()
+    }
+
+    /// The first ten of them.
+    pub fn tiles(&self) -> &[Tile] {
+        &self.tiles[..self.count().min(Indicators::MOST)]
+    }
+
+    /// The indicators as the library reads them. What is no tile stays none, and is refused there, as
+    /// more than ten are.
+    pub(crate) fn lent(&self) -> ffi::Indicators {
+        ffi::Indicators {
+            count: self.count,
+            tiles: self.tiles.map(|tile| tile.number().unwrap_or(NO_TILE)),
+        }
+    }
+}
+
+impl Default for Indicators {
+    fn default() -> Indicators {
+        Indicators::NONE
+    }
+}
+
+/// As a list of tiles is written; where more than ten are shown, the first ten and two dots.
+impl fmt::Debug for Indicators {
+    fn fmt(&self, f: &mut fmt::Formatter) -> fmt::Result {
+        let mut list = f.debug_list();
+        list.entries(self.tiles());
+        match self.count() > Indicators::MOST {
+            true => list.finish_non_exhaustive(),
+            false => list.finish(),
+        }
+    }
+}
+
+/// How many dora a hand holds, by the sort of their indicators. Red fives and pulled Norths are not counted.
+#[derive(Debug, Clone, Copy, Default, PartialEq, Eq)]
+pub struct DoraCount {
+    /// By the dora indicators
+    pub regular: u8,
+    /// By the ura dora indicators; 0 where there is no riichi
+    pub ura: u8,
+}
+
+impl DoraCount {
+    /// Both sorts together
+    pub fn total(&self) -> u8 {
+        self.regular + self.ura
+    }
+}
+
 /// A win, apart from its hand. Every mixture of the flags is scored as agari scores it, where the room
 /// gives four fu for a pair that is both winds.
 #[derive(Debug, Clone, Copy, PartialEq, Eq)]
@@ -83,11 +183,16 @@ pub struct GameContext {
     pub is_chiihou: bool,
     /// The room's setting: four fu or two for a pair that is both round and seat wind
     pub double_wind_fu: DoubleWindFu,
+    /// The dora indicators. More than ten are refused with 14, and so is one that is no tile
+    pub dora_indicators: Indicators,
+    /// The ura dora indicators, which count where `is_riichi` is set, on an open hand too, and are refused
+    /// with 14 as the dora indicators are, whether they count or not
+    pub ura_dora_indicators: Indicators,
 }
 
 impl GameContext {
-    /// A win with no winning tile yet and no flags, in a room that gives four fu for a pair that is both
-    /// winds
+    /// A win with no winning tile yet, no flags and no indicators, in a room that gives four fu for a pair
+    /// that is both winds
     pub fn new(win_type: WinType, round_wind: Honor, seat_wind: Honor) -> GameContext {
         GameContext {
             win_type,
@@ -103,6 +208,8 @@ impl GameContext {
             is_tenhou: false,
             is_chiihou: false,
             double_wind_fu: DoubleWindFu::Four,
+            dora_indicators: Indicators::NONE,
+            ura_dora_indicators: Indicators::NONE,
         }
     }
 
@@ -115,6 +222,18 @@ impl GameContext {
     /// Sets what the room gives for a pair that is both round and seat wind
     pub fn with_double_wind_fu(mut self, fu: DoubleWindFu) -> GameContext {
         self.double_wind_fu = fu;
+        self
+    }
+
+    /// Sets the dora indicators, in place of those before: a `Vec` of tiles, an array or a slice
+    pub fn with_dora(mut self, indicators: impl AsRef<[Tile]>) -> GameContext {
+        self.dora_indicators = Indicators::new(indicators.as_ref());
+        self
+    }
+
+    /// Sets the ura dora indicators, in place of those before, likewise
+    pub fn with_ura_dora(mut self, indicators: impl AsRef<[Tile]>) -> GameContext {
+        self.ura_dora_indicators = Indicators::new(indicators.as_ref());
         self
     }
 
@@ -194,6 +313,8 @@ impl GameContext {
             is_tenhou: self.is_tenhou,
             is_chiihou: self.is_chiihou,
             double_wind_fu: self.double_wind_fu.number(),
+            dora_indicators: self.dora_indicators.lent(),
+            ura_dora_indicators: self.ura_dora_indicators.lent(),
         }
     }
 }

@@ -4,7 +4,7 @@
 use crate::OTHER_VERSION;
 
 /// The version of the interface that is declared here: `ZIWHAKEMO_VERSION` of the header.
-pub const VERSION: u32 = 4;
+pub const VERSION: u32 = 5;
 
 /// A meld: the number of its lowest tile, and its kind.
 #[repr(C)]
@@ -14,7 +14,15 @@ pub struct Meld {
     pub kind: u8,
 }
 
-/// A win, apart from its hand. The last byte is the room's setting, 4 or 2.
+/// Indicators: how many are shown, and the numbers of their tiles. What stands behind the count is not read.
+#[repr(C)]
+#[derive(Clone, Copy, Debug, PartialEq, Eq)]
+pub struct Indicators {
+    pub count: u8,
+    pub tiles: [u8; 10],
+}
+
+/// A win, apart from its hand. Behind the flags stands the room's setting, 4 or 2.
 #[repr(C)]
 #[derive(Clone, Copy, Debug)]
 pub struct GameContext {
@@ -31,6 +39,8 @@ pub struct GameContext {
     pub is_tenhou: bool,
     pub is_chiihou: bool,
     pub double_wind_fu: u8,
+    pub dora_indicators: Indicators,
+    pub ura_dora_indicators: Indicators,
 }
 
 /// The answer to a listing: 0 with what was written, or a refusal's number alone.
@@ -77,6 +87,8 @@ pub struct ScoreAnswer {
     pub is_yakuman: u8,
     pub level: u8,
     pub yakuman_count: u8,
+    pub regular_dora: u8,
+    pub ura_dora: u8,
     pub basic_points: u32,
     pub from_non_dealer: u32,
     pub from_dealer: u32,
@@ -237,7 +249,27 @@ mod tests {
     use std::mem::{align_of, offset_of, size_of};
     use std::ptr;
 
+    const MAN_1: u8 = 0;
+    const SOU_7: u8 = 24;
     const SOU_8: u8 = 25;
+
+    /// No indicator, with noise behind the count.
+    const NONE: Indicators = Indicators {
+        count: 0,
+        tiles: [255; 10],
+    };
+
+    /// So many indicators of a tile, with noise behind them.
+    fn times(count: u8, tile: u8) -> Indicators {
+        let mut tiles = NONE.tiles;
+        tiles[..usize::from(count.min(10))].fill(tile);
+        Indicators { count, tiles }
+    }
+
+    /// So many indicators man 1, which make man 2 dora.
+    fn man_1(count: u8) -> Indicators {
+        times(count, MAN_1)
+    }
 
     /// man 222 333 444, pin 567, sou 88: two readings, 26 bytes.
     fn spring_final() -> [u8; 34] {
@@ -263,7 +295,35 @@ mod tests {
             is_tenhou: false,
             is_chiihou: false,
             double_wind_fu: 4,
+            dora_indicators: NONE,
+            ura_dora_indicators: NONE,
         }
+    }
+
+    /// The win by riichi.
+    fn riichi(win: GameContext) -> GameContext {
+        GameContext {
+            is_riichi: true,
+            ..win
+        }
+    }
+
+    /// The win with these indicators of dora and of ura dora.
+    fn shown(win: GameContext, [dora, ura]: [Indicators; 2]) -> GameContext {
+        GameContext {
+            dora_indicators: dora,
+            ura_dora_indicators: ura,
+            ..win
+        }
+    }
+
+    /// The numbers with which the three operations that take a win answer.
+    fn numbers(counts: &[u8], win: GameContext) -> [u32; 3] {
+        [
+            score_win(counts, &[], win).number,
+            score_reading(counts, &[], win, 0).number,
+            name_waits(counts, &[], win, 0).number,
+        ]
     }
 
     #[test]
@@ -278,9 +338,14 @@ mod tests {
     fn structs_are_laid_out_as_in_c() {
         assert_eq!((size_of::<Meld>(), align_of::<Meld>()), (2, 1));
         let context = (size_of::<GameContext>(), align_of::<GameContext>());
-        assert_eq!(context, (13, 1));
+        assert_eq!(context, (35, 1));
         assert_eq!(offset_of!(GameContext, is_chiihou), 11);
         assert_eq!(offset_of!(GameContext, double_wind_fu), 12);
+        assert_eq!(offset_of!(GameContext, dora_indicators), 13);
+        assert_eq!(offset_of!(GameContext, ura_dora_indicators), 24);
+        let indicators = (size_of::<Indicators>(), align_of::<Indicators>());
+        assert_eq!(indicators, (11, 1));
+        assert_eq!(offset_of!(Indicators, tiles), 1);
         assert_eq!(size_of::<ListingAnswer>(), 24);
         assert_eq!(size_of::<LevelAnswer>(), 2);
         assert_eq!(size_of::<PaymentAnswer>(), 32);
@@ -291,7 +356,11 @@ mod tests {
         assert_eq!(offset_of!(ScoreAnswer, settlement), 4);
         assert_eq!(offset_of!(ScoreAnswer, tallies), 16);
         assert_eq!(offset_of!(ScoreAnswer, han), 63);
-        assert_eq!(offset_of!(ScoreAnswer, basic_points), 68);
+        assert_eq!(offset_of!(ScoreAnswer, yakuman_count), 67);
+        assert_eq!(offset_of!(ScoreAnswer, regular_dora), 68);
+        assert_eq!(offset_of!(ScoreAnswer, ura_dora), 69);
+        assert_eq!(offset_of!(ScoreAnswer, basic_points), 72);
+        assert_eq!(offset_of!(ScoreAnswer, from_discarder), 84);
         assert_eq!(offset_of!(ScoreAnswer, total), 88);
     }
 
@@ -368,21 +437,79 @@ mod tests {
                 2 | 4 => [0, 9],
                 _ => [8, 8],
             };
-            let numbers = |counts: &[u8], winning_tile| {
+            let win = |winning_tile| GameContext {
+                double_wind_fu,
+                ..ron(winning_tile)
+            };
+            assert_eq!(numbers(&counts, win(SOU_8)), [held; 3], "{double_wind_fu}");
+            // 8 comes before 9, and 6 before 8.
+            assert_eq!(numbers(&counts, win(34)), [missing; 3], "{double_wind_fu}");
+            assert_eq!(numbers(&thirteen, win(SOU_8)), [6; 3], "{double_wind_fu}");
+        }
+    }
+
+    #[test]
+    fn more_than_ten_indicators_are_refused_and_what_is_behind_them_is_not_read() {
+        let counts = spring_final();
+        for (count, is_riichi) in (0..=255).flat_map(|count| [(count, false), (count, true)]) {
+            let win = GameContext {
+                is_riichi,
+                ..ron(SOU_8)
+            };
+            for both in [[man_1(count), NONE], [NONE, man_1(count)]] {
+                let number = if count > 10 { 14 } else { 0 };
+                assert_eq!(numbers(&counts, shown(win, both)), [number; 3]);
+            }
+            if count > 10 {
+                continue;
+            }
+            let scored = score_win(&counts, &[], shown(win, [man_1(count), man_1(10 - count)]));
+            // Three of man 2 in the hand, and ura dora by riichi alone.
+            let ura = if is_riichi { 3 * (10 - count) } else { 0 };
+            assert_eq!((scored.regular_dora, scored.ura_dora), (3 * count, ura));
+            assert_eq!(scored.han, 3 + u8::from(is_riichi) + 3 * count + ura);
+        }
+    }
+
+    #[test]
+    fn an_indicator_above_33_is_refused_where_it_is_shown() {
+        let counts = spring_final();
+        for (count, place, tile) in (0..=10).flat_map(|count| {
+            let places = (0..10).flat_map(|place| [33, 34, 255].map(|tile| (place, tile)));
+            places.map(move |(place, tile)| (count, place, tile))
+        }) {
+            let mut indicators = man_1(count);
+            indicators.tiles[usize::from(place)] = tile;
+            let number = if place < count && tile > 33 { 14 } else { 0 };
+            for both in [[indicators, NONE], [NONE, indicators]] {
+                let win = shown(ron(SOU_8), both);
+                assert_eq!(numbers(&counts, win), [number; 3], "{both:?}");
+            }
+        }
+    }
+
+    #[test]
+    fn number_14_comes_after_8_and_before_9() {
+        let counts = spring_final();
+        let mut thirteen = counts;
+        thirteen[usize::from(SOU_8)] = 1;
+        let bad = [man_1(11), times(1, 34)];
+        for both in bad.into_iter().flat_map(|bad| [[bad, NONE], [NONE, bad]]) {
+            let win = |win_type, winning_tile| {
                 let win = GameContext {
-                    double_wind_fu,
+                    win_type,
                     ..ron(winning_tile)
                 };
-                [
-                    score_win(counts, &[], win).number,
-                    score_reading(counts, &[], win, 0).number,
-                    name_waits(counts, &[], win, 0).number,
-                ]
+                shown(win, both)
             };
-            assert_eq!(numbers(&counts, SOU_8), [held; 3], "{double_wind_fu}");
-            // 8 comes before 9, and 6 before 8.
-            assert_eq!(numbers(&counts, 34), [missing; 3], "{double_wind_fu}");
-            assert_eq!(numbers(&thirteen, SOU_8), [6; 3], "{double_wind_fu}");
+            assert_eq!(numbers(&counts, win(0, SOU_8)), [14; 3]);
+            assert_eq!(numbers(&counts, win(0, 34)), [14; 3]);
+            assert_eq!(numbers(&counts, win(2, SOU_8)), [8; 3]);
+            assert_eq!(numbers(&counts, win(2, 34)), [8; 3]);
+            assert_eq!(numbers(&thirteen, win(2, 34)), [6; 3]);
+            // 12 comes after them.
+            let beyond = score_reading(&counts, &[], win(0, SOU_8), usize::MAX);
+            assert_eq!(beyond.number, 14);
         }
     }
 
@@ -401,6 +528,8 @@ mod tests {
             is_yakuman: 0,
             level: 0,
             yakuman_count: 0,
+            regular_dora: 0,
+            ura_dora: 0,
             basic_points: 1600,
             from_non_dealer: 0,
             from_dealer: 0,
@@ -409,7 +538,23 @@ mod tests {
         };
         assert_eq!(score_win(&spring_final(), &[], ron(SOU_8)), expected);
 
-        // By tsumo it is four concealed triplets on a pair wait: a double yakuman.
+        // By riichi, with three dora and two ura dora: nine han.
+        let win = shown(riichi(ron(SOU_8)), [man_1(1), times(1, SOU_7)]);
+        tallies[0] = 1; // Riichi
+        let expected = ScoreAnswer {
+            tallies,
+            han: 9,
+            level: 3,
+            regular_dora: 3,
+            ura_dora: 2,
+            basic_points: 4000,
+            from_discarder: 16_000,
+            total: 16_000,
+            ..expected
+        };
+        assert_eq!(score_win(&spring_final(), &[], win), expected);
+
+        // By tsumo it is four concealed triplets on a pair wait: a double yakuman, which takes no dora.
         let mut triplets = [0; 34];
         triplets[1..4].fill(3);
         triplets[13] = 3;
@@ -430,12 +575,15 @@ mod tests {
             is_yakuman: 1,
             level: 5,
             yakuman_count: 2,
+            regular_dora: 6,
+            ura_dora: 2,
             basic_points: 16_000,
             from_non_dealer: 16_000,
             from_dealer: 32_000,
             from_discarder: 0,
             total: 64_000,
         };
+        let tsumo = shown(riichi(tsumo), [man_1(2), times(1, SOU_7)]);
         assert_eq!(score_win(&triplets, &[], tsumo), expected);
     }
 
@@ -461,8 +609,8 @@ mod tests {
 
     #[test]
     fn a_refused_answer_is_its_number_alone() {
-        let nothing = ScoreAnswer {
-            number: 9,
+        let nothing = |number| ScoreAnswer {
+            number,
             settlement: 0,
             reading: 0,
             tallies: [0; 47],
@@ -471,6 +619,8 @@ mod tests {
             is_yakuman: 0,
             level: 0,
             yakuman_count: 0,
+            regular_dora: 0,
+            ura_dora: 0,
             basic_points: 0,
             from_non_dealer: 0,
             from_dealer: 0,
@@ -478,11 +628,18 @@ mod tests {
             total: 0,
         };
         let counts = spring_final();
+        let hold = |win, number| {
+            assert_eq!(score_win(&counts, &[], win), nothing(number));
+            assert_eq!(score_reading(&counts, &[], win, 0), nothing(number));
+            let waits = name_waits(&counts, &[], win, 0);
+            assert_eq!((waits.number, waits.waits), (number, [0; 6]));
+        };
         for tile in 34..=255 {
-            assert_eq!(score_win(&counts, &[], ron(tile)), nothing);
-            assert_eq!(score_reading(&counts, &[], ron(tile), 0), nothing);
-            let waits = name_waits(&counts, &[], ron(tile), 0);
-            assert_eq!((waits.number, waits.waits), (9, [0; 6]));
+            hold(shown(riichi(ron(tile)), [man_1(3); 2]), 9);
+        }
+        for count in 11..=255 {
+            hold(shown(riichi(ron(SOU_8)), [man_1(3), man_1(count)]), 14);
+            hold(shown(riichi(ron(SOU_8)), [man_1(count), man_1(3)]), 14);
         }
     }
 }

@@ -23,6 +23,12 @@
 //! assert_eq!((win.result.han, win.result.fu.total), (3, 50));
 //! assert_eq!(win.result.payment.total, 6400);
 //! println!("{:?}", decompose_hand(&counts, &[])?[win.reading]);
+//!
+//! // With sou 7 shown, both sou 8 are dora.
+//! let context = context.with_dora([tile(Suit::Sou, 7)]);
+//! let win = score_win(&counts, &[], &context)?;
+//! assert_eq!((win.dora().total(), win.result.han), (2, 5));
+//! assert_eq!(win.result.payment.total, 8000);
 //! # Ok::<(), ziwhakemo::Refusal>(())
 //! ```
 //!
@@ -50,7 +56,7 @@ pub mod tile;
 pub mod wait;
 pub mod yaku;
 
-pub use context::{DoubleWindFu, GameContext, WinType};
+pub use context::{DoraCount, DoubleWindFu, GameContext, Indicators, WinType};
 pub use hand::{HandStructure, KanType, Listing, Meld, decompose_hand, list_readings};
 pub use refusal::Refusal;
 pub use scoring::{

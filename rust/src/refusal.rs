@@ -4,8 +4,8 @@ use crate::OTHER_VERSION;
 use core::error::Error;
 use core::fmt;
 
-/// A refusal: the first of the checks, in this order, that the input does not pass. Nothing was scored
-/// and nothing was written.
+/// A refusal: the first of the checks that the input does not pass, in the order of their numbers but for
+/// 14, which comes after 8 and before 9. Nothing was scored and nothing was written.
 #[derive(Debug, Clone, Copy, PartialEq, Eq, Hash, PartialOrd, Ord)]
 #[repr(u8)]
 pub enum Refusal {
@@ -37,11 +37,14 @@ pub enum Refusal {
     NoSuchReading = 12,
     /// Basic points above 152,000.
     BasicPoints = 13,
+    /// An indicator is no tile, or there are more than ten of dora or of ura dora. It comes after 8 and
+    /// before 9, and without riichi too where it is of ura dora.
+    Indicators = 14,
 }
 
 impl Refusal {
-    /// All refusals, by their numbers from 1 to 13.
-    pub const ALL: [Refusal; 13] = [
+    /// All refusals, by their numbers from 1 to 14.
+    pub const ALL: [Refusal; 14] = [
         Refusal::CountsLength,
         Refusal::TooManyCalls,
         Refusal::NotACall,
@@ -55,9 +58,10 @@ impl Refusal {
         Refusal::NoYaku,
         Refusal::NoSuchReading,
         Refusal::BasicPoints,
+        Refusal::Indicators,
     ];
 
-    /// Its number, from 1 to 13.
+    /// Its number, from 1 to 14.
     pub fn number(self) -> u8 {
         self as u8
     }
@@ -84,6 +88,7 @@ impl Refusal {
             Refusal::NoYaku => "no reading has a yaku",
             Refusal::NoSuchReading => "there are not more readings than the number asked for",
             Refusal::BasicPoints => "basic points above 152,000",
+            Refusal::Indicators => "an indicator is above 33, or there are more than ten",
         }
     }
 }
@@ -120,7 +125,7 @@ mod tests {
             assert_eq!(accepted(place + 1), Err(refusal));
         }
         assert_eq!(Refusal::from_number(0), None);
-        assert_eq!(Refusal::from_number(14), None);
+        assert_eq!(Refusal::from_number(15), None);
         assert_eq!(accepted(0), Ok(()));
     }
 

@@ -1,7 +1,7 @@
 //! Scores, levels and payments (agari's `scoring.rs`).
 
 use crate::OTHER_VERSION;
-use crate::context::{GameContext, WinType};
+use crate::context::{DoraCount, GameContext, WinType};
 use crate::ffi;
 use crate::hand::{Meld, lent};
 use crate::refusal::{Refusal, accepted};
@@ -106,7 +106,7 @@ impl Payment {
 pub struct ScoringResult {
     /// Fu
     pub fu: FuResult,
-    /// Han
+    /// Han: of the yaku and the dora, and of the yaku alone where there is a yakuman
     pub han: u8,
     /// The level of han and fu
     pub score_level: ScoreLevel,
@@ -116,7 +116,7 @@ pub struct ScoringResult {
     pub payment: Payment,
     /// Is the winner the dealer?
     pub is_dealer: bool,
-    /// Is it a yakuman by 13 or more han alone?
+    /// Is it a yakuman by 13 or more han alone, dora among them?
     pub is_counted_yakuman: bool,
 }
 
@@ -125,13 +125,21 @@ pub struct ScoringResult {
 pub struct ScoredWin {
     /// The number of the reading: its place in what [`decompose_hand`](crate::decompose_hand) answers
     pub reading: usize,
-    /// Its yaku
+    /// Its yaku and dora
     pub yaku_result: YakuResult,
     /// Its han, fu, level, basic points and payment
     pub result: ScoringResult,
 }
 
 impl ScoredWin {
+    /// The dora of hand and calls. Beside a yakuman they are counted too, though han does not take them
+    pub fn dora(&self) -> DoraCount {
+        DoraCount {
+            regular: self.yaku_result.regular_dora,
+            ura: self.yaku_result.ura_dora,
+        }
+    }
+
     fn of(answer: &ffi::ScoreAnswer, context: &GameContext) -> Result<ScoredWin, Refusal> {
         accepted(answer.number)?;
         let yaku_result = YakuResult::of(answer);
@@ -163,9 +171,9 @@ impl ScoredWin {
 }
 
 /// Scores a win by the reading with a yaku that pays most: the greatest total, then a yakuman before none,
-/// then more han, then more fu, then the earlier record.
+/// then more han, then more fu, then the earlier record. Dora alone are no yaku.
 ///
-/// Refuses with 1 to 6, 8, 9, 10, 11.
+/// Refuses with 1 to 6, 8, 14, 9, 10, 11.
 pub fn score_win(
     counts: &[u8],
     calls: &[Meld],
@@ -176,9 +184,10 @@ pub fn score_win(
 }
 
 /// Scores reading number `n` of [`decompose_hand`](crate::decompose_hand), with a yaku or without: where
-/// it has none, han is 0 and the points are those of 0 han.
+/// it has none, its han are its dora, and the points are those of so many han. [`score_win`] never chooses
+/// such a reading, whatever it would pay.
 ///
-/// Refuses with 1 to 6, 8, 9, 12.
+/// Refuses with 1 to 6, 8, 14, 9, 12.
 pub fn score_reading(
     counts: &[u8],
     calls: &[Meld],

@@ -52,7 +52,7 @@ impl WaitType {
 /// The waits of reading number `n` of [`decompose_hand`](crate::decompose_hand), in the order of
 /// [`WaitType::ALL`], each once for each part of the reading that the winning tile may have completed.
 ///
-/// Refuses with 1 to 6, 8, 9, 12.
+/// Refuses with 1 to 6, 8, 14, 9, 12.
 pub fn detect_wait_types(
     counts: &[u8],
     calls: &[Meld],

@@ -1,5 +1,7 @@
 //! The yaku of a reading (agari's `yaku.rs`).
 
+use crate::OTHER_VERSION;
+use crate::context::DoraCount;
 use crate::ffi;
 use crate::tile::Honor;
 use crate::wait::each_as_often;
@@ -208,24 +210,54 @@ impl Yaku {
     }
 }
 
-/// The yaku of a reading.
+/// The yaku of a reading, and its dora, which are han but no yaku.
 #[derive(Debug, Clone, PartialEq, Eq)]
 pub struct YakuResult {
     /// The yaku in the order of [`Yaku::ALL`], each as often as it stands
     pub yaku_list: Vec<Yaku>,
-    /// Their han, open or closed as the hand is
+    /// Their han, open or closed as the hand is, without dora
     pub total_han: u8,
-    /// Is there a yakuman among them?
+    /// The dora of hand and calls, of both sorts together, counted beside a yakuman too
+    pub dora_count: u8,
+    /// Those by the dora indicators
+    pub regular_dora: u8,
+    /// Those by the ura dora indicators; 0 where there is no riichi
+    pub ura_dora: u8,
+    /// Is there a yakuman among the yaku?
     pub is_yakuman: bool,
 }
 
 impl YakuResult {
+    /// The han of the score: those of the yaku and the dora, and of the yaku alone where there is a
+    /// yakuman
+    pub fn total_han_with_dora(&self) -> u8 {
+        self.total_han + added_dora(self.dora_count, self.is_yakuman)
+    }
+
+    /// What the library answers, whose han are those of the score.
     pub(crate) fn of(answer: &ffi::ScoreAnswer) -> YakuResult {
+        let is_yakuman = answer.is_yakuman != 0;
+        let dora = DoraCount {
+            regular: answer.regular_dora,
+            ura: answer.ura_dora,
+        };
+        let added = added_dora(dora.total(), is_yakuman);
         YakuResult {
             yaku_list: each_as_often(&Yaku::ALL, &answer.tallies),
-            total_han: answer.han,
-            is_yakuman: answer.is_yakuman != 0,
+            total_han: answer.han.checked_sub(added).expect(OTHER_VERSION),
+            dora_count: dora.total(),
+            regular_dora: dora.regular,
+            ura_dora: dora.ura,
+            is_yakuman,
         }
+    }
+}
+
+/// How many of the dora are han: none where there is a yakuman.
+fn added_dora(dora_count: u8, is_yakuman: bool) -> u8 {
+    match is_yakuman {
+        true => 0,
+        false => dora_count,
     }
 }
 

@@ -51,6 +51,9 @@ fn a_pair_of_east_gives_four_or_two() {
     let menzen_tsumo = YakuResult {
         yaku_list: vec![Yaku::MenzenTsumo],
         total_han: 1,
+        dora_count: 0,
+        regular_dora: 0,
+        ura_dora: 0,
         is_yakuman: false,
     };
     for (fu, scored) in SETTINGS.into_iter().zip([four, two]) {

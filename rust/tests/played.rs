@@ -44,6 +44,9 @@ fn closed_pinfu_by_tsumo() {
         yaku_result: YakuResult {
             yaku_list: vec![Yaku::MenzenTsumo, Yaku::Pinfu],
             total_han: 2,
+            dora_count: 0,
+            regular_dora: 0,
+            ura_dora: 0,
             is_yakuman: false,
         },
         result: ScoringResult {

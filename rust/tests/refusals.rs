@@ -151,6 +151,68 @@ fn number_9_a_winning_tile_that_the_hand_does_not_hold() {
     }
 }
 
+/// Indicators that are refused: one that is no tile among others, and more than ten.
+fn bad_indicators() -> [Vec<Tile>; 6] {
+    let no_tile = Tile::suited(Suit::Pin, 0);
+    let shown = |number: usize| vec![tile("4m"); number];
+    [
+        vec![no_tile],
+        [&shown(9)[..], &[no_tile]].concat(),
+        shown(11),
+        shown(255),
+        shown(256),
+        shown(300),
+    ]
+}
+
+#[test]
+fn number_14_bad_indicators_of_either_sort() {
+    for bad in bad_indicators() {
+        for context in [ron("8s"), ron("8s").riichi()] {
+            for context in [context.with_dora(&bad), context.with_ura_dora(&bad)] {
+                wins_refused(&counts(PINFU), &[], &context, Refusal::Indicators);
+            }
+        }
+    }
+    // Ten of each sort are taken, also in place of too many.
+    let [ten, eleven] = [10, 11].map(|number| vec![tile("4m"); number]);
+    let context = ron("8s").with_dora(eleven).with_dora(&ten);
+    let context = context.with_ura_dora(ten);
+    assert_eq!(refusals(&counts(PINFU), &[], &context), [None; 4]);
+}
+
+#[test]
+fn number_14_comes_after_8_and_before_9() {
+    let thirteen = counts("1235m456p234678s");
+    let no_reading = counts("12345m456p234678s");
+    for bad in bad_indicators() {
+        let dragon = GameContext {
+            round_wind: Honor::White,
+            ..ron("8s")
+        };
+        let none = GameContext {
+            winning_tile: None,
+            ..ron("8s")
+        };
+        let neither = GameContext {
+            winning_tile: None,
+            ..dragon
+        };
+        for (context, refusal) in [
+            (ron("8s"), Refusal::Indicators),
+            (dragon, Refusal::OutOfRange),
+            (none, Refusal::Indicators),
+            (neither, Refusal::OutOfRange),
+        ] {
+            for context in [context.with_dora(&bad), context.with_ura_dora(&bad)] {
+                wins_refused(&counts(PINFU), &[], &context, refusal);
+                wins_refused(&no_reading, &[], &context, refusal);
+                all_refuse(&thirteen, &[], &context, Refusal::NumberOfTiles);
+            }
+        }
+    }
+}
+
 #[test]
 fn numbers_10_and_12_no_reading() {
     let hand = counts("12345m456p234678s");
@@ -165,6 +227,10 @@ fn numbers_10_and_12_no_reading() {
 fn number_11_no_yaku() {
     let calls = [Meld::shuntsu_open(tile("1m"))];
     let win = score_win(&counts("55m456p234678s"), &calls, &ron("8s"));
+    assert_eq!(win, Err(Refusal::NoYaku));
+    // Dora alone are no yaku.
+    let shown = ron("8s").with_dora([tile("4m"); 10]);
+    let win = score_win(&counts("55m456p234678s"), &calls, &shown);
     assert_eq!(win, Err(Refusal::NoYaku));
 }
 

@@ -1,10 +1,12 @@
 //! Compares what the program for referees, target/bin/score, reads with what agari's parser reads: random
 //! texts of tiles, honors by letter, calls in brackets and blanks, good and bad ones. Where both read a
-//! text, tiles, calls and whether there are red fives have to be the same. Where one of them alone does,
-//! the text has to show one of the differences that docs/DIFFERENCES.md lists under 'Notation'.
+//! text, tiles and calls have to be the same. Where one of them alone does, the text has to show one of
+//! the differences that docs/DIFFERENCES.md lists under 'Notation', a red five among them.
 //!
-//! Words for the room's setting, which agari has not, stand before, behind or inside of what the program
-//! is given. It has to take one of them, and to refuse a second.
+//! Words that agari's texts have not stand before, behind or between what the program is given. Of those
+//! for the room's setting it has to take one, and to refuse a second. Of those for indicators it has to
+//! take the tiles of dora and those of ura, each in their order, to refuse a word that names no tiles,
+//! and to lose none: of more than ten it writes no hand.
 //!
 //! Prints how many texts there were of each sort and how many differ; exits with status 1 if any does.
 
@@ -13,7 +15,6 @@ use agari_core::parse::ParsedHand;
 use agari_core::tile::{Suit, Tile};
 use compare::arguments::{self, Options};
 use compare::faults::listed_from;
-use compare::library::{FOUR, TWO};
 use compare::rng::Rng;
 use compare::{agari, answers};
 use std::collections::BTreeMap;
@@ -23,18 +24,36 @@ use std::process::{Command, ExitCode};
 const USAGE: &str = "usage: notation [--seed N] [--texts N]";
 const TEXTS: u64 = 20_000;
 
-/// A hand as it was read: in the words of the program, whether it has red fives, and the room's setting.
+/// What stands for the words behind the winds where the program writes no hand.
+const NOT_WRITTEN: &str = "not written";
+
+/// A hand as it was read: tiles and calls in the words of the program, and what stands behind the winds.
 #[derive(PartialEq)]
 struct Read {
     words: String,
-    has_reds: bool,
-    setting: u8,
+    behind: String,
 }
 
-/// What the program is given: a text, and words for the room's setting.
+/// A word for indicators, of ura or of dora, with the tiles that it names; none where it is no word of
+/// tiles.
+struct Indicating {
+    is_ura: bool,
+    word: String,
+    tiles: Vec<usize>,
+}
+
+/// What is said beside each other, in any order.
+enum Piece {
+    Text,
+    Won,
+    Setting(&'static str),
+    Indicators(Indicating),
+}
+
+/// What the program is given: a text and words beside it, and their arguments.
 struct Given {
     text: String,
-    settings: Vec<&'static str>,
+    pieces: Vec<Piece>,
     arguments: Vec<String>,
 }
 
@@ -116,33 +135,158 @@ fn settings(rng: &mut Rng) -> Vec<&'static str> {
     (0..words).map(|_| word(rng)).collect()
 }
 
-/// A text, with each word for the setting somewhere before or behind it, at times in one argument.
-fn given(rng: &mut Rng) -> Given {
-    let text = text(rng);
-    let settings = settings(rng);
-    let mut arguments: Vec<String> = [&text, "ron 1m"].map(String::from).to_vec();
-    for word in &settings {
-        let place = rng.below(arguments.len());
-        match rng.below(3) {
-            0 => arguments.insert(place, word.to_string()),
-            1 => arguments.push(word.to_string()),
-            _ => arguments[place].insert_str(0, &format!("{word} ")),
+/// Tiles as they may be written: by number and suit, those of a suit together or apart, honors also by
+/// letter; seldom with a blank behind a number.
+fn spelled(rng: &mut Rng, tiles: &[usize]) -> String {
+    let mut word = String::new();
+    for &tile in tiles {
+        let letter = ["m", "p", "s", "z"][tile / 9];
+        if tile >= 27 && rng.percent(50) {
+            word += ["e", "s", "w", "n", "wh", "g", "r"][tile - 27];
+            continue;
+        }
+        let number = word
+            .strip_suffix(letter)
+            .and_then(|word| word.chars().last());
+        if number.is_some_and(|c| c.is_ascii_digit()) && rng.percent(50) {
+            word.pop();
+        }
+        word += &named(tile, 1);
+    }
+    let number = word.chars().nth_back(1);
+    if number.is_some_and(|c| c.is_ascii_digit()) && rng.percent(5) {
+        word.insert(word.len() - 1, ' ');
+    }
+    word
+}
+
+/// A word for indicators: a few tiles, often the same, seldom many, and seldom a word that names none.
+fn indicating(rng: &mut Rng) -> Indicating {
+    let count = [1 + rng.below(2), 1 + rng.below(6), 8 + rng.below(5)][rng.share(&[70, 20, 10])];
+    let often = rng.below(34);
+    let tile = |rng: &mut Rng| [often, rng.below(34)][rng.share(&[30, 70])];
+    let mut tiles: Vec<usize> = (0..count).map(|_| tile(rng)).collect();
+    let mut word = spelled(rng, &tiles);
+    if rng.percent(5) {
+        word = rng
+            .pick(&["0m", "50s", "8z", "q", "3mx", "m", "(1m)"])
+            .to_string();
+        tiles.clear();
+    }
+    Indicating {
+        is_ura: rng.percent(40),
+        word,
+        tiles,
+    }
+}
+
+impl Piece {
+    /// The words of a piece, that of a text as it stands.
+    fn words(&self, text: &str) -> Vec<String> {
+        let words = match self {
+            Piece::Text => vec![text],
+            Piece::Won => vec!["ron", "1m"],
+            Piece::Setting(word) => vec![*word],
+            Piece::Indicators(said) if said.is_ura => vec!["ura", &said.word],
+            Piece::Indicators(said) => vec!["dora", &said.word],
+        };
+        words.into_iter().map(String::from).collect()
+    }
+}
+
+/// The words as arguments, some of them in one. A text, which may end with a number, ends its own.
+fn arguments_of(rng: &mut Rng, pieces: &[Piece], text: &str) -> Vec<String> {
+    let mut arguments: Vec<String> = Vec::new();
+    let mut is_ended = true;
+    for piece in pieces {
+        for word in piece.words(text) {
+            match arguments.last_mut() {
+                Some(last) if !is_ended && rng.percent(50) => *last += &format!(" {word}"),
+                _ => arguments.push(word),
+            }
+            is_ended = matches!(piece, Piece::Text);
         }
     }
+    arguments
+}
+
+/// A text, with the winning tile, words for the setting and words for indicators around it.
+fn given(rng: &mut Rng) -> Given {
+    let text = text(rng);
+    let mut beside: Vec<Piece> = settings(rng).into_iter().map(Piece::Setting).collect();
+    let words = [0, 1 + rng.below(2), 3 + rng.below(3)][rng.share(&[40, 45, 15])];
+    beside.extend((0..words).map(|_| Piece::Indicators(indicating(rng))));
+    let mut pieces = vec![Piece::Text, Piece::Won];
+    for piece in beside {
+        pieces.insert(rng.below(pieces.len() + 1), piece);
+    }
+    let arguments = arguments_of(rng, &pieces, &text);
     Given {
         text,
-        settings,
+        pieces,
         arguments,
     }
 }
 
-/// The setting that words for it say: four without one, and nothing where there are two.
-fn setting_of(words: &[&str]) -> Option<u8> {
-    match words {
-        [] => Some(FOUR),
-        [word] if word.ends_with('2') => Some(TWO),
-        [_] => Some(FOUR),
-        _ => None,
+// ---- what the words beside a text say
+
+impl Given {
+    /// The words for the room's setting.
+    fn settings(&self) -> Vec<&'static str> {
+        let setting = |piece: &Piece| match piece {
+            Piece::Setting(word) => Some(*word),
+            _ => None,
+        };
+        self.pieces.iter().filter_map(setting).collect()
+    }
+
+    /// The words for indicators.
+    fn indicators(&self) -> impl Iterator<Item = &Indicating> {
+        self.pieces.iter().filter_map(|piece| match piece {
+            Piece::Indicators(said) => Some(said),
+            _ => None,
+        })
+    }
+
+    /// The tiles of a sort of indicators, in their order.
+    fn shown(&self, is_ura: bool) -> Vec<usize> {
+        let of_sort = self.indicators().filter(|said| said.is_ura == is_ura);
+        of_sort.flat_map(|said| said.tiles.clone()).collect()
+    }
+
+    /// Is there a word for indicators that names no tiles?
+    fn has_bad_indicator(&self) -> bool {
+        self.indicators().any(|said| said.tiles.is_empty())
+    }
+
+    /// Are there more than ten indicators of a sort?
+    fn has_many_indicators(&self) -> bool {
+        self.shown(false).len() > 10 || self.shown(true).len() > 10
+    }
+
+    /// The indicators of a sort as the program says them; nothing where there are none.
+    fn indicators_said(&self, word: &str, is_ura: bool) -> String {
+        let shown = self.shown(is_ura);
+        let tiles: String = shown.iter().map(|&number| named(number, 1)).collect();
+        if tiles.is_empty() {
+            tiles
+        } else {
+            format!(" {word} {tiles}")
+        }
+    }
+
+    /// What the program says behind the winds: a setting of two, and the indicators of each sort. Nothing
+    /// where there are two settings.
+    fn behind(&self) -> Option<String> {
+        let setting = match self.settings()[..] {
+            [] => "",
+            [word] if word.ends_with('2') => " double-wind-2",
+            [_] => "",
+            _ => return None,
+        };
+        let dora = self.indicators_said("dora", false);
+        let ura = self.indicators_said("ura", true);
+        Some(format!("{setting}{dora}{ura}"))
     }
 }
 
@@ -155,11 +299,15 @@ fn number_of(tile: Tile) -> usize {
         .expect("a tile") as usize
 }
 
-/// Tiles of a kind in the notation of the program, as 88s.
-fn alike(tile: Tile, times: usize) -> String {
-    let number = number_of(tile);
+/// Tiles with a number in the notation of the program, as 88s.
+fn named(number: usize, times: usize) -> String {
     let letter = ["m", "p", "s", "z"][number / 9];
     (number % 9 + 1).to_string().repeat(times) + letter
+}
+
+/// Tiles of a kind, likewise.
+fn alike(tile: Tile, times: usize) -> String {
+    named(number_of(tile), times)
 }
 
 /// A sequence, as 234m.
@@ -203,30 +351,31 @@ fn tiles(tiles: &[Tile]) -> String {
     words.collect()
 }
 
-/// What agari read, as the program would say it with this setting: all but a closed meld in brackets can
-/// be said.
-fn in_words(parsed: &ParsedHand, setting: u8) -> Option<Read> {
+/// What agari read, as the program would say it with this behind the winds, or, where there are more
+/// than ten indicators, not at all: all but a closed meld in brackets can be said.
+fn in_words(parsed: &ParsedHand, behind: Option<&str>) -> Option<Read> {
     let calls: Option<String> = parsed
         .called_melds
         .iter()
         .map(|called| call(&called.meld))
         .collect();
-    Some(match parsed.called_melds.len() {
-        0..=4 => Read {
-            words: tiles(&parsed.tiles) + &calls?,
-            has_reds: parsed.aka_count > 0,
-            setting,
+    let words = tiles(&parsed.tiles) + &calls?;
+    Some(match (parsed.called_melds.len(), behind) {
+        (0..=4, Some(behind)) => Read {
+            words,
+            behind: behind.to_string(),
         },
-        count => too_many(&format!("{count} calls")),
+        (0..=4, None) => not_written(""),
+        (count, _) => not_written(&format!("{count} calls")),
     })
 }
 
-/// More than four calls, of which the program says only how many there are.
-fn too_many(calls: &str) -> Read {
+/// A hand that the program does not write, as it has more than four calls, of which it says how many
+/// there are, or more than ten indicators.
+fn not_written(calls: &str) -> Read {
     Read {
         words: calls.to_string(),
-        has_reds: false,
-        setting: FOUR,
+        behind: NOT_WRITTEN.to_string(),
     }
 }
 
@@ -238,18 +387,16 @@ fn by_program(arguments: &[String]) -> Option<Read> {
     let output = output.expect("target/bin/score, made by `rt check score`");
     let written = String::from_utf8(output.stdout).expect("text");
     if let Some((_, count)) = written.split_once("more than four calls: ") {
-        return Some(too_many(count.trim_end()));
+        return Some(not_written(count.trim_end()));
     }
-    let line = written.lines().next()?.strip_prefix("hand:")?;
-    let (hand, setting) = line.split_once(" ron 1m round east seat south")?;
+    let Some(line) = written.lines().next()?.strip_prefix("hand:") else {
+        let last = written.lines().last()?;
+        return last.starts_with("answer: refused").then(|| not_written(""));
+    };
+    let (hand, behind) = line.split_once(" ron 1m round east seat south")?;
     Some(Read {
         words: hand.to_string(),
-        has_reds: written.contains("note: red fives"),
-        setting: match setting {
-            "" => FOUR,
-            " double-wind-2" => TWO,
-            _ => 0,
-        },
+        behind: behind.to_string(),
     })
 }
 
@@ -270,7 +417,9 @@ fn why_refused(text: &str, parsed: &ParsedHand) -> Option<&'static str> {
         Some("a suit without numbers")
     } else if pairs.iter().any(is_kept) {
         Some("numbers kept over a bracket")
-    } else if in_words(parsed, FOUR).is_none() {
+    } else if parsed.aka_count > 0 {
+        Some("a red five")
+    } else if in_words(parsed, None).is_none() {
         Some("closed melds in brackets")
     } else {
         None
@@ -298,16 +447,20 @@ fn why_read(text: &str) -> Option<&'static str> {
 fn compared(given: &Given) -> (&'static str, bool) {
     let read = by_program(&given.arguments);
     let text = &given.text;
-    let Some(setting) = setting_of(&given.settings) else {
+    let Some(behind) = given.behind() else {
         return ("refused for a second setting", read.is_some());
     };
+    if given.has_bad_indicator() {
+        return ("refused for an indicator that is none", read.is_some());
+    }
+    let behind = (!given.has_many_indicators()).then_some(behind.as_str());
     let Ok(agari) = panic::catch_unwind(|| answers::parsed(text)) else {
         let is_read = read.is_some();
         return ("agari panics: an honor that is none, in brackets", is_read);
     };
     match (agari, read) {
         (None, None) => ("refused by both", false),
-        (Some(parsed), Some(read)) => match in_words(&parsed, setting) {
+        (Some(parsed), Some(read)) => match in_words(&parsed, behind) {
             Some(words) if words == read => ("read alike", false),
             _ => ("read by both, and not alike", true),
         },
@@ -315,10 +468,42 @@ fn compared(given: &Given) -> (&'static str, bool) {
             Some(why) => (why, false),
             None => ("agari alone reads it", true),
         },
-        (None, Some(_)) => match why_read(text) {
-            Some(why) => (why, false),
+        (None, Some(read)) => match why_read(text) {
+            Some(why) => (why, read.behind != behind.unwrap_or(NOT_WRITTEN)),
             None => ("the program alone reads it", true),
         },
+    }
+}
+
+/// How many inputs there were with so many words for the setting, and with which indicators.
+#[derive(Default)]
+struct Beside {
+    settings: [u64; 3],
+    dora: u64,
+    ura: u64,
+    many: u64,
+    bad: u64,
+}
+
+impl Beside {
+    /// One more.
+    fn count(&mut self, given: &Given) {
+        self.settings[given.settings().len()] += 1;
+        self.dora += u64::from(!given.shown(false).is_empty());
+        self.ura += u64::from(!given.shown(true).is_empty());
+        self.many += u64::from(given.has_many_indicators());
+        self.bad += u64::from(given.has_bad_indicator());
+    }
+
+    fn print(&self) {
+        let settings = listed_from(0, &self.settings);
+        println!("by words for the room's setting: {settings}");
+        println!(
+            "with indicators of dora: {}, of ura: {}",
+            self.dora, self.ura
+        );
+        println!("with more than ten of a sort: {}", self.many);
+        println!("with a word for indicators that names none: {}", self.bad);
     }
 }
 
@@ -329,21 +514,20 @@ fn main() -> ExitCode {
         let texts = options.number("--texts").unwrap_or(TEXTS);
         panic::set_hook(Box::new(|_| ()));
         let mut sorts: BTreeMap<&str, u64> = BTreeMap::new();
-        let mut with_setting = [0; 3];
+        let mut beside = Beside::default();
         let mut differ = 0;
         for _ in 0..texts {
             let given = given(&mut rng);
             let (sort, differs) = compared(&given);
             *sorts.entry(sort).or_default() += 1;
-            with_setting[given.settings.len()] += 1;
+            beside.count(&given);
             if differs {
                 differ += 1;
                 println!("{:?}: {sort}", given.arguments);
             }
         }
         println!("texts {texts}, differ: {differ}");
-        let said = listed_from(0, &with_setting);
-        println!("by words for the room's setting: {said}");
+        beside.print();
         for (sort, count) in sorts {
             println!("{count:>8}  {sort}");
         }

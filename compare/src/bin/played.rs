@@ -18,23 +18,25 @@
 //! | 171..175  | win type, winning tile, round wind, seat wind                                |
 //! | 175..183  | riichi, double riichi, ippatsu, rinshan, chankan, last tile, tenhou, chiihou |
 //! | 183       | the setting: fu of a pair that is both round and seat wind                   |
-//! | 184, 185  | listing: the answer's number, the count of readings                          |
-//! | 186, 187  | the win: the answer's number, the chosen reading                             |
-//! | 188, 189  | how many readings are scored, and the number that refuses the one after them |
-//! | 190       | what is played: 0 a hand, 1 han and fu, 2 basic points                       |
-//! | 191..194  | han, fu, whether there is a yakuman                                          |
-//! | 194, 195  | win type, whether the dealer wins                                            |
-//! | 196       | payment: the answer's number                                                 |
+//! | 184..195  | how many indicators there are, and ten of them                               |
+//! | 195..206  | how many ura indicators there are, and ten of them                           |
+//! | 206, 207  | listing: the answer's number, the count of readings                          |
+//! | 208, 209  | the win: the answer's number, the chosen reading                             |
+//! | 210, 211  | how many readings are scored, and the number that refuses the one after them |
+//! | 212       | what is played: 0 a hand, 1 han and fu, 2 basic points                       |
+//! | 213..216  | han, fu, whether there is a yakuman                                          |
+//! | 216, 217  | win type, whether the dealer wins                                            |
+//! | 218       | payment: the answer's number                                                 |
 //! | 256..1024 | a slot of 96 bytes for each reading; of points, the first                    |
 //!
-//! A slot holds 47 yaku tallies, 6 wait tallies, han, fu, whether it is a yakuman, the level and the
-//! count of yakuman, each in one byte; then from its byte 60 on in four bytes each basic points, what
-//! each non-dealer, the dealer and the discarder pays, and the total.
+//! A slot holds 47 yaku tallies, 6 wait tallies, han, fu, whether it is a yakuman, the level, the count of
+//! yakuman, the dora and the ura dora, each in one byte; then from its byte 60 on in four bytes each basic
+//! points, what each non-dealer, the dealer and the discarder pays, and the total.
 
 use compare::agari_scores::{WAIT_ENTRIES, YAKU_ENTRIES, basic_points, level, payment};
 use compare::arguments;
 use compare::hand::*;
-use compare::library::{FOUR, Level, PaymentAnswer, RON, Score, TSUMO, WAITS, Win};
+use compare::library::{FOUR, Indicators, Level, PaymentAnswer, RON, Score, TSUMO, WAITS, Win};
 use compare::oracle::Expected;
 use compare::rows::{EAST, FLAGS, Row, SOUTH, Term};
 use compare::stored::put_win;
@@ -47,12 +49,13 @@ use std::path::Path;
 use std::process::ExitCode;
 
 /// The files of rows, each by its crate and its name, in the order in which they are played.
-const TABLES: [(&str, &str); 8] = [
+const TABLES: [(&str, &str); 9] = [
     ("played", "Played"),
     ("worked_hands", "OneHan"),
     ("worked_hands", "MoreHan"),
     ("worked_hands", "Yakuman"),
     ("worked_hands", "Fu"),
+    ("worked_hands", "Dora"),
     ("worked_hands", "Points"),
     ("worked_hands", "Readings"),
     ("worked_hands", "Refusals"),
@@ -189,6 +192,8 @@ fn put_reading(slot: &mut [u8], score: &Score, waits: &[u8; WAITS]) {
     slot[55] = score.is_yakuman;
     slot[56] = score.level;
     slot[57] = score.yakuman_count;
+    slot[58] = score.regular_dora;
+    slot[59] = score.ura_dora;
     put_points(slot, score.basic_points, &paid(score));
 }
 
@@ -200,13 +205,13 @@ fn hand_record(title: &str, hand: &Hand, win: &Win, expected: &ExpectedWin) -> [
     let mut record = [0; RECORD];
     put_text(&mut record, &format!("{title}: {}", written(hand, win)));
     put_hand(&mut record, hand);
-    put_win(&mut record[171..184], win);
-    record[184] = listing.number as u8;
-    record[185] = listing.readings as u8;
-    record[186] = chosen.number as u8;
-    record[187] = chosen.reading as u8;
-    record[188] = readings as u8;
-    record[189] = expected.score_reading(readings).number as u8;
+    put_win(&mut record[171..206], win);
+    record[206] = listing.number as u8;
+    record[207] = listing.readings as u8;
+    record[208] = chosen.number as u8;
+    record[209] = chosen.reading as u8;
+    record[210] = readings as u8;
+    record[211] = expected.score_reading(readings).number as u8;
     for (place, (score, waits)) in expected.scores.iter().zip(&expected.waits).enumerate() {
         put_reading(&mut record[SLOTS + SLOT * place..][..SLOT], score, waits);
     }
@@ -225,13 +230,13 @@ fn points_record(title: &str, points: &Points, win_type: u8, dealer: bool) -> [u
     let slot = &mut [0; SLOT];
     let (basic, text) = match *points {
         Points::Basic(basic) => {
-            record[190] = 2;
+            record[212] = 2;
             (basic, format!("basic {basic}"))
         }
         Points::Han(han, fu, is_yakuman) => {
             let Level { level, count } = level(han, fu, is_yakuman);
-            record[190] = 1;
-            record[191..194].copy_from_slice(&[han, fu, u8::from(is_yakuman)]);
+            record[212] = 1;
+            record[213..216].copy_from_slice(&[han, fu, u8::from(is_yakuman)]);
             slot[56] = level;
             slot[57] = count;
             let yakuman = if is_yakuman { " yakuman" } else { "" };
@@ -246,10 +251,10 @@ fn points_record(title: &str, points: &Points, win_type: u8, dealer: bool) -> [u
         &mut record,
         &format!("{title}: {text}, {who}{}", type_name(win_type)),
     );
-    record[194] = win_type;
-    record[195] = u8::from(dealer);
+    record[216] = win_type;
+    record[217] = u8::from(dealer);
     let paid = payment(basic, dealer, win_type);
-    record[196] = paid.number as u8;
+    record[218] = paid.number as u8;
     put_points(slot, basic, &paid);
     record[SLOTS..][..SLOT].copy_from_slice(slot);
     record
@@ -270,9 +275,28 @@ fn type_name(win_type: u8) -> String {
     }
 }
 
-/// A hand and its win in short: `12355m456p234678s, chi 1m, ron 8s seat=1z riichi double-wind-2`. What
-/// is usual is left out.
-fn written(hand: &Hand, win: &Win) -> String {
+/// Indicators in short, tiles of a suit together: `1123m5z`. One that is no tile stands by its number, and
+/// behind the first ten of more how many there are.
+fn indicator_names(indicators: &Indicators) -> String {
+    let shown = indicators.shown();
+    let mut text = String::new();
+    for (place, &tile) in shown.iter().enumerate() {
+        let is_same = |next: &u8| usize::from(*next) < KINDS && next / 9 == tile / 9;
+        let is_followed = shown.get(place + 1).is_some_and(is_same);
+        text += &match usize::from(tile) {
+            KINDS.. => format!("({tile})"),
+            _ if is_followed => (tile % 9 + 1).to_string(),
+            _ => tile_name(tile),
+        };
+    }
+    if shown.len() < usize::from(indicators.count) {
+        text += &format!("..({})", indicators.count);
+    }
+    text
+}
+
+/// A hand with its calls in short: `12355m456p234678s, chi 1m`.
+fn hand_names(hand: &Hand) -> String {
     let mut text = String::new();
     for (suit, counts) in ["m", "p", "s", "z"].iter().zip(hand.counts().chunks(9)) {
         let before = text.len();
@@ -293,11 +317,14 @@ fn written(hand: &Hand, win: &Win) -> String {
         };
         text += &format!(", {call} {}", tile_name(meld.tile));
     }
-    text += &format!(
-        ", {} {}",
-        type_name(win.win_type),
-        tile_name(win.winning_tile)
-    );
+    text
+}
+
+/// A hand and its win in short: `12355m456p234678s, chi 1m, ron 8s seat=1z riichi double-wind-2 dora 1m`.
+/// What is usual is left out.
+fn written(hand: &Hand, win: &Win) -> String {
+    let (by, tile) = (type_name(win.win_type), tile_name(win.winning_tile));
+    let mut text = format!("{}, {by} {tile}", hand_names(hand));
     for (name, wind, usual) in [
         ("round", win.round_wind, EAST),
         ("seat", win.seat_wind, SOUTH),
@@ -313,6 +340,11 @@ fn written(hand: &Hand, win: &Win) -> String {
     }
     if win.double_wind_fu != FOUR {
         text += &format!(" double-wind-{}", win.double_wind_fu);
+    }
+    for (name, sort) in ["dora", "ura"].iter().zip(win.indicators()) {
+        if sort.count > 0 {
+            text += &format!(" {name} {}", indicator_names(&sort));
+        }
     }
     text
 }
@@ -462,4 +494,57 @@ fn main() -> ExitCode {
         }
         Some(ExitCode::SUCCESS)
     })
+}
+
+#[cfg(test)]
+mod tests {
+    use super::*;
+
+    #[test]
+    fn indicators_are_written_with_the_win() {
+        let row = |win: &str| {
+            let hand =
+                Term::of("hand (mans 222333444 ++ pins 666 ++ sous 88)").hand(&Term::of("[]"));
+            written(&hand, &Term::of(win).win())
+        };
+        assert_eq!(row("tsumo (pin 6)"), "222333444m666p88s, tsumo 6p");
+        assert_eq!(
+            row(
+                "showing (replicate 2 (man 1) ++ (man 2 ∷ pin 9 ∷ Red ∷ 34 ∷ [])) [] (tsumo (pin 6))"
+            ),
+            "222333444m666p88s, tsumo 6p dora 112m9p7z(34)"
+        );
+        assert_eq!(
+            row("showing [] (replicate 11 (man 1)) (inRoom 2 (tsumo (pin 6)))"),
+            "222333444m666p88s, tsumo 6p double-wind-2 ura 1111111111m..(11)"
+        );
+    }
+
+    #[test]
+    fn a_row_with_indicators_is_played() {
+        let text = "won (hand (mans 222333444 ++ pins 666 ++ sous 88)) [] (showing (replicate 4 (man 1) ++ \
+            replicate 3 (man 2) ++ replicate 3 (man 3)) (man 1 ∷ []) (southWins byTsumo (pin 6) [])) [] \
+            (chooses 0)";
+        let row = Row {
+            name: "someRow".into(),
+            term: Term::of(text),
+        };
+        let record = play(&row).record;
+        let shown = [10, 0, 0, 0, 0, 1, 1, 1, 2, 2, 2];
+        assert_eq!(record[171..175], [1, 14, 27, 28]);
+        assert_eq!(record[184..195], shown);
+        assert_eq!(record[195..206], [1, 0, 0, 0, 0, 0, 0, 0, 0, 0, 0]);
+        // Two readings, of which the one with four triplets is chosen, with 30 dora and no ura.
+        assert_eq!(record[206..213], [0, 2, 0, 1, 2, 12, 0]);
+        let slot = &record[SLOTS + SLOT..][..SLOT];
+        assert_eq!(
+            (slot[53], slot[55], slot[56..60].to_vec()),
+            (13, 1, vec![5, 1, 30, 0])
+        );
+        let slot = &record[SLOTS..][..SLOT];
+        assert_eq!(
+            (slot[53], slot[55], slot[56..60].to_vec()),
+            (33, 0, vec![5, 1, 30, 0])
+        );
+    }
 }

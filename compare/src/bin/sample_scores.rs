@@ -1,6 +1,6 @@
 //! Writes a sample of readings with agari's scores, which a proved program replays.
 //!
-//! The file is a row of records of 128 bytes, zero where nothing stands, flags 0 or 1:
+//! The file is a row of records of 160 bytes, zero where nothing stands, flags 0 or 1:
 //!
 //! | bytes    | content                                                                       |
 //! |----------|-------------------------------------------------------------------------------|
@@ -12,12 +12,16 @@
 //! | 51..55   | win type, winning tile, round wind, seat wind                                 |
 //! | 55..63   | riichi, double riichi, ippatsu, rinshan, chankan, last tile, tenhou, chiihou  |
 //! | 63       | the setting: fu of a pair that is both round and seat wind                    |
-//! | 64       | whether the hand is open                                                      |
-//! | 65..112  | the yaku tallies                                                              |
-//! | 112..118 | the wait tallies                                                              |
-//! | 118      | han                                                                           |
-//! | 119      | fu                                                                            |
-//! | 120      | whether it is a yakuman                                                       |
+//! | 64..75   | how many indicators there are, and ten of them                                |
+//! | 75..86   | how many ura indicators there are, and ten of them                            |
+//! | 86       | whether the hand is open                                                      |
+//! | 87..134  | the yaku tallies                                                              |
+//! | 134..140 | the wait tallies                                                              |
+//! | 140      | han of the yaku, without dora                                                 |
+//! | 141      | fu                                                                            |
+//! | 142      | whether it is a yakuman                                                       |
+//!
+//! There is noise behind the counts of the indicators.
 
 use compare::agari_scores::{ReadHand, WAIT_ENTRIES, YAKU_ENTRIES};
 use compare::hand::{CLOSED_SEQUENCE, KINDS};
@@ -32,7 +36,7 @@ use std::ops::Range;
 use std::process::ExitCode;
 
 const SEED: u64 = 47;
-const RECORD: usize = 128;
+const RECORD: usize = 160;
 // Places among the yaku tallies and the wait tallies.
 const PINFU: usize = 4;
 const WINDS: Range<usize> = 6..10;
@@ -161,7 +165,7 @@ fn scored(rng: &mut Rng, read: &ReadHand, win: Win) -> Scored {
     Scored {
         reading: *reading,
         counts: read.counts,
-        win,
+        win: win.with_noise(rng),
         is_open: read.is_open,
         score: read.score(structure, &win),
         other_fu: read.fu(&other)[number],
@@ -186,13 +190,13 @@ fn record(scored: &Scored) -> [u8; RECORD] {
     }
     record[10..17].copy_from_slice(&reading.pairs);
     record[17..51].copy_from_slice(counts);
-    put_win(&mut record[51..64], win);
-    record[64] = u8::from(*is_open);
-    record[65..112].copy_from_slice(&score.tallies);
-    record[112..118].copy_from_slice(&score.waits);
-    record[118] = score.han;
-    record[119] = score.fu;
-    record[120] = score.is_yakuman;
+    put_win(&mut record[51..86], win);
+    record[86] = u8::from(*is_open);
+    record[87..134].copy_from_slice(&score.tallies);
+    record[134..140].copy_from_slice(&score.waits);
+    record[140] = score.han;
+    record[141] = score.fu;
+    record[142] = score.is_yakuman;
     record
 }
 
@@ -213,4 +217,28 @@ fn add_one(
 
 fn main() -> ExitCode {
     stored::write("sample_scores", SEED, parts(), ScoreTally::new(), add_one)
+}
+
+#[cfg(test)]
+mod tests {
+    use super::*;
+
+    #[test]
+    fn a_record_has_the_win_and_its_yaku_at_their_places() {
+        let mut rng = Rng::new(1);
+        for _ in 0..200 {
+            let scored = deal(&mut rng);
+            let record = record(&scored);
+            let [dora, ura] = scored.win.indicators();
+            assert_eq!(record[51], scored.win.win_type);
+            assert_eq!((record[64], &record[65..75]), (dora.count, &dora.tiles[..]));
+            assert_eq!((record[75], &record[76..86]), (ura.count, &ura.tiles[..]));
+            assert_eq!(record[86], u8::from(scored.is_open));
+            assert_eq!(record[87..134], scored.score.tallies);
+            assert_eq!(record[134..140], scored.score.waits);
+            let score = [scored.score.han, scored.score.fu, scored.score.is_yakuman];
+            assert_eq!(record[140..143], score);
+            assert_eq!(record[143..], [0; 17]);
+        }
+    }
 }

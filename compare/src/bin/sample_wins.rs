@@ -12,26 +12,32 @@
 //! | 51..55   | win type, winning tile, round wind, seat wind                                 |
 //! | 55..63   | riichi, double riichi, ippatsu, rinshan, chankan, last tile, tenhou, chiihou  |
 //! | 63       | the setting: fu of a pair that is both round and seat wind                    |
-//! | 64..66   | the number of a reading                                                       |
-//! | 66..140  | the score of the win                                                          |
-//! | 140..214 | the score of that reading                                                     |
-//! | 214      | the number answered where the waits of that reading are asked for             |
-//! | 215..221 | the wait tallies                                                              |
+//! | 64..75   | how many indicators there are, and ten of them                                |
+//! | 75..86   | how many ura indicators there are, and ten of them                            |
+//! | 86..88   | the number of a reading                                                       |
+//! | 88..164  | the score of the win                                                          |
+//! | 164..240 | the score of that reading                                                     |
+//! | 240      | the number answered where the waits of that reading are asked for             |
+//! | 241..247 | the wait tallies                                                              |
 //!
 //! A score is the answer's number, the number of the reading, 47 yaku tallies, han, fu, whether it is
-//! a yakuman, the level and the count of yakuman, each in one byte; then in four bytes each basic
-//! points, what each non-dealer, the dealer and the discarder pays, and the total.
+//! a yakuman, the level, the count of yakuman, the dora and the ura dora, each in one byte; then in four
+//! bytes each basic points, what each non-dealer, the dealer and the discarder pays, and the total. There
+//! is noise behind the counts of the indicators.
 
 use compare::agari_scores::YAKU_ENTRIES;
+use compare::differences::{self, FAULTS};
+use compare::dora_corners as corners;
+use compare::dora_wins;
 use compare::hand::Hand;
-use compare::library::{FOUR, SETTINGS, Score, TWO, Win};
+use compare::library::{FOUR, Indicators, SETTINGS, Score, TWO, Win};
 use compare::random;
 use compare::rng::Rng;
 use compare::stored::{self, MOST_CALLS, Sample, put_hand, put_u16, put_win};
 use compare::win_damage::{no_setting, with_faults};
 use compare::win_oracle::{CHECKS, ExpectedWin};
 use compare::win_tally::{
-    LEVELS, Operation, RULES, SETTING_NAMES, SETTLEMENTS, WinTally, settlement,
+    BAD_INDICATORS, LEVELS, Operation, RULES, SETTING_NAMES, SETTLEMENTS, WinTally, settlement,
 };
 use compare::wins;
 use std::process::ExitCode;
@@ -74,6 +80,9 @@ fn parts() -> Vec<Part> {
         }));
     }
     parts.extend(settings());
+    parts.extend(dora());
+    parts.extend(dora_choices());
+    parts.extend(bad_indicators());
     parts.extend(refusals());
     parts.push(Part::new("any", 300, any_win, |_| true));
     parts
@@ -142,6 +151,105 @@ fn settings() -> Vec<Part> {
 fn with_other_setting(dealt: &Dealt) -> Score {
     let other = FOUR + TWO - dealt.win.double_wind_fu;
     ExpectedWin::of(&dealt.hand, &dealt.win.in_room(other)).score_win()
+}
+
+/// So many wins with drawn indicators for each name, that pass the checks and are so at its place.
+fn shown<const N: usize>(
+    title: &str,
+    names: [&str; N],
+    records: usize,
+    are_so: fn(&Dealt) -> [bool; N],
+) -> Vec<Part> {
+    let part = |(place, name): (usize, &str)| {
+        let title = format!("{title}: {name}");
+        Part::new(&title, records, dora_wins::shown_win, move |dealt| {
+            !dealt.expected.faults.contains(&true) && are_so(dealt)[place]
+        })
+    };
+    names.into_iter().enumerate().map(part).collect()
+}
+
+/// Whether each place is this one.
+fn only<const N: usize>(place: usize) -> [bool; N] {
+    std::array::from_fn(|other| other == place)
+}
+
+/// Wins by number of indicators, by riichi and ura indicators, and by where their dora are.
+fn dora() -> Vec<Part> {
+    let mut parts = Vec::new();
+    for (place, name) in corners::NUMBERS.iter().enumerate() {
+        for (sort, what) in ["indicators", "ura indicators"].iter().enumerate() {
+            let title = format!("{name} {what}");
+            let deal = dora_wins::shown_win;
+            parts.push(Part::new(&title, 5, deal, move |dealt| {
+                corners::number(&dealt.win.indicators()[sort]) == place
+            }));
+        }
+    }
+    parts.extend(shown("riichi and ura", corners::RIICHI, 8, |dealt| {
+        only(corners::riichi(&dealt.win))
+    }));
+    parts.extend(shown("dora in", corners::PLACES, 10, |dealt| {
+        corners::places(&dealt.hand, &dealt.win)
+    }));
+    parts.extend(shown("dora shown by", corners::LAST, 10, |dealt| {
+        corners::last(&dealt.hand, &dealt.win)
+    }));
+    parts.extend(shown("indicators", corners::SHOWN, 15, |dealt| {
+        corners::shown(&dealt.hand, &dealt.win)
+    }));
+    parts
+}
+
+/// Wins whose score the indicators change, those with a yakuman by yaku or by han, those with a choice
+/// that han alone would have made otherwise, and those without a yaku.
+fn dora_choices() -> Vec<Part> {
+    let [han, level, total, _] = corners::CHANGES;
+    let mut parts = shown("indicators change", [han, level, total], 20, |dealt| {
+        let [han, level, total, _] = corners::changes(&without_indicators(dealt), &dealt.expected);
+        [han, level, total]
+    });
+    parts.extend(shown("chosen", corners::CHOSEN, 15, |dealt| {
+        corners::chosen(&without_indicators(dealt), &dealt.expected)
+    }));
+    parts.extend(shown("chosen", corners::CHOICES, 20, |dealt| {
+        corners::choices(&dealt.expected)
+    }));
+    parts.extend(shown("no yaku", corners::NO_YAKU, 20, |dealt| {
+        corners::no_yaku(&dealt.expected)
+    }));
+    parts
+}
+
+/// What is expected of the win without its indicators.
+fn without_indicators(dealt: &Dealt) -> ExpectedWin {
+    let none = [Indicators::default(); 2];
+    ExpectedWin::of(&dealt.hand, &dealt.win.showing(none))
+}
+
+/// Refusals with 14 in each way, and with 8, 14 and 9 at once.
+fn bad_indicators() -> Vec<Part> {
+    let mut parts = Vec::new();
+    let bad = |rng: &mut Rng| dora_wins::faulty_win(rng, [false, true, false]);
+    for (place, name) in BAD_INDICATORS.iter().enumerate() {
+        let title = format!("refusal 14 by {name} alone");
+        parts.push(Part::new(&title, 10, bad, move |dealt| {
+            let is_refused = dealt.expected.score_win().number == 14;
+            is_refused && differences::bad_indicators(&dealt.win) == only(place)
+        }));
+    }
+    for (place, name) in corners::REFUSED.iter().enumerate().take(2) {
+        let title = format!("refusal 14, {name}");
+        parts.push(Part::new(&title, 10, bad, move |dealt| {
+            corners::refused(&dealt.win, &dealt.expected)[place]
+        }));
+    }
+    let all = |rng: &mut Rng| dora_wins::faulty_win(rng, [true; 3]);
+    let title = "refusal 8, ground for 14 and 9 too";
+    parts.push(Part::new(title, 20, all, |dealt| {
+        dealt.expected.faults[FAULTS..] == [true; 3]
+    }));
+    parts
 }
 
 /// Each refusal, and each two faults at once.
@@ -248,6 +356,8 @@ fn put_score(record: &mut [u8], score: &Score) {
     record[51] = score.is_yakuman;
     record[52] = score.level;
     record[53] = score.yakuman_count;
+    record[54] = score.regular_dora;
+    record[55] = score.ura_dora;
     let points = [
         score.basic_points,
         score.from_non_dealer,
@@ -256,7 +366,7 @@ fn put_score(record: &mut [u8], score: &Score) {
         total,
     ];
     for (place, points) in points.iter().enumerate() {
-        record[54 + 4 * place..][..4].copy_from_slice(&points.to_le_bytes());
+        record[56 + 4 * place..][..4].copy_from_slice(&points.to_le_bytes());
     }
 }
 
@@ -266,18 +376,19 @@ fn record(dealt: &Dealt, number: usize) -> [u8; RECORD] {
     let waits = expected.name_waits(number);
     let mut record = [0; RECORD];
     put_hand(&mut record, &dealt.hand);
-    put_win(&mut record[51..64], &dealt.win);
-    put_u16(&mut record, 64, number);
-    put_score(&mut record[66..140], &expected.score_win());
-    put_score(&mut record[140..214], &expected.score_reading(number));
-    record[214] = waits.number as u8;
-    record[215..221].copy_from_slice(&waits.waits);
+    put_win(&mut record[51..86], &dealt.win);
+    put_u16(&mut record, 86, number);
+    put_score(&mut record[88..164], &expected.score_win());
+    put_score(&mut record[164..240], &expected.score_reading(number));
+    record[240] = waits.number as u8;
+    record[241..247].copy_from_slice(&waits.waits);
     record
 }
 
 /// Deals a win, and adds its record if it fits the part.
 fn add_one(part: &Part, rng: &mut Rng, tally: &mut WinTally, sample: &mut Sample<RECORD>) -> bool {
     let (hand, win) = (part.deal)(rng);
+    let win = win.with_noise(rng);
     let mut hand = hand.with_noise(rng);
     hand.calls.count = hand.calls.count.min(MOST_CALLS);
     let expected = ExpectedWin::of(&hand, &win);
@@ -307,4 +418,44 @@ fn add_one(part: &Part, rng: &mut Rng, tally: &mut WinTally, sample: &mut Sample
 
 fn main() -> ExitCode {
     stored::write("sample_wins", SEED, parts(), WinTally::default(), add_one)
+}
+
+#[cfg(test)]
+mod tests {
+    use super::*;
+    use compare::library::TSUMO;
+    use compare::wins::held_tiles;
+
+    #[test]
+    fn a_record_has_the_win_and_both_scores_at_their_places() {
+        let mut hand = Hand::empty();
+        // Man 123 55, pin 456, sou 234 678.
+        for tile in [0, 1, 2, 4, 4, 12, 13, 14, 19, 20, 21, 23, 24, 25] {
+            hand.counts[tile] += 1;
+        }
+        assert_eq!(held_tiles(&hand).len(), 13);
+        // Man 4 shows both man 5.
+        let shown = [Indicators::of(&[3]), Indicators::of(&[9, 9])];
+        let win = Win::new(TSUMO, 25, 27, 28).showing(shown);
+        let expected = ExpectedWin::of(&hand, &win);
+        let dealt = Dealt {
+            hand,
+            win,
+            expected,
+        };
+        let record = record(&dealt, 0);
+        assert_eq!(record[51..55], [1, 25, 27, 28]);
+        assert_eq!((record[63], record[64], record[65]), (4, 1, 3));
+        assert_eq!(record[75..78], [2, 9, 9]);
+        assert_eq!(record[86..88], [0, 0]);
+        // 2 + 2 han, 20 fu, no yakuman, Normal, 2 dora and no ura, 1,280 basic points.
+        for score in [&record[88..164], &record[164..240]] {
+            assert_eq!(score[..2], [0, 0]);
+            assert_eq!(score[49..56], [4, 20, 0, 0, 0, 2, 0]);
+            assert_eq!(score[56..60], 1280_u32.to_le_bytes());
+            assert_eq!(score[72..76], 5200_u32.to_le_bytes());
+        }
+        assert_eq!(record[240..247], [0, 1, 0, 0, 0, 0, 0]);
+        assert_eq!(record[247..], [0; 9]);
+    }
 }

@@ -4,7 +4,7 @@
 //!   write. Words are parted by spaces; 'single quotes' hold a word together, in which \n, \t and \xNN
 //!   stand for bytes.
 //! - Of each case, and of random words, the last line keeps its promise, the hand's line can be given
-//!   back, as words and as one word, and then gives the same readings and answer.
+//!   back, as words and as one word, and then every line is the same.
 //! - examples/score-status turns the last line of each case into an exit status.
 //!
 //! Prints how many of each there were and how many differ, and exits with status 1 if any does.
@@ -35,6 +35,7 @@ const STARTS: &[&str] = &[
     "19m19p19seswnwhgrr|ron|7z|dealer",
     "222m456p345678s11z|tsumo|5p|dealer",
     "double-wind-2 111222333m 567p 22z tsumo 3m|seat|south|round|south",
+    "123m55m456p234678s ron 8s riichi dora 4m3m ura 1z4p",
     "",
 ];
 
@@ -79,6 +80,12 @@ const PIECES: &[&str] = &[
     "double-wind-2 riichi",
     "double-wind-3",
     "dora",
+    "ura",
+    "dora 3m",
+    "ura 1z",
+    "dora 1m1m2m3m",
+    "ura 2m riichi",
+    "dora 123456789m12z",
     "0m",
     "help",
     "hand:",
@@ -169,22 +176,13 @@ fn hand_line(written: &str) -> Option<&str> {
     written.lines().find(|line| line.starts_with("hand:"))
 }
 
-/// What is written apart from notes, which speak of words that the hand's line does not repeat.
-fn without_notes(written: &str) -> String {
-    let lines = written
-        .lines()
-        .filter(|line| !line.starts_with("note: red") && !line.starts_with("note: dora"));
-    lines.collect::<Vec<_>>().join("\n")
-}
-
 /// 1 where the last line breaks its promise, or the hand's line cannot be given back.
 fn promise_broken(words: &[OsString], written: &str) -> usize {
     let mut broken = status_of(written).is_none();
     if let Some(line) = hand_line(written) {
         let apart: Vec<OsString> = line.split(' ').map(OsString::from).collect();
         for again in [apart, vec![line.into()]] {
-            let (second, _) = written_for("target/bin/score", &again);
-            broken |= without_notes(&second) != without_notes(written);
+            broken |= written_for("target/bin/score", &again).0 != written;
         }
     }
     if broken {

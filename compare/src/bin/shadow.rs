@@ -2,8 +2,8 @@
 //! scores it too, and where they differ both answers are printed. Wins are dealt at random.
 //!
 //! A table changes over by this loop in three steps: it settles by `by_agari` and logs, then settles by
-//! `by_library` and logs, and then takes `by_agari` out. Where it has dora, it scores both sides without
-//! them to compare.
+//! `by_library` and logs, and then takes `by_agari` out. Where it has red fives, it scores both sides
+//! without them to compare.
 
 use compare::answers;
 use compare::arguments::{self, Options};
@@ -46,6 +46,7 @@ fn settled(win: &TableWin, reading: &HandStructure) -> Settled {
     Settled {
         yaku: list,
         is_yakuman: yaku.is_yakuman,
+        dora: [yaku.regular_dora, yaku.ura_dora],
         han: score.han,
         fu: score.fu.total,
         level: to_ziwhakemo::score_level(score.score_level),
@@ -60,11 +61,12 @@ fn by_library(win: &TableWin) -> Result<Settled, Refusal> {
     let counts = counts.expect("the table deals tiles alone");
     let calls = to_ziwhakemo::melds(&win.calls);
     let context = to_ziwhakemo::game_context(&win.context);
-    let context = context.expect("the table deals no dora and has agari's default rules");
+    let context = context.expect("the table has no red fives and agari's default rules");
     let setting = to_ziwhakemo::double_wind_fu(win.setting).expect("the room has a setting");
     let context = context.with_double_wind_fu(setting);
     let scored = ziwhakemo::score_win(&counts, &calls, &context)?;
     Ok(Settled {
+        dora: [scored.dora().regular, scored.dora().ura],
         yaku: scored.yaku_result.yaku_list,
         is_yakuman: scored.yaku_result.is_yakuman,
         han: scored.result.han,

@@ -8,6 +8,7 @@ use compare::library::{
 };
 use compare::random;
 use compare::rng::Rng;
+use compare::stored::put_win;
 use compare::wins;
 use std::arch::asm;
 use std::env;
@@ -21,29 +22,29 @@ const LENT: usize = 1467;
 
 const SIZE: usize = 8192;
 const PATTERN: u8 = 0xa5;
-/// The caller's part at the top: two words of arguments.
-const CALLERS: usize = 16;
+/// The caller's part at the top: arguments that do not go into registers, at most the 35 bytes of a win, up
+/// to a border of 16 bytes.
+const CALLERS: usize = 48;
 
 #[repr(align(16))]
 struct Stack([u8; SIZE]);
 
 /// Calls an operation on a stack of its own and answers how many bytes of it were used, its return address among
-/// them. By the C interface the first six words of arguments go into registers, and those that do not fit onto the stack.
-fn depth(operation: *const (), registers: [u64; 6], pushed: [u64; 2]) -> usize {
+/// them. By the C interface the first six words of arguments go into registers, and a win and those that do not fit
+/// onto the stack.
+fn depth(operation: *const (), registers: [u64; 6], pushed: &[u8]) -> usize {
     let mut stack = Stack([PATTERN; SIZE]);
+    let (_, callers) = stack.0.split_at_mut(SIZE - CALLERS);
+    callers[..pushed.len()].copy_from_slice(pushed);
     // The library asks nothing of its input beyond slices that may be read and written, and
-    // returns with this stack empty again.
+    // returns with this stack as it was handed over.
     unsafe {
         asm!(
             "mov r12, rsp",
             "mov rsp, rax",
-            "push r11",
-            "push r10",
             "call r13",
             "mov rsp, r12",
-            inout("rax") stack.0.as_mut_ptr_range().end => _,
-            in("r10") pushed[0],
-            in("r11") pushed[1],
+            inout("rax") callers.as_mut_ptr() => _,
             in("r13") operation,
             in("rdi") registers[0],
             in("rsi") registers[1],
@@ -71,21 +72,11 @@ fn lent(hand: &Hand) -> [u64; 4] {
     ]
 }
 
-/// The win's thirteen bytes, in two words.
-fn words(win: &Win) -> [u64; 2] {
-    let tiles = [
-        win.win_type,
-        win.winning_tile,
-        win.round_wind,
-        win.seat_wind,
-    ];
-    let flags = win.flags().map(u8::from);
-    let mut bytes = [0; 16];
-    bytes[..4].copy_from_slice(&tiles);
-    bytes[4..12].copy_from_slice(&flags);
-    bytes[12] = win.double_wind_fu;
-    let (low, high) = bytes.split_at(8);
-    [low, high].map(|word| u64::from_le_bytes(word.try_into().unwrap()))
+/// The bytes of a win, as it goes onto the stack.
+fn bytes(win: &Win) -> [u8; size_of::<Win>()] {
+    let mut bytes = [0; size_of::<Win>()];
+    put_win(&mut bytes, win);
+    bytes
 }
 
 /// The deepest call seen of each operation.
@@ -108,37 +99,40 @@ impl Deepest {
         let [counts, length, calls, number] = lent(hand);
         let (place, buffer) = (&raw mut answer as u64, out.as_mut_ptr() as u64);
         let registers = [place, counts, length, calls, number, buffer];
-        let pushed = [out.len() as u64, 0];
-        let used = depth(ziwhakemo_list_readings as *const (), registers, pushed);
+        let pushed = out.len().to_le_bytes();
+        let used = depth(ziwhakemo_list_readings as *const (), registers, &pushed);
         self.listing = self.listing.max(used);
         answer.readings
     }
 
     /// Scores a win, which goes onto the stack.
-    fn score_win(&mut self, hand: &Hand, win: &Win) {
+    fn score_win(&mut self, hand: &Hand, win: &Win) -> Score {
         let mut answer = MaybeUninit::<Score>::uninit();
         let [counts, length, calls, number] = lent(hand);
         let registers = [answer.as_mut_ptr() as u64, counts, length, calls, number, 0];
-        let used = depth(ziwhakemo_score_win as *const (), registers, words(win));
+        let used = depth(ziwhakemo_score_win as *const (), registers, &bytes(win));
         self.win = self.win.max(used);
+        // The operation has written every field of it.
+        unsafe { answer.assume_init() }
     }
 
     /// Scores a reading by its number, which goes into the last register.
-    fn score_reading(&mut self, hand: &Hand, win: &Win, reading: u64) {
+    fn score_reading(&mut self, hand: &Hand, win: &Win, reading: u64) -> Score {
         let mut answer = MaybeUninit::<Score>::uninit();
         let [counts, length, calls, number] = lent(hand);
         let place = answer.as_mut_ptr() as u64;
         let registers = [place, counts, length, calls, number, reading];
-        let used = depth(ziwhakemo_score_reading as *const (), registers, words(win));
+        let used = depth(ziwhakemo_score_reading as *const (), registers, &bytes(win));
         self.reading = self.reading.max(used);
+        // The operation has written every field of it.
+        unsafe { answer.assume_init() }
     }
 
-    /// Names the waits of a reading. The answer comes in registers, so that the win fits into others.
+    /// Names the waits of a reading. The answer comes in registers, and its number goes into the fifth.
     fn name_waits(&mut self, hand: &Hand, win: &Win, reading: u64) {
         let [counts, length, calls, number] = lent(hand);
-        let [low, high] = words(win);
-        let registers = [counts, length, calls, number, low, high];
-        let used = depth(ziwhakemo_name_waits as *const (), registers, [reading, 0]);
+        let registers = [counts, length, calls, number, reading, 0];
+        let used = depth(ziwhakemo_name_waits as *const (), registers, &bytes(win));
         self.waits = self.waits.max(used);
     }
 }
@@ -177,4 +171,27 @@ fn main() {
     println!("scoring a win          {}", deepest.win);
     println!("scoring a reading      {}", deepest.reading);
     println!("naming its waits       {}", deepest.waits);
+}
+
+#[cfg(test)]
+mod tests {
+    use super::*;
+    use compare::library;
+
+    #[test]
+    fn a_win_arrives_on_that_stack_as_it_is() {
+        let mut rng = Rng::new(6);
+        let mut deepest = Deepest::default();
+        for _ in 0..500 {
+            let hand = wins::hand(&mut rng);
+            let win = won(&mut rng, &hand, TSUMO);
+            let (counts, calls) = (hand.counts(), hand.calls);
+            let want = library::score_win(counts, calls, win);
+            assert_eq!(deepest.score_win(&hand, &win), want);
+            for reading in 0..2 {
+                let want = library::score_reading(counts, calls, win, reading as usize);
+                assert_eq!(deepest.score_reading(&hand, &win, reading), want);
+            }
+        }
+    }
 }

@@ -7,6 +7,7 @@ use native.Mathlib.Omega.{arith}
 use Rattle.lists.proofs.Members.{length-perm}
 use Rattle.scoring.specs.Level.{level, basicPoints}
 use Rattle.scoring.specs.Payment.{payment}
+use Rattle.dora.specs.declared.DoraCount.{DoraCount}
 use Rattle.reading_score.specs.declared.ScoringResult.{ScoringResult}
 use Rattle.reading_score.specs.Score.{rank}
 use Rattle.reading_score.proofs.Ranks.{Small, Priced, rank-same}
@@ -14,19 +15,28 @@ use Rattle.choice.specs.Choice.{refused, scored, chooseBy, answerOf, choice}
 use Rattle.choice.proofs.Choosing.{greatest-perm, ChosenOrNone, none-there, one-there, chosen-or-none}
 use Rattle.agreement.specs.Agreement.{SameAnswer}
 
--- han and fu are bytes, and the rest of the score follows from them, from the yakuman and from who won how
-pub record Valued (tsumo dealer : Bool) (x : ScoringResult) : Type 0 where
+-- han and fu are bytes, the rest of the score follows from them, from the yakuman and from who won how, and the dora are d
+pub record Valued (tsumo dealer : Bool) (d : DoraCount) (x : ScoringResult) : Type 0 where
   pub small : Small x
   pub priced : Priced tsumo dealer x
+  pub counted : x .dora ≡ d
 
 pub same-refusal : (n : ℕ) → SameAnswer (refused n) (refused n)
 same-refusal n =
-    record { same-number = refl; same-han = refl; same-fu = refl; same-level = refl; same-basic = refl; same-payment = refl }
+    record {
+      same-number = refl;
+      same-han = refl;
+      same-dora = refl;
+      same-fu = refl;
+      same-level = refl;
+      same-basic = refl;
+      same-payment = refl;
+    }
 
-module _ (tsumo dealer : Bool) where
+module _ (tsumo dealer : Bool) (δ : DoraCount) where
   -- two scores of one rank above 0
   same-rank-agree :
-      (x y : ScoringResult) → Valued tsumo dealer x → Valued tsumo dealer y → 0 < rank x → rank x ≡ rank y
+      (x y : ScoringResult) → Valued tsumo dealer δ x → Valued tsumo dealer δ y → 0 < rank x → rank x ≡ rank y
       → (i j : ℕ) → SameAnswer (scored i x) (scored j y)
   same-rank-agree x y a b h e i j =
       let s = rank-same x y (a .small) (b .small) h e in
@@ -40,6 +50,7 @@ module _ (tsumo dealer : Bool) where
       record {
         same-number = refl;
         same-han = han;
+        same-dora = a .counted ∙ sym (b .counted);
         same-fu = fu;
         same-level = p .level-is ∙ (λ t. level (han t) (fu t) (yakuman t)) ∙ sym (q .level-is);
         same-basic = basic;
@@ -48,8 +59,8 @@ module _ (tsumo dealer : Bool) where
 
   module _
       (xs ys : List ScoringResult) (d : List·Permᴰ (map rank xs) (map rank ys))
-      (f : (x : ScoringResult) → List·Memᴰ x xs → Valued tsumo dealer x)
-      (g : (y : ScoringResult) → List·Memᴰ y ys → Valued tsumo dealer y)
+      (f : (x : ScoringResult) → List·Memᴰ x xs → Valued tsumo dealer δ x)
+      (g : (y : ScoringResult) → List·Memᴰ y ys → Valued tsumo dealer δ y)
     where
       chosen-agree : ChosenOrNone rank xs → ChosenOrNone rank ys → SameAnswer (answerOf (chooseBy rank xs)) (answerOf (chooseBy rank ys))
       chosen-agree (none-there a c) (none-there b e) = subst₂ SameAnswer (sym (ap answerOf c)) (sym (ap answerOf e)) (same-refusal 11)
@@ -61,7 +72,7 @@ module _ (tsumo dealer : Bool) where
 
   pub choice-agrees :
       (xs ys : List ScoringResult) → List·Permᴰ (map rank xs) (map rank ys)
-      → ((x : ScoringResult) → List·Memᴰ x xs → Valued tsumo dealer x) → ((y : ScoringResult) → List·Memᴰ y ys → Valued tsumo dealer y)
+      → ((x : ScoringResult) → List·Memᴰ x xs → Valued tsumo dealer δ x) → ((y : ScoringResult) → List·Memᴰ y ys → Valued tsumo dealer δ y)
       → SameAnswer (choice xs) (choice ys)
   unfolding choice
   choice-agrees [] [] d f g = same-refusal 10

@@ -1,5 +1,6 @@
--- Two tables agree: a win and the same win renamed pass the same checks, have the same readings, renamed, and score alike, where neither
--- hand is all green. Assumes nothing.
+-- Two tables agree: a win and the same win renamed. Where the first passes the checks so does the second, and its readings are the first's renamed,
+-- with the same waits, whatever indicators are shown. They score alike where neither hand is all green and, if an indicator is shown, suits
+-- alone are exchanged. Where the first is refused for its indicators, so is the second. Assumes nothing.
 use mathlib.Core.Path.{_≡_, sym, ap, subst, subst₂, _∙_}
 use mathlib.Core.List.{List, map}
 use Prim.Native.Nat.{ℕ, _≤_}
@@ -7,8 +8,9 @@ use lib.ListN.{length, length-map}
 use Rattle.lists.proofs.Members.{length-perm}
 use Rattle.tile.specs.declared.Renaming.{Renaming}
 use Rattle.meld.specs.declared.Meld.{Meld}
+use Rattle.context.specs.declared.Indicators.{Indicators}
 use Rattle.context.specs.declared.GameContext.{GameContext}
-use Rattle.context.specs.Context.{isDealer, isTsumo, renWin}
+use Rattle.context.specs.Context.{isDealer, isTsumo, renWin, indicating}
 use Rattle.hand.specs.Counts.{held}
 use Rattle.hand.specs.Records.{records}
 use Rattle.hand.specs.Readings.{readings}
@@ -20,16 +22,19 @@ use Rattle.checks.specs.Checks.{called}
 use Rattle.unit.specs.Listing.{handReadings, handRecords}
 use Rattle.unit.proofs.Listed.{melds-called}
 use Rattle.promises.proofs.Listing.{once}
-use Rattle.win.specs.Win.{winCheck, scores, scoreWin}
+use Rattle.dora.specs.declared.DoraCount.{DoraCount}
+use Rattle.win.specs.Win.{doraTogether, scores, scoreWin}
 use Rattle.win.proofs.Answers.{win-choice}
-use Rattle.agreement.specs.Agreement.{SameAnswer, NotGreen, Alike, RenamedCalls}
 use Rattle.win.proofs.Passed.{Checked, checked, checks}
+use Rattle.agreement.specs.Agreement.{SameAnswer, NotGreen, Comparable, Listed, Scored, Alike, RenamedCalls, RenamedWin}
+use Rattle.agreement.proofs.Indicators.{BothRenamed}
 use Rattle.agreement.proofs.Twin.{checked-renamed}
 use Rattle.agreement.proofs.Listed.{same-listing, listing-writes}
-use Rattle.agreement.proofs.Scored.{readings-renamed, ranks-renamed}
-use Rattle.agreement.proofs.Numbered.{same-reading}
-use Rattle.agreement.proofs.Chosen.{choice-agrees}
+use Rattle.agreement.proofs.Scored.{readings-renamed, dora-stays, ranks-renamed}
+use Rattle.agreement.proofs.Numbered.{same-reading, same-score}
+use Rattle.agreement.proofs.Chosen.{Valued, choice-agrees}
 use Rattle.agreement.proofs.Valued.{scores-valued}
+use Rattle.agreement.proofs.Fourteen.{refused-14}
 
 module _ {ρ : Renaming} {cs : List ℕ} {k j : Calls} {w : GameContext} (c : RenamedCalls ρ k j) (p : Checked cs k w) where
   -- as many readings, and as many bytes of records
@@ -42,34 +47,54 @@ module _ {ρ : Renaming} {cs : List ℕ} {k j : Calls} {w : GameContext} (c : Re
       ap (λ (l : List Meld). length (records (readings (held (renCounts ρ cs)) l))) (c .calls)
       ∙ records-renamed ρ (held cs) (held (renCounts ρ cs)) (held-renamed ρ cs) (called k) (melds-called cs k (p .hand))
 
-  -- the two scored wins
-  won-renamed :
-      length (k .melds) ≡ 4 → length (j .melds) ≡ 4 → NotGreen cs k → NotGreen (renCounts ρ cs) j
-      → SameAnswer (scoreWin (renCounts ρ cs) j (renWin ρ w)) (scoreWin cs k w)
-  won-renamed four four′ plain plain′ =
-      let q = checked-renamed c p in
-      subst₂ SameAnswer (sym (win-choice (renCounts ρ cs) j (renWin ρ w) (checks (renCounts ρ cs) j (renWin ρ w) q)))
-      (sym (win-choice cs k w (checks cs k w p)))
-      (choice-agrees (isTsumo w) (isDealer w) (scores (renCounts ρ cs) j (renWin ρ w)) (scores cs k w)
-      (ranks-renamed c p plain plain′)
-      (scores-valued (renCounts ρ cs) j four′ (q .hand) (renWin ρ w)) (scores-valued cs k four (p .hand) w))
+  -- the second win, with the indicators d and u; the melds of the calls are four (an array of four in the code)
+  module _
+      {d u : Indicators}
+      (both : BothRenamed ρ w d u)
+      (four : length (k .melds) ≡ 4)
+      (four′ : length (j .melds) ≡ 4)
+    where
+      abbrev v : GameContext
+      v = indicating d u (renWin ρ w)
+
+      listed-renamed : Listed ρ cs k j w v
+      listed-renamed =
+          let q = checked-renamed c both p in
+          record {
+            passes = checks (renCounts ρ cs) j v q;
+            readings = readings-renamed c p;
+            once = once (renCounts ρ cs) j four′ (q .hand);
+            listings = same-listing cs (renCounts ρ cs) k j (q .hand ∙ sym (p .hand)) many-renamed bytes-renamed;
+            writes = λ buffer h.
+                listing-writes (renCounts ρ cs) j four′ (q .hand) (map (renReading ρ) (handReadings cs k)) (readings-renamed c p) buffer
+                (subst (λ (n : ℕ). n ≤ length buffer) (sym bytes-renamed) h);
+            numbered = same-reading c p both;
+          }
+
+      module _ (plain : NotGreen cs k) (plain′ : NotGreen (renCounts ρ cs) j) (fair : Comparable ρ w) where
+        -- the two scored wins
+        won-renamed : SameAnswer (scoreWin (renCounts ρ cs) j v) (scoreWin cs k w)
+        won-renamed =
+            let q = checked-renamed c both p in
+            let dora = dora-stays c p plain plain′ both fair in
+            subst₂ SameAnswer (sym (win-choice (renCounts ρ cs) j v (checks (renCounts ρ cs) j v q)))
+            (sym (win-choice cs k w (checks cs k w p)))
+            (choice-agrees (isTsumo w) (isDealer w) (doraTogether cs k w) (scores (renCounts ρ cs) j v) (scores cs k w)
+            (ranks-renamed c p plain plain′ both fair)
+            (λ x i. subst (λ (n : DoraCount). Valued (isTsumo w) (isDealer w) n x) dora (scores-valued (renCounts ρ cs) j four′ v q x i))
+            (scores-valued cs k four w p))
+
+        scored-renamed : Scored ρ cs k j w v
+        scored-renamed = record { numbered = same-score c p both plain plain′ fair; won = won-renamed }
 
 pub demand3 :
-    (ρ : Renaming) (cs : List ℕ) (k j : Calls) (w : GameContext) → length (k .melds) ≡ 4 → length (j .melds) ≡ 4
-    → RenamedCalls ρ k j → winCheck cs k w ≡ 0 → NotGreen cs k → NotGreen (renCounts ρ cs) j
-    → Alike ρ cs k j w
-demand3 ρ cs k j w four four′ c passes plain plain′ =
-    let p = checked cs k w passes in
-    let q = checked-renamed c p in
-    let bytes = bytes-renamed c p in
-    record {
-      passes = checks (renCounts ρ cs) j (renWin ρ w) q;
-      readings = readings-renamed c p;
-      once = once (renCounts ρ cs) j four′ (q .hand);
-      listings = same-listing cs (renCounts ρ cs) k j (q .hand ∙ sym (p .hand)) (many-renamed c p) bytes;
-      writes = λ buffer h.
-          listing-writes (renCounts ρ cs) j four′ (q .hand) (map (renReading ρ) (handReadings cs k)) (readings-renamed c p) buffer
-          (subst (λ (n : ℕ). n ≤ length buffer) (sym bytes) h);
-      numbered = same-reading c p plain plain′;
-      won = won-renamed c p four four′ plain plain′;
-    }
+    (ρ : Renaming) (cs : List ℕ) (k j : Calls) (w v : GameContext) → length (k .melds) ≡ 4 → length (j .melds) ≡ 4
+    → RenamedCalls ρ k j → RenamedWin ρ w v → Alike ρ cs k j w v
+demand3 ρ cs k j w v four four′ c r =
+    let both : BothRenamed ρ w (v .«dora_indicators») (v .«ura_dora_indicators») = record { dora = r .dora; ura = r .ura } in
+    subst (Alike ρ cs k j w) (sym (r .rest))
+    (record {
+      listed = λ passes. listed-renamed c (checked cs k w passes) both four four′;
+      scored = λ passes plain plain′ fair. scored-renamed c (checked cs k w passes) both four four′ plain plain′ fair;
+      refused = refused-14 cs c both;
+    })

@@ -1,9 +1,11 @@
+pub mod Indicators
 pub mod Twin
 pub mod Listed
 pub mod Scored
 pub mod Numbered
 pub mod Chosen
 pub mod Valued
+pub mod Fourteen
 pub mod Demand3
 pub mod Lent
 pub mod Green

@@ -15,8 +15,9 @@ use Rattle.meld.specs.declared.Meld.{Meld}
 use Rattle.meld.specs.Meld.{isCall, isMeld, uses}
 use Rattle.meld.specs.Renamed.{renMeld}
 use Rattle.meld.proofs.Renamed.{ren-isMeld}
+use Rattle.context.specs.declared.Indicators.{Indicators}
 use Rattle.context.specs.declared.GameContext.{GameContext}
-use Rattle.context.specs.Context.{inRange, renWin}
+use Rattle.context.specs.Context.{inRange, indicatorsIn, renWin, indicating}
 use Rattle.hand.specs.Counts.{held}
 use Rattle.hand.specs.Readings.{readings}
 use Rattle.renamed.specs.Renamed.{changed, renCounts}
@@ -30,6 +31,7 @@ use Rattle.checks.proofs.Passed.{Passed, passed, passes}
 use Rattle.unit.specs.Listing.{handReadings}
 use Rattle.unit.proofs.Listed.{melds-called}
 use Rattle.agreement.specs.Agreement.{RenamedCalls}
+use Rattle.agreement.proofs.Indicators.{BothRenamed, checked-alike}
 use Rattle.win.proofs.Passed.{Checked}
 
 -- the hand ds with the calls j is the hand cs with the calls k, with f at each tile and g at each call
@@ -75,14 +77,15 @@ module _
         subst (λ (l : List Meld). List·Permᴰ (readings (held ds) l) (map (changed f g) (readings (held cs) (called k)))) (sym (q .calls))
         (readings-moved s (held cs) (held ds) (q .counts) (called k) (melds-called cs k hand))
 
--- the twin's win passes the checks 8 and 9 too
+-- the twin's win passes the checks 8, 14 and 9 too
 pub checked-twin :
     {f f′ : ℕ → ℕ} {g g′ : Meld → Meld} → Keeps f f′ g g′ → {cs ds : List ℕ} {k j : Calls} → Twin f g cs k ds j → {w v : GameContext}
-    → T (inRange v) → v .«winning_tile» ≡ f (w .«winning_tile») → Checked cs k w → Checked ds j v
-checked-twin s {cs} {ds} {k} {j} q {w} {v} range e p =
+    → T (inRange v) → T (indicatorsIn v) → v .«winning_tile» ≡ f (w .«winning_tile») → Checked cs k w → Checked ds j v
+checked-twin s {cs} {ds} {k} {j} q {w} {v} range indicators e p =
     record {
       hand = passes ds j (passed-twin s q (p .hand));
       range = range;
+      indicators = indicators;
       tile = subst (λ (t : ℕ). t < 34) (sym e) (s .forth .tile (w .«winning_tile») (p .tile));
       there = subst (λ (n : ℕ). 0 < n) (sym (ap (held ds) e ∙ q .counts (w .«winning_tile») (p .tile))) (p .there);
     }
@@ -99,8 +102,13 @@ renamed-twin ρ cs c =
       call = λ m v. and-both (isMeld (renMeld ρ m)) _ (ren-isMeld ρ m (and-left (isMeld m) _ v)) (and-right (isMeld m) _ v);
     }
 
--- the same win renamed passes the same checks
+-- the hand renamed passes the same checks
+pub hand-renamed : {ρ : Renaming} (cs : List ℕ) {k j : Calls} → RenamedCalls ρ k j → handCheck cs k ≡ 0 → handCheck (renCounts ρ cs) j ≡ 0
+hand-renamed {ρ} cs {j = j} c hand = passes (renCounts ρ cs) j (passed-twin (keeps ρ) (renamed-twin ρ cs c) hand)
+
+-- and so does the same win renamed, with the indicators d and u
 pub checked-renamed :
-    {ρ : Renaming} {cs : List ℕ} {k j : Calls} {w : GameContext} → RenamedCalls ρ k j → Checked cs k w
-    → Checked (renCounts ρ cs) j (renWin ρ w)
-checked-renamed {ρ} {cs} c p = checked-twin (keeps ρ) (renamed-twin ρ cs c) (p .range) refl p
+    {ρ : Renaming} {cs : List ℕ} {k j : Calls} {w : GameContext} {d u : Indicators} → RenamedCalls ρ k j
+    → BothRenamed ρ w d u → Checked cs k w → Checked (renCounts ρ cs) j (indicating d u (renWin ρ w))
+checked-renamed {ρ} {cs} c both p =
+    checked-twin (keeps ρ) (renamed-twin ρ cs c) (p .range) (subst T (sym (checked-alike both)) (p .indicators)) refl p

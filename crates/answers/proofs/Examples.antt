@@ -155,7 +155,7 @@ pub pays-mangan-dealer-tsumo : paymentValues (paymentAnswer 2000 true 1) ≡ pay
 unfolding paymentAnswer payment
 pays-mangan-dealer-tsumo = refl
 
--- ---- the same in a score: 4 han 30 fu by tsumo, 3,900 from the dealer and 2,000 from each of two others
+-- ---- the same in a score: 4 han 30 fu by tsumo, 3,900 from the dealer and 2,000 from each of two others; two of the han are dora, one ura
 abbrev fourHan : ScoringResult
 fourHan =
     record {
@@ -166,6 +166,7 @@ fourHan =
       «score_level» = Normal;
       «basic_points» = 1920;
       payment = Tsumo 3900 2000;
+      dora = record { regular = 2; ura = 1 };
     }
 
 -- its settlement is the tsumo of another than the dealer; there is none beside a refusal, whatever fills the place of its payment
@@ -183,6 +184,12 @@ score-from-dealer = refl
 
 pub score-from-others : scoreValues (scored 0 fourHan) .«from_non_dealer» ≡ 2000
 score-from-others = refl
+
+pub score-dora : scoreValues (scored 0 fourHan) .«regular_dora» ≡ 2
+score-dora = refl
+
+pub score-ura : scoreValues (scored 0 fourHan) .«ura_dora» ≡ 1
+score-ura = refl
 
 -- ---- refused: a win type that is neither ron nor tsumo with 8, basic points above 152,000 with 13
 pub pays-no-such-type : paymentValues (paymentAnswer 2000 false 2) .number ≡ 8

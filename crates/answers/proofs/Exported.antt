@@ -25,7 +25,7 @@ use Rattle.reading_score.proofs.Ranks.{Priced, score-priced}
 use Rattle.choice.specs.declared.ScoreAnswer.{ScoreAnswer}
 use Rattle.choice.specs.Choice.{refused, scored}
 use Rattle.win.specs.declared.WaitsAnswer.{WaitsAnswer}
-use Rattle.win.specs.Win.{isOpened, tilesTogether, winCheck, scoreIn, scoreWin, scoreReading, nameWaits}
+use Rattle.win.specs.Win.{isOpened, tilesTogether, doraTogether, winCheck, scoreIn, scoreWin, scoreReading, nameWaits}
 use Rattle.win.proofs.Answers.{win-refused, reading-refused, reading-picked}
 use Rattle.win_promises.proofs.Winning.{chosen-has-yaku}
 use Rattle.win_promises.proofs.Refusals.{score-refused, number-refused, waits-refused-alone}
@@ -133,6 +133,8 @@ refusal n =
       «is_yakuman» = false;
       level = 0;
       «yakuman_count» = 0;
+      «regular_dora» = 0;
+      «ura_dora» = 0;
       «basic_points» = 0;
       «from_non_dealer» = 0;
       «from_dealer» = 0;
@@ -150,7 +152,7 @@ module _ (cs : List ℕ) (k : Calls) (w : GameContext) where
 
   priced : (r : Reading) → Priced (isTsumo w) (isDealer w) (scoreIn cs k w r)
   unfolding scoreIn
-  priced r = score-priced w (isOpened k) (tilesTogether cs k w) r
+  priced r = score-priced w (isOpened k) (tilesTogether cs k w) (doraTogether cs k w) r
 
   -- ---- a win
   of-win : Scored (scoreWin cs k w)

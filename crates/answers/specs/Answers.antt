@@ -21,7 +21,7 @@ use Rattle.answers.specs.declared.WaitsValues.{WaitsValues}
 
 -- the version of the interface: rises with each change of it
 abbrev pub version : ℕ
-version = 4
+version = 5
 
 -- the refusal's number, or 0 with how many readings and how many bytes were written
 abbrev pub listingAnswer : Listing → ListingAnswer
@@ -51,7 +51,7 @@ paymentValues (Paid p) = paid p
 abbrev pub settlementBeside : ℕ → ℕ → ℕ
 settlementBeside number settlement = cond (eqb number 0) settlement 0
 
--- a score, its level and its payment in plain numbers; a refusal has its number, and 0 in every other place
+-- a score, its level, its dora and its payment in plain numbers; a refusal has its number, and 0 in every other place
 abbrev pub scoreValues : ScoreAnswer → ScoreValues
 scoreValues a =
     record {
@@ -64,6 +64,8 @@ scoreValues a =
       «is_yakuman» = a .score .«is_yakuman»;
       level = levelAnswer (a .score .«score_level») .level;
       «yakuman_count» = levelAnswer (a .score .«score_level») .count;
+      «regular_dora» = a .score .dora .regular;
+      «ura_dora» = a .score .dora .ura;
       «basic_points» = a .score .«basic_points»;
       «from_non_dealer» = paid (a .score .payment) .«from_non_dealer»;
       «from_dealer» = paid (a .score .payment) .«from_dealer»;

@@ -124,8 +124,8 @@ pub fn payment_values(a: scoring::PaymentAnswer) -> PaymentValues
 }
 
 // A score: number 0, the settlement, the number of the reading, counted from 0, a tally for each yaku, han and
-// fu, whether there is a yakuman, the level and how many times a yakuman counts, basic points, what each pays and the total; or a refusal's
-// number alone.
+// fu, whether there is a yakuman, the level and how many times a yakuman counts, the dora of either sort, basic points, what each pays and the
+// total; or a refusal's number alone.
 #[repr(C)]
 pub struct ScoreValues {
     pub number: u32,
@@ -137,6 +137,8 @@ pub struct ScoreValues {
     pub is_yakuman: bool,
     pub level: u8,
     pub yakuman_count: u8,
+    pub regular_dora: u8,
+    pub ura_dora: u8,
     pub basic_points: u32,
     pub from_non_dealer: u32,
     pub from_dealer: u32,
@@ -159,6 +161,7 @@ pub fn score_values(a: choice::ScoreAnswer) -> ScoreValues
     let tallies = score.tallies;
     let score_level = score.score_level;
     let payment = score.payment;
+    let dora = score.dora;
     let level = level_of(score_level);
     let pays = values_of(payment);
     let settlement = settlement_beside(a.number, pays.settlement);
@@ -172,6 +175,8 @@ pub fn score_values(a: choice::ScoreAnswer) -> ScoreValues
         is_yakuman: score.is_yakuman,
         level: level.level,
         yakuman_count: level.count,
+        regular_dora: dora.regular,
+        ura_dora: dora.ura,
         basic_points: score.basic_points,
         from_non_dealer: pays.from_non_dealer,
         from_dealer: pays.from_dealer,

@@ -7,19 +7,20 @@ use Rattle.tile.specs.Named.{man}
 use Rattle.context.specs.Named.{ron}
 use Rattle.scoring.specs.Level.{basicPoints}
 use Rattle.scoring.specs.Payment.{payment}
+use Rattle.dora.specs.Dora.{noDora}
 use Rattle.reading_score.specs.declared.ScoringResult.{ScoringResult}
 use Rattle.reading_score.specs.Score.{result, rank}
 use Rattle.choice.specs.Choice.{refused, scored, chooseBy, choice, numbered}
 
 -- a score by ron of so many han and fu, with the first yaku, with the second, and without any
 abbrev first-yaku : ℕ → ℕ → ScoringResult
-first-yaku han fu = result (ron (man 1)) (1 ∷ 0 ∷ []) han fu false
+first-yaku han fu = result (ron (man 1)) (1 ∷ 0 ∷ []) han fu false noDora
 
 abbrev second-yaku : ℕ → ℕ → ScoringResult
-second-yaku han fu = result (ron (man 1)) (0 ∷ 1 ∷ []) han fu false
+second-yaku han fu = result (ron (man 1)) (0 ∷ 1 ∷ []) han fu false noDora
 
 abbrev no-yaku : ℕ → ℕ → ScoringResult
-no-yaku han fu = result (ron (man 1)) (0 ∷ 0 ∷ []) han fu false
+no-yaku han fu = result (ron (man 1)) (0 ∷ 0 ∷ []) han fu false noDora
 
 -- ---- 10 where there is no reading, 11 where none has a yaku
 pub none-to-choose : choice [] ≡ refused 10

@@ -6,13 +6,14 @@ use lib.Dec.{eqb}
 use lib.ListN.{replicate}
 use Rattle.scoring.specs.declared.ScoreLevel.the-variants.{Normal}
 use Rattle.scoring.specs.declared.Payment.the-variants.{Ron}
+use Rattle.dora.specs.Dora.{noDora}
 use Rattle.records.specs.Pick.{pickAt}
 use Rattle.reading_score.specs.declared.ScoringResult.{ScoringResult}
 use Rattle.reading_score.specs.Score.{rank}
 use Rattle.choice.specs.declared.ScoreAnswer.{ScoreAnswer}
 
 -- ---- what is answered: a refusal's number alone, or 0 with the number of a reading, counted from 0, and its score
--- what fills the place of the score beside a refusal: zeros, Normal, a ron of 0
+-- what fills the place of the score beside a refusal: zeros, Normal, a ron of 0, no dora
 abbrev pub noScore : ScoringResult
 noScore =
     record {
@@ -23,6 +24,7 @@ noScore =
       «score_level» = Normal;
       «basic_points» = 0;
       payment = Ron 0;
+      dora = noDora;
     }
 
 abbrev pub refused : ℕ → ScoreAnswer

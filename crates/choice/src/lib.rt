@@ -2,6 +2,7 @@
 ghost use mathlib.Core.Path.{_≡_};
 ghost use mathlib.Core.List.{map};
 ghost use Prim.Native.Nat.{_≤_};
+ghost use Rattle.dora.specs.Dora.{AtMostForty};
 ghost use Rattle.records.specs.Buffer.{readingsIn};
 ghost use Rattle.reading_score.specs.Score.{scoreOf};
 ghost use Rattle.choice.specs.Choice.{refused, scored, choice};
@@ -28,6 +29,7 @@ pub fn refused(number: u8) -> ScoreAnswer
             score_level: scoring::ScoreLevel::Normal,
             basic_points: 0,
             payment: scoring::Payment::Ron { from_discarder: 0 },
+            dora: dora::DoraCount { regular: 0, ura: 0 },
         },
     }
 }
@@ -48,11 +50,12 @@ pub fn choose(
     b: &[u8],
     n: usize,
     s: tile_yaku::TileYaku,
+    d: dora::DoraCount,
     w: context::GameContext,
     opened: bool,
 ) -> ScoreAnswer
-    requires { ⌜ n ≤ 3000 ⌝ }
-    ensures { λ r. ⌜ r ≡ choice (map (scoreOf w opened s) (readingsIn (now (b .entry)) n 0)) ⌝ }
+    requires { ⌜ (n ≤ 3000) × AtMostForty d ⌝ }
+    ensures { λ r. ⌜ r ≡ choice (map (scoreOf w opened s d) (readingsIn (now (b .entry)) n 0)) ⌝ }
 {
     if n == 0 {
         return refused(10);
@@ -62,7 +65,7 @@ pub fn choose(
     let mut at = 0;
     let mut i = 0;
     while i < n {
-        let x = reading_score::calculate_score(records::reading_at(b, at), s, w, opened);
+        let x = reading_score::calculate_score(records::reading_at(b, at), s, d, w, opened);
         let rank = reading_score::rank(x);
         if best < rank {
             best = rank;

@@ -1,16 +1,19 @@
--- Wins by the names that players use: ron and tsumo, the dealer, what is out of range, and a win renamed or in another room. Assumes nothing.
+-- Wins by the names that players use: ron and tsumo, the dealer, what is out of range, which indicators there may be, and a win renamed or in another
+-- room. Assumes nothing.
 use mathlib.Core.Path.{_≡_, refl}
 use mathlib.Core.Bool.{_&&_, _||_, not}
 use mathlib.Core.List.{List, [], _∷_}
 use Prim.Native.Nat.{ℕ}
-use lib.Dec.{T, eqb}
+use lib.Dec.{T, eqb, ltb}
+use lib.ListN.{replicate}
 use Rattle.lists.specs.Fold.{all, allBelow}
 use Rattle.tile.specs.Named.{man, sou, East, South, West, North, White}
 use Rattle.tile.specs.declared.Renaming.{Renaming}
 use Rattle.tile.specs.Renaming.{ren}
+use Rattle.context.specs.declared.Indicators.{Indicators}
 use Rattle.context.specs.declared.GameContext.{GameContext}
-use Rattle.context.specs.Context.{isTsumo, isDealer, inRange, renWin, inRoom}
-use Rattle.context.specs.Named.{byRon, byTsumo, Flag, chankan, win, dealerWins, ron, tsumo}
+use Rattle.context.specs.Context.{isTsumo, isDealer, inRange, areIndicators, indicatorsIn, renIndicators, renWin, inRoom, indicating}
+use Rattle.context.specs.Named.{byRon, byTsumo, Flag, riichi, chankan, win, dealerWins, ron, tsumo, showing}
 
 -- ---- Ron and tsumo
 pub drawn : T (isTsumo (tsumo (man 5)))
@@ -70,9 +73,34 @@ two-and-four = tt
 pub no-other-setting : T (allBelow 256 (λ n. eqb n 4 || (eqb n 2 || not (inRange (inRoom n (ron (man 5)))))))
 no-other-setting = tt
 
--- ---- A win renamed is the same win on the renamed tile, in the same room
-pub renamed-win : (ρ : Renaming) (winType t round seat : ℕ) (fs : List Flag) → renWin ρ (win winType t round seat fs) ≡ win winType (ren ρ t) round seat fs
-renamed-win ρ winType t round seat fs = refl
+-- ---- Indicators: ten at most of either sort, each a tile
+pub ten-of-each : T (indicatorsIn (showing (replicate 10 White) (replicate 10 (man 1)) (ron (man 5))))
+ten-of-each = tt
+
+-- no number above 33 among those shown, nor among those below, with riichi or without
+pub bad-shown : T (not (indicatorsIn (showing (man 1 ∷ 34 ∷ []) [] (ron (man 5)))))
+bad-shown = tt
+
+pub bad-below : T (not (indicatorsIn (showing [] (34 ∷ []) (ron (man 5)))))
+bad-below = tt
+
+pub bad-below-riichi : T (not (indicatorsIn (showing [] (34 ∷ []) (win byRon (man 5) East South (riichi ∷ [])))))
+bad-below-riichi = tt
+
+-- what stands behind the count is not looked at
+pub behind-the-count : T (indicatorsIn (indicating (record { count = 1; tiles = man 1 ∷ replicate 9 255 }) (record { count = 0; tiles = replicate 10 255 }) (ron (man 5))))
+behind-the-count = tt
+
+-- no count above ten, up to 255
+pub no-more-than-ten : T (allBelow 256 (λ n. ltb n 11 || not (areIndicators (record { count = n; tiles = replicate 10 0 }))))
+no-more-than-ten = tt
+
+-- ---- A win renamed is the same win on the renamed tile, in the same room, with the renamed indicators
+pub renamed-win :
+    (ρ : Renaming) (d u : Indicators) (winType t round seat : ℕ) (fs : List Flag)
+    → renWin ρ (indicating d u (win winType t round seat fs))
+    ≡ indicating (renIndicators ρ d) (renIndicators ρ u) (win winType (ren ρ t) round seat fs)
+renamed-win ρ d u winType t round seat fs = refl
 
 pub renamed-room : (ρ : Renaming) (n : ℕ) (w : GameContext) → renWin ρ (inRoom n w) ≡ inRoom n (renWin ρ w)
 renamed-room ρ n w = refl

@@ -1,11 +1,15 @@
--- A win (GameContext in agari): how it was won, the winning tile, both winds, eight flags, and a setting of the room, which agari does not have.
--- Questions about it, the win renamed, and the win in a room with another setting. These are definitions.
+-- A win (GameContext in agari): how it was won, the winning tile, both winds, eight flags, a setting of the room, which agari does not have, and
+-- the indicators of dora. Questions about it, the win renamed, and the same win in another room or with other indicators. These are definitions.
 use mathlib.Core.Bool.{Bool, _&&_, _||_}
+use mathlib.Core.List.{List, map}
 use Prim.Native.Nat.{ℕ}
-use lib.Dec.{eqb, ltb}
+use lib.Dec.{eqb, ltb, leb}
+use lib.ListN.{take}
+use Rattle.lists.specs.Fold.{all}
 use Rattle.tile.specs.Tile.{isWind}
 use Rattle.tile.specs.declared.Renaming.{Renaming}
 use Rattle.tile.specs.Renaming.{ren}
+use Rattle.context.specs.declared.Indicators.{Indicators}
 use Rattle.context.specs.declared.GameContext.{GameContext}
 
 -- the winning tile was drawn by the winner; else it is ron, on another player's tile
@@ -24,7 +28,29 @@ isSetting n = eqb n 4 || eqb n 2
 abbrev pub inRange : GameContext → Bool
 inRange w = ltb (w .«win_type») 2 && (isWind (w .«round_wind») && (isWind (w .«seat_wind») && isSetting (w .«double_wind_fu»)))
 
--- type, winds, flags and setting stay, the winning tile is renamed
+-- ---- indicators: the tiles turned up on the wall, each of which names the tile after it as dora
+-- those that are shown: the first of the ten, as many as the count says. What stands behind them is not read
+abbrev pub shown : Indicators → List ℕ
+shown i = take (i .count) (i .tiles)
+
+-- there are ten at most, and each that is shown is a tile
+abbrev pub areIndicators : Indicators → Bool
+areIndicators i = leb (i .count) 10 && all (λ t. ltb t 34) (shown i)
+
+-- those of both sorts are, whether or not they count
+abbrev pub indicatorsIn : GameContext → Bool
+indicatorsIn w = areIndicators (w .«dora_indicators») && areIndicators (w .«ura_dora_indicators»)
+
+-- none is shown, of either sort
+abbrev pub noneShown : GameContext → Bool
+noneShown w = eqb (w .«dora_indicators» .count) 0 && eqb (w .«ura_dora_indicators» .count) 0
+
+-- each place renamed; a number above 33 stays
+abbrev pub renIndicators : Renaming → Indicators → Indicators
+renIndicators ρ i = record { count = i .count; tiles = map (ren ρ) (i .tiles) }
+
+-- ---- a win that differs in one respect
+-- type, winds, flags and setting stay, the winning tile and the indicators are renamed
 abbrev pub renWin : Renaming → GameContext → GameContext
 renWin ρ w =
     record {
@@ -41,11 +67,13 @@ renWin ρ w =
       «is_tenhou» = w .«is_tenhou»;
       «is_chiihou» = w .«is_chiihou»;
       «double_wind_fu» = w .«double_wind_fu»;
+      «dora_indicators» = renIndicators ρ (w .«dora_indicators»);
+      «ura_dora_indicators» = renIndicators ρ (w .«ura_dora_indicators»);
     }
 
--- the same win in a room that gives n fu for the pair of the double wind
-abbrev pub inRoom : ℕ → GameContext → GameContext
-inRoom n w =
+-- the same win in a room that gives n fu for the pair of the double wind, with the indicators d shown and u below them
+abbrev pub elsewhere : ℕ → Indicators → Indicators → GameContext → GameContext
+elsewhere n d u w =
     record {
       «win_type» = w .«win_type»;
       «winning_tile» = w .«winning_tile»;
@@ -60,4 +88,14 @@ inRoom n w =
       «is_tenhou» = w .«is_tenhou»;
       «is_chiihou» = w .«is_chiihou»;
       «double_wind_fu» = n;
+      «dora_indicators» = d;
+      «ura_dora_indicators» = u;
     }
+
+-- the room alone is another
+abbrev pub inRoom : ℕ → GameContext → GameContext
+inRoom n w = elsewhere n (w .«dora_indicators») (w .«ura_dora_indicators») w
+
+-- the indicators alone are others
+abbrev pub indicating : Indicators → Indicators → GameContext → GameContext
+indicating d u w = elsewhere (w .«double_wind_fu») d u w

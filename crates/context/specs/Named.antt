@@ -1,12 +1,15 @@
--- Wins as players name them: how, on which tile, in which round and seat, with which flags. The room gives four fu for the pair of the double
--- wind, where nothing else is said. These are definitions.
+-- Wins as players name them: how, on which tile, in which round and seat, with which flags and indicators. Where nothing else is said, the room
+-- gives four fu for the pair of the double wind, and no indicator is shown. These are definitions.
 use mathlib.Core.Bool.{Bool}
-use mathlib.Core.List.{List, []}
-use Prim.Native.Nat.{ℕ}
+use mathlib.Core.List.{List, [], _++_}
+use Prim.Native.Nat.{ℕ, _-_}
 use lib.Dec.{eqb}
+use lib.ListN.{length, replicate}
 use Rattle.lists.specs.Fold.{any}
 use Rattle.tile.specs.Named.{East, South}
+use Rattle.context.specs.declared.Indicators.{Indicators}
 use Rattle.context.specs.declared.GameContext.{GameContext}
+use Rattle.context.specs.Context.{indicating}
 
 -- how it was won
 abbrev pub byRon : ℕ
@@ -33,6 +36,10 @@ flagNumber chiihou = 7
 abbrev pub flagged : List Flag → Flag → Bool
 flagged fs f = any (λ g. eqb (flagNumber f) (flagNumber g)) fs
 
+-- these tiles as indicators, and man 1 in the places behind them
+abbrev pub indicators : List ℕ → Indicators
+indicators ts = record { count = length ts; tiles = ts ++ replicate (10 - length ts) 0 }
+
 -- a win by its type, tile, round wind, seat wind and flags
 abbrev pub win : ℕ → ℕ → ℕ → ℕ → List Flag → GameContext
 win winType t round seat fs =
@@ -50,7 +57,13 @@ win winType t round seat fs =
       «is_tenhou» = flagged fs tenhou;
       «is_chiihou» = flagged fs chiihou;
       «double_wind_fu» = 4;
+      «dora_indicators» = indicators [];
+      «ura_dora_indicators» = indicators [];
     }
+
+-- the same win with these indicators shown, and these below them
+abbrev pub showing : List ℕ → List ℕ → GameContext → GameContext
+showing ts us w = indicating (indicators ts) (indicators us) w
 
 -- a win with flags of the seat South in the round East, and of the dealer there
 abbrev pub southWins : ℕ → ℕ → List Flag → GameContext

@@ -7,6 +7,7 @@ use Rattle.tile.specs.Named.{man}
 use Rattle.context.specs.Named.{ron}
 use Rattle.scoring.specs.Level.{basicPoints}
 use Rattle.scoring.specs.Payment.{payment}
+use Rattle.dora.specs.Dora.{noDora}
 use Rattle.reading_score.specs.declared.ScoringResult.{ScoringResult}
 use Rattle.reading_score.specs.Score.{result}
 use Rattle.explained.specs.declared.decided.Decided.the-variants.{Total, Yakuman, Han, Fu, Order}
@@ -14,7 +15,7 @@ use Rattle.explained.specs.Decided.{decidedBy}
 
 -- a score by ron with a yaku, of so many han and fu, of a yakuman or not
 abbrev scored : ℕ → ℕ → Bool → ScoringResult
-scored han fu yakuman = result (ron (man 1)) (1 ∷ []) han fu yakuman
+scored han fu yakuman = result (ron (man 1)) (1 ∷ []) han fu yakuman noDora
 
 -- 3 han 50 fu pay 6,400, 4 han 20 fu 5,200
 pub by-the-total : decidedBy (scored 4 20 false) (scored 3 50 false) ≡ Total
@@ -37,6 +38,6 @@ unfolding decidedBy result payment basicPoints
 by-the-fu = refl
 
 -- han and fu alike: which yaku it is tells nothing
-pub by-the-order : decidedBy (result (ron (man 1)) (1 ∷ 0 ∷ []) 5 30 false) (result (ron (man 1)) (0 ∷ 1 ∷ []) 5 30 false) ≡ Order
+pub by-the-order : decidedBy (result (ron (man 1)) (1 ∷ 0 ∷ []) 5 30 false noDora) (result (ron (man 1)) (0 ∷ 1 ∷ []) 5 30 false noDora) ≡ Order
 unfolding decidedBy result payment basicPoints
 by-the-order = refl

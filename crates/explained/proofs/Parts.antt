@@ -20,6 +20,7 @@ use Rattle.wait.specs.Wait.{weight, pinfu}
 use Rattle.wait.specs.Concealed.{spared}
 use Rattle.fu.specs.Fu.{meldFu, pairFu, waitFu, winFu, roundUpTo10, atLeast30, pinfuFu, standardFu, fu}
 use Rattle.fu.proofs.DoubleWind.{no-pair-fu}
+use Rattle.dora.specs.declared.DoraCount.{DoraCount}
 use Rattle.reading_score.specs.Score.{result, scoreOf}
 use Rattle.explained.specs.declared.breakdown.FuBreakdown.{FuBreakdown}
 use Rattle.explained.specs.Breakdown.{menzenRonFu, tsumoFu, pinfuParts, meldsFu, unrounded, countedParts, breakdown, meldFuAt, partsSum}
@@ -57,9 +58,9 @@ adds-up w opened (orphans p) = refl
 adds-up w opened (standard p ms) = standard-adds-up w opened p ms (pinfu w opened (standard p ms))
 
 -- so to the fu that is answered of a reading
-pub answered-fu : (w : GameContext) (opened : Bool) (s : TileYaku) (r : Reading) → partsSum (breakdown w opened r) ≡ scoreOf w opened s r .fu
+pub answered-fu : (w : GameContext) (opened : Bool) (s : TileYaku) (d : DoraCount) (r : Reading) → partsSum (breakdown w opened r) ≡ scoreOf w opened s d r .fu
 unfolding scoreOf result
-answered-fu w opened s r = adds-up w opened r
+answered-fu w opened s d r = adds-up w opened r
 
 -- ---- what is left out of a pinfu's parts is nothing
 runs-none : (w : GameContext) (kept : Bool) (ms : List Meld) → T (all isSequence ms) → sum (meldFu w kept) ms ≡ 0

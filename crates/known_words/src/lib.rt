@@ -24,8 +24,8 @@ const WORDS: [[u8; 13]; 17] = [
     *b"chiihou      ",
 ];
 
-// Other words: an open and an added kan, the dealer, the last tile drawn or discarded, double riichi, dora, the room's fu for a pair that is both
-// round and seat wind, how to use the program; and one that says nothing, which the program itself writes before a hand.
+// Other words: an open and an added kan, the dealer, the last tile drawn or discarded, double riichi, indicators of dora and of ura, the room's fu for
+// a pair that is both round and seat wind, how to use the program; and one that says nothing, which the program itself writes before a hand.
 const OTHERS: [[u8; 13]; 14] = [
     *b"daiminkan    ",
     *b"shouminkan   ",
@@ -44,7 +44,7 @@ const OTHERS: [[u8; 13]; 14] = [
 ];
 
 // What each of them means: the number of the known word that says the same, or one behind those.
-const MEANINGS: [usize; 14] = [2, 4, 17, 18, 19, 20, 21, 21, 22, 23, 24, 24, 24, 25];
+const MEANINGS: [usize; 14] = [2, 4, 17, 18, 19, 20, 21, 22, 23, 24, 25, 25, 25, 26];
 
 // The winds, in the order of their tiles.
 const WINDS: [[u8; 13]; 4] = [
@@ -134,8 +134,8 @@ fn is_row(word: &[u8], row: &[u8; 13]) -> bool {
     true
 }
 
-// What a word means: 0 to 16 for the known words as `word_row` has them, then dealer, haitei, houtei, double, dora, two fu and four fu for the pair
-// of the double wind, help, and nothing; 26 for a word that is not known.
+// What a word means: 0 to 16 for the known words as `word_row` has them, then dealer, haitei, houtei, double, dora, ura, two fu and four fu for the
+// pair of the double wind, help, and nothing; 27 for a word that is not known.
 pub fn known(word: &[u8]) -> usize {
     for i in 0..31 {
         let row = any_row(i);
@@ -143,12 +143,12 @@ pub fn known(word: &[u8]) -> usize {
             return meaning(i);
         }
     }
-    26
+    27
 }
 
 // Is the word known?
 pub fn is_known(word: &[u8]) -> bool {
-    known(word) < 26
+    known(word) < 27
 }
 
 // Is the word the first letter of the row?

@@ -9,3 +9,4 @@ pub mod Relations
 pub mod Kept
 pub mod Elements
 pub mod Stores
+pub mod First

@@ -1,10 +1,10 @@
--- A run of stores from a place on: one store, and the rest; and what it makes of a list. Assumes nothing.
+-- A run of stores from a place on: one store, and the rest; what it makes of a list; and a copy, which is such a run. Assumes nothing.
 use mathlib.Core.Path.{_≡_, sym, ap, ap₂, _∙_}
-use mathlib.Core.List.{List, _++_}
+use mathlib.Core.List.{List, _++_, append-nil}
 use Prim.Native.Nat.{ℕ, suc, _+_, _<_, _≤_}
 use native.Mathlib.Numerals.{add-one}
 use native.Mathlib.Omega.{arith}
-use lib.ListN.{length, getD, set, drop}
+use lib.ListN.{length, getD, set, drop, drop-of-length-le}
 use lib.Seq.{drop-cons, sets, sets-eq}
 
 module _ (d s : List ℕ) where
@@ -32,3 +32,11 @@ module _ (d s : List ℕ) where
   sets-first h =
       let e : 0 + length s ≡ length s = omega arith in
       sets-eq s d 0 (omega arith) ∙ ap (λ (k : ℕ). s ++ drop k d) e
+
+-- ---- a copy: past its end nothing is left to store, and the whole of it stands in place of what was there
+pub copy-end : (d s : List ℕ) (i : ℕ) → length s ≤ i → d ≡ sets d i (drop i s)
+copy-end d s i h = sym (ap (λ (l : List ℕ). sets d i l) (drop-of-length-le s {i = i} h))
+
+pub copy-whole : (d s : List ℕ) → length d ≡ length s → sets d 0 s ≡ s
+copy-whole d s e =
+    sets-first d s (omega arith) ∙ ap (λ (l : List ℕ). s ++ l) (drop-of-length-le d {i = length s} (omega arith)) ∙ append-nil s

@@ -1,1 +1,2 @@
 pub mod Winds
+pub mod Shown

@@ -1,24 +1,20 @@
--- What the words given to the program `score` say: tiles of the hand, the winning tile, the win. These are definitions.
+-- What the words given to the program `score` say: tiles of the hand, the winning tile, indicators, the win. These are definitions.
 use mathlib.Core.Path.{_≡_}
 use mathlib.Core.Bool.{Bool, true, false, cond}
 use mathlib.Core.List.{List}
-use Prim.Native.Nat.{ℕ, _+_, _%_, _≤_, min}
+use Prim.Native.Nat.{ℕ, _+_, _%_, _≤_}
 use lib.ListN.{getD}
 use Rattle.lists.specs.Fold.{one}
 use Rattle.context.specs.declared.GameContext.{GameContext}
-use Rattle.tile_words.specs.Words.{readAt, tilesIn, namedIn, redsIn, Counted}
+use Rattle.tile_words.specs.Words.{readAt, tilesIn, tilesOf, namedIn, Counted}
 use Rattle.notation.specs.declared.said.Said.{Said}
+use Rattle.notation.specs.Shown.{withIndicators}
 
--- red fives so far with those of a word, up to 1,000
-abbrev pub redsWith : ℕ → List ℕ → ℕ
-redsWith n w = min (n + redsIn w) 1000
-
--- what a word w of tiles of the hand makes of what was said before: its tiles are counted, at most 136 in all, and its red fives
+-- what a word w of tiles of the hand makes of what was said before: its tiles are counted, at most 136 in all
 pub record TilesAdded (before : Said) (w : List ℕ) (after : Said) : Type 0 where
   pub counted : Counted (before .counts) (tilesIn w) (after .counts)
   pub all : after .tiles ≡ before .tiles + namedIn w
   pub few : after .tiles ≤ 136
-  pub red : after .reds ≡ redsWith (before .reds) w
 
 -- what a winning tile makes of it: the word w names one tile, and that is it
 pub record WonOn (before : Said) (w : List ℕ) (drawn : Bool) (after : Said) : Type 0 where
@@ -26,7 +22,11 @@ pub record WonOn (before : Said) (w : List ℕ) (drawn : Bool) (after : Said) : 
   pub how : after .tsumo ≡ drawn
   pub single : namedIn w ≡ 1
   pub tile : after .«winning_tile» ≡ readAt 0 w
-  pub red : after .reds ≡ redsWith (before .reds) w
+
+-- what a word w of indicators makes of it: its tiles come behind those of ura where it is said of ura, else behind those of dora
+pub record IndicatorsAdded (before : Said) (w : List ℕ) (isUra : Bool) (after : Said) : Type 0 where
+  pub ofDora : after .dora ≡ cond isUra (before .dora) (withIndicators (before .dora) (tilesOf w))
+  pub ofUra : after .ura ≡ cond isUra (withIndicators (before .ura) (tilesOf w)) (before .ura)
 
 -- a flag by its number: riichi, double riichi, ippatsu, rinshan, chankan, last tile, tenhou, chiihou
 abbrev pub flagAt : Said → ℕ → Bool
@@ -49,4 +49,6 @@ winOf s =
       «is_tenhou» = flagAt s 6;
       «is_chiihou» = flagAt s 7;
       «double_wind_fu» = cond (s .«double_wind_two») 2 4;
+      «dora_indicators» = s .dora;
+      «ura_dora_indicators» = s .ura;
     }

@@ -5,7 +5,8 @@ ghost use Prim.Native.Nat.{_+_, _≤_, _<_, min};
 ghost use lib.ListN.{length};
 ghost use Rattle.context.specs.Context.{inRange};
 ghost use Rattle.call_words.specs.Calls.{withCall};
-ghost use Rattle.notation.specs.Said.{redsWith, TilesAdded, WonOn, winOf};
+ghost use Rattle.notation.specs.Said.{TilesAdded, WonOn, IndicatorsAdded, winOf};
+use crate::indicators;
 use crate::pieces;
 use tile_words::faults;
 
@@ -30,13 +31,13 @@ pub struct Said {
     // the word for the last tile was haitei, or houtei
     pub haitei: bool,
     pub houtei: bool,
-    // the tiles said in the hand, and the red fives among all tiles said
+    // the indicators of dora, and those of ura
+    pub dora: context::Indicators,
+    pub ura: context::Indicators,
+    // how many tiles were said in the hand; whether how to use the program was asked for
     pub tiles: usize,
-    pub reds: usize,
-    // dora was said; how to use the program was asked for
-    pub dora: bool,
     pub help: bool,
-    // what the next word is for: 0 anything, 1 to 9 as the known words from chi to seat say, 10 riichi behind double, 11 tiles behind dora
+    // what the next word is for: 0 anything, 1 to 9 as the known words from chi to seat say, 10 riichi behind double, 11 and 12 tiles behind dora and ura
     pub wanted: usize,
     // the number of the last argument, and what is wrong with it, or 0
     pub word: usize,
@@ -59,20 +60,6 @@ fn more_tiles(tiles: usize, n: usize) -> usize
         return 137;
     }
     tiles + n
-}
-
-// Red fives so far with those of a word, up to 1,000.
-fn more_reds(reds: usize, word: &[u8]) -> usize
-    ensures { λ r. ⌜ r ≡ redsWith reds (now (word .entry)) ⌝ }
-{
-    let n = tile_words::reds_in(word);
-    if 1000 <= n {
-        return 1000;
-    }
-    if 1000 - n <= reds {
-        return 1000;
-    }
-    reds + n
 }
 
 // The kind of the call behind chi, pon, kan, ankan or kakan, from 1 on.
@@ -128,7 +115,7 @@ fn double_wind_fu(two: bool) -> u8
 }
 
 impl Said {
-    // Before the first word: round East, seat South, four fu for the pair of the double wind.
+    // Before the first word: round East, seat South, four fu for the pair of the double wind, no indicators.
     pub fn nothing() -> Said {
         Said {
             counts: [0; 34],
@@ -153,9 +140,9 @@ impl Said {
             flags: [false; 8],
             haitei: false,
             houtei: false,
+            dora: indicators::none(),
+            ura: indicators::none(),
             tiles: 0,
-            reds: 0,
-            dora: false,
             help: false,
             wanted: 0,
             word: 0,
@@ -235,19 +222,17 @@ impl Said {
         let mut said = self;
         said.counts = counts;
         said.tiles = tiles;
-        said.reds = more_reds(self.reds, word);
         said
     }
 
     // A call that was found in a word.
-    fn with_call(self, m: meld::Meld, word: &[u8]) -> Said
-        ensures { λ r. ⌜ (r .calls ≡ withCall (self .calls) m) × (r .reds ≡ redsWith (self .reds) (now (word .entry))) ⌝ }
+    fn with_call(self, m: meld::Meld) -> Said
+        ensures { λ r. ⌜ r .calls ≡ withCall (self .calls) m ⌝ }
     {
         let calls = self.calls;
         let more = call_words::with_call(calls, m);
         let mut said = self;
         said.calls = more;
-        said.reds = more_reds(self.reds, word);
         said
     }
 
@@ -260,7 +245,7 @@ impl Said {
         let found = call_words::call_in(word, kind);
         match found {
             call_words::Found::Nothing => self.faulty(no_call),
-            call_words::Found::Call(m) => self.with_call(m, word),
+            call_words::Found::Call(m) => self.with_call(m),
         }
     }
 
@@ -279,7 +264,6 @@ impl Said {
         said.won = true;
         said.tsumo = tsumo;
         said.winning_tile = tile_words::tile_at(word, 0);
-        said.reds = more_reds(self.reds, word);
         said
     }
 
@@ -402,14 +386,23 @@ impl Said {
         self.with_flag(1)
     }
 
-    // Tiles behind dora or ura. They are not counted.
-    fn with_dora(mut self, word: &[u8]) -> Said {
+    // The tiles behind dora or ura: the indicators as they are shown.
+    fn with_indicators(self, word: &[u8], is_ura: bool) -> Said
+        ensures { λ r. ⌜ (r .fault ≡ 0 → IndicatorsAdded self (now (word .entry)) «is_ura» r) ⌝ }
+    {
         let fault = tile_words::check_tiles(word);
         if fault != 0 {
             return self.faulty_at(fault, tile_words::fault_place(word));
         }
-        self.dora = true;
-        self
+        let dora = self.dora;
+        let ura = self.ura;
+        let mut said = self;
+        if is_ura {
+            said.ura = indicators::with_word(ura, word);
+            return said;
+        }
+        said.dora = indicators::with_word(dora, word);
+        said
     }
 
     // How to use the program was asked for.
@@ -450,9 +443,9 @@ impl Said {
         match i {
             17 => self.as_dealer(),
             18 | 19 => self.with_last_tile(i == 18),
-            20 | 21 => self.wanting(i - 10),
-            22 | 23 => self.with_double_wind(i == 22),
-            24 => self.with_help(),
+            20..=22 => self.wanting(i - 10),
+            23 | 24 => self.with_double_wind(i == 23),
+            25 => self.with_help(),
             _ => self,
         }
     }
@@ -460,7 +453,7 @@ impl Said {
     // A word that may be anything.
     fn with_any(self, word: &[u8]) -> Said {
         let i = known_words::known(word);
-        if i < 26 {
+        if i < 27 {
             return self.with_known(i);
         }
         self.with_pieces(word)
@@ -480,7 +473,7 @@ impl Said {
         if wanted == 10 {
             return self.with_riichi(word);
         }
-        self.with_dora(word)
+        self.with_indicators(word, wanted == 12)
     }
 
     // One word more, without blanks.
@@ -544,6 +537,8 @@ impl Said {
         ensures { λ r. ⌜ (r ≡ winOf self) × (inRange r ≡ true) ⌝ }
     {
         let flags = self.flags;
+        let dora = self.dora;
+        let ura = self.ura;
         context::GameContext {
             win_type: lists::one_if(self.tsumo),
             winning_tile: self.winning_tile,
@@ -558,6 +553,8 @@ impl Said {
             is_tenhou: flags[6],
             is_chiihou: flags[7],
             double_wind_fu: double_wind_fu(self.double_wind_two),
+            dora_indicators: dora,
+            ura_dora_indicators: ura,
         }
     }
 }

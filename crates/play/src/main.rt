@@ -8,21 +8,23 @@
 //   128..162   the counts
 //   162        number of calls
 //   163..171   four melds, each its tile and its kind
-//   171..184   the win: type, winning tile, round wind, seat wind, eight flags as 0 or 1: riichi, double riichi, ippatsu, rinshan, chankan,
-//              last tile, tenhou, chiihou, and the room's fu for a pair that is both round and seat wind
-//   184, 185   listing: the answer's number, the count of readings
-//   186, 187   scoring the win: the answer's number, the chosen reading
-//   188        how many readings are scored, at most 8
-//   189        the number that refuses the reading after them
-//   190        what is played: 0 a hand, 1 han and fu, 2 basic points
-//   191..194   han, fu, 1 where there is a yakuman
-//   194, 195   win type, 1 for the dealer
-//   196        payment: the answer's number
+//   171..206   the win: type, winning tile, round wind, seat wind, eight flags as 0 or 1: riichi, double riichi, ippatsu, rinshan, chankan,
+//              last tile, tenhou, chiihou; the room's fu for a pair that is both round and seat wind; and the indicators of dora and of ura,
+//              each how many are shown and ten tiles
+//   206, 207   listing: the answer's number, the count of readings
+//   208, 209   scoring the win: the answer's number, the chosen reading
+//   210        how many readings are scored, at most 8
+//   211        the number that refuses the reading after them
+//   212        what is played: 0 a hand, 1 han and fu, 2 basic points
+//   213..216   han, fu, 1 where there is a yakuman
+//   216, 217   win type, 1 for the dealer
+//   218        payment: the answer's number
 //   256..1024  a slot of 96 bytes for each reading (of points the first one):
 //     0..47    its tallies
 //     47..53   its waits
 //     53..56   han, fu, 1 where there is a yakuman
 //     56, 57   level, 0 Normal to 5 Yakuman, and how many times a yakuman counts
+//     58, 59   dora, and ura
 //     60..64   basic points
 //     64..68   from each non-dealer
 //     68..72   from the dealer
@@ -97,9 +99,9 @@ fn same_listing(rec: &[u8]) -> bool
 {
     let listing = list(rec);
     match listing {
-        unit::Listing::Refused(n) => (0 < n) & (n == rec[184]) & (rec[185] == 0),
-        unit::Listing::Listed(readings, _) => (rec[184] == 0)
-            & (readings == stored::wide(rec[185])),
+        unit::Listing::Refused(n) => (0 < n) & (n == rec[206]) & (rec[207] == 0),
+        unit::Listing::Listed(readings, _) => (rec[206] == 0)
+            & (readings == stored::wide(rec[207])),
     }
 }
 
@@ -115,8 +117,8 @@ fn same_win(rec: &[u8]) -> bool
     requires { ⌜ length (now rec) ≡ 1024 ⌝ }
 {
     let a = score_of(rec);
-    let number = rec[186];
-    let chosen = stored::wide(rec[187]);
+    let number = rec[208];
+    let chosen = stored::wide(rec[209]);
     if number != 0 {
         return is_refused(number, a);
     }
@@ -158,7 +160,7 @@ fn same_next(rec: &[u8], n: usize) -> bool
 {
     let calls = called(rec);
     let w = stored::win_at(rec, 171);
-    let number = rec[189];
+    let number = rec[211];
     let a = win::score_reading(&rec[128..162], calls, w, n);
     let waits = win::name_waits(&rec[128..162], calls, w, n);
     is_refused(number, a) & is_unnamed(number, waits)
@@ -168,7 +170,7 @@ fn same_next(rec: &[u8], n: usize) -> bool
 fn same_hand(rec: &[u8]) -> bool
     requires { ⌜ length (now rec) ≡ 1024 ⌝ }
 {
-    let n = stored::wide(rec[188]);
+    let n = stored::wide(rec[210]);
     if n > 8 {
         return false;
     }
@@ -181,17 +183,17 @@ fn same_hand(rec: &[u8]) -> bool
 fn basic_of(rec: &[u8]) -> u32
     requires { ⌜ length (now rec) ≡ 1024 ⌝ }
 {
-    if rec[190] == 2 {
+    if rec[212] == 2 {
         return stored::u32_at(rec, 316);
     }
-    scoring::calculate_basic_points(rec[191], rec[192], rec[193] == 1)
+    scoring::calculate_basic_points(rec[213], rec[214], rec[215] == 1)
 }
 
 // Who pays what for them.
 fn payment_of(rec: &[u8]) -> scoring::PaymentAnswer
     requires { ⌜ length (now rec) ≡ 1024 ⌝ }
 {
-    scoring::score_payment(basic_of(rec), rec[195] == 1, rec[194])
+    scoring::score_payment(basic_of(rec), rec[217] == 1, rec[216])
 }
 
 // Is the payment what the record says?
@@ -200,8 +202,8 @@ fn same_paid(rec: &[u8]) -> bool
 {
     let answer = payment_of(rec);
     match answer {
-        scoring::PaymentAnswer::Refused(n) => (0 < n) & (n == rec[196]),
-        scoring::PaymentAnswer::Paid(p) => (rec[196] == 0) & stored::same_payment(rec, 320, p),
+        scoring::PaymentAnswer::Refused(n) => (0 < n) & (n == rec[218]),
+        scoring::PaymentAnswer::Paid(p) => (rec[218] == 0) & stored::same_payment(rec, 320, p),
     }
 }
 
@@ -209,9 +211,9 @@ fn same_paid(rec: &[u8]) -> bool
 fn same_points(rec: &[u8]) -> bool
     requires { ⌜ length (now rec) ≡ 1024 ⌝ }
 {
-    let level = scoring::determine_score_level(rec[191], rec[192], rec[193] == 1);
+    let level = scoring::determine_score_level(rec[213], rec[214], rec[215] == 1);
     let basic = basic_of(rec) == stored::u32_at(rec, 316);
-    let leveled = (rec[190] == 2) | stored::same_level(rec, 312, level);
+    let leveled = (rec[212] == 2) | stored::same_level(rec, 312, level);
     basic & leveled & same_paid(rec)
 }
 
@@ -283,7 +285,7 @@ fn answer(rec: &[u8]) -> bool
 {
     print_text(rec);
     stored::print(b": ");
-    if rec[190] == 0 {
+    if rec[212] == 0 {
         print_win(rec);
         return same_hand(rec);
     }

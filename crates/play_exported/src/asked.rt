@@ -23,7 +23,7 @@ const VERSION: usize = 7;
 const DIFFER: usize = 8;
 
 // The version of the interface that is asked here.
-const WRITTEN_FOR: u32 = 4;
+const WRITTEN_FOR: u32 = 5;
 
 // ---- what is lent
 
@@ -111,8 +111,8 @@ fn same_amounts(
         & (total == stored::u32_at(s, at + 12) as u64)
 }
 
-// Are these the values of a score, with this settlement? `at` is the place of the tallies, `numbers` that of han, fu, yakuman and level,
-// and `points` that of basic points and payment.
+// Are these the values of a score, with this settlement? `at` is the place of the tallies, `numbers` that of han, fu, yakuman, level and
+// dora, and `points` that of basic points and payment.
 pub fn same_values(
     s: &[u8],
     at: usize,
@@ -121,13 +121,14 @@ pub fn same_values(
     settlement: u32,
     v: answers::ScoreValues,
 ) -> bool
-    requires { ⌜ (at + 47 ≤ length (now s)) × ((numbers + 5 ≤ length (now s)) × (points + 20 ≤ length (now s))) ⌝ }
+    requires { ⌜ (at + 47 ≤ length (now s)) × ((numbers + 7 ≤ length (now s)) × (points + 20 ≤ length (now s))) ⌝ }
 {
     let tallies = v.tallies;
     (v.settlement == settlement)
         & stored::same_tallies(s, at, tallies)
         & stored::same_numbers(s, numbers, v.han, v.fu, v.is_yakuman)
         & same_level(s, numbers + 3, v.level, v.yakuman_count)
+        & stored::same_dora(s, numbers + 5, v.regular_dora, v.ura_dora)
         & (v.basic_points == stored::u32_at(s, points))
         & same_amounts(
             s,

@@ -11,8 +11,8 @@ fn list_hand(rec: &[u8], row: &[u8], t: stored::Tally) -> stored::Tally
     let mut buf = [asked::FILLED; 1468];
     let calls = asked::lent(stored::wide(rec[162]));
     let a = lending::list(&rec[128..162], asked::five_at(rec, 163), calls, &mut buf);
-    let agrees = (a.number == asked::number(rec[184]))
-        & (a.readings == stored::wide(rec[185]))
+    let agrees = (a.number == asked::number(rec[206]))
+        & (a.readings == stored::wide(rec[207]))
         & asked::same_records(&buf, a.readings, a.bytes);
     asked::count(t, asked::LIST, agrees, row)
 }
@@ -49,8 +49,8 @@ fn is_refused(number: u8, v: answers::ScoreValues) -> bool {
 fn same_win(rec: &[u8], v: answers::ScoreValues) -> bool
     requires { ⌜ length (now rec) ≡ 1024 ⌝ }
 {
-    let number = rec[186];
-    let chosen = stored::wide(rec[187]);
+    let number = rec[208];
+    let chosen = stored::wide(rec[209]);
     if number != 0 {
         return is_refused(number, v);
     }
@@ -69,7 +69,7 @@ fn ask_next(rec: &[u8], k: usize, row: &[u8], t: stored::Tally) -> stored::Tally
     let win = a.win;
     let reading = a.reading;
     let waits = a.waits;
-    let number = rec[189];
+    let number = rec[211];
     let won = asked::count(t, asked::WIN, same_win(rec, win), row);
     let read = asked::count(won, asked::READING, is_refused(number, reading), row);
     asked::count(
@@ -132,7 +132,7 @@ fn ask_readings(rec: &[u8], n: usize, row: &[u8], t: stored::Tally) -> stored::T
 fn play_hand(rec: &[u8], row: &[u8], t: stored::Tally) -> stored::Tally
     requires { ⌜ length (now rec) ≡ 1024 ⌝ }
 {
-    let n = stored::wide(rec[188]);
+    let n = stored::wide(rec[210]);
     if n > 8 {
         return t.answer(false);
     }
@@ -145,12 +145,12 @@ fn play_hand(rec: &[u8], row: &[u8], t: stored::Tally) -> stored::Tally
 fn play_points(rec: &[u8], row: &[u8], t: stored::Tally) -> stored::Tally
     requires { ⌜ length (now rec) ≡ 1024 ⌝ }
 {
-    let dealer = rec[195] == 1;
-    if rec[190] == 2 {
-        return asked::ask_payment(rec, 316, rec[196], dealer, rec[194], row, t);
+    let dealer = rec[217] == 1;
+    if rec[212] == 2 {
+        return asked::ask_payment(rec, 316, rec[218], dealer, rec[216], row, t);
     }
-    let leveled = asked::ask_level(rec, 191, 312, 316, row, t);
-    asked::ask_payment(rec, 316, rec[196], dealer, rec[194], row, leveled)
+    let leveled = asked::ask_level(rec, 213, 312, 316, row, t);
+    asked::ask_payment(rec, 316, rec[218], dealer, rec[216], row, leveled)
 }
 
 // The length of a text, at most 127.
@@ -169,7 +169,7 @@ pub fn play(rec: &[u8], t: stored::Tally) -> stored::Tally
 {
     let size = text_length(rec[0]);
     let next = t.record(true);
-    if rec[190] == 0 {
+    if rec[212] == 0 {
         return play_hand(rec, &rec[1..1 + size], next);
     }
     play_points(rec, &rec[1..1 + size], next)

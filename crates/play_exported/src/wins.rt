@@ -6,12 +6,12 @@ use crate::asked;
 
 // Is the answer the one at a place: its number, that of the reading, and the score?
 fn same_answer(rec: &[u8], at: usize, v: answers::ScoreValues) -> bool
-    requires { ⌜ (length (now rec) ≡ 256) × (at + 74 ≤ 256) ⌝ }
+    requires { ⌜ (length (now rec) ≡ 256) × (at + 76 ≤ 256) ⌝ }
 {
     let settlement = asked::settlement_of(rec[at], stored::win_at(rec, 51));
     (v.number == asked::number(rec[at]))
         & (v.reading == stored::wide(rec[at + 1]))
-        & asked::same_values(rec, at + 2, at + 49, at + 54, settlement, v)
+        & asked::same_values(rec, at + 2, at + 49, at + 56, settlement, v)
 }
 
 // The tally after the hand of a win is listed: refused with 1 to 6 like the win, else accepted, and without a reading where the win is
@@ -23,13 +23,13 @@ fn list_win(rec: &[u8], counts: &[u8], row: &[u8], t: stored::Tally) -> stored::
     let calls = asked::lent(stored::u16_at(rec, 41));
     let a = lending::list(counts, asked::five_at(rec, 43), calls, &mut buf);
     let written = asked::same_records(&buf, a.readings, a.bytes);
-    let number = asked::number(rec[66]);
+    let number = asked::number(rec[88]);
     if number > 0 && number < 7 {
         let refused = (a.number == number) & (a.readings == 0) & written;
         return asked::count(t, asked::LIST, refused, row);
     }
     let none = a.readings == 0;
-    let agrees = (number == 8) | (number == 9) | ((number == 10) == none);
+    let agrees = (number == 8) | (number == 9) | (number == 14) | ((number == 10) == none);
     asked::count(t, asked::LIST, (a.number == 0) & agrees & written, row)
 }
 
@@ -44,7 +44,7 @@ fn ask_win(rec: &[u8], counts: &[u8]) -> lending::Asked
         asked::five_at(rec, 43),
         calls,
         win,
-        stored::u16_at(rec, 64),
+        stored::u16_at(rec, 86),
     )
 }
 
@@ -55,12 +55,12 @@ fn count_win(rec: &[u8], a: lending::Asked, row: &[u8], t: stored::Tally) -> sto
     let win = a.win;
     let reading = a.reading;
     let waits = a.waits;
-    let won = asked::count(t, asked::WIN, same_answer(rec, 66, win), row);
-    let read = asked::count(won, asked::READING, same_answer(rec, 140, reading), row);
+    let won = asked::count(t, asked::WIN, same_answer(rec, 88, win), row);
+    let read = asked::count(won, asked::READING, same_answer(rec, 164, reading), row);
     asked::count(
         read,
         asked::WAITS,
-        asked::same_waits(rec, 215, rec[214], waits),
+        asked::same_waits(rec, 241, rec[240], waits),
         row,
     )
 }
@@ -69,12 +69,12 @@ fn count_win(rec: &[u8], a: lending::Asked, row: &[u8], t: stored::Tally) -> sto
 fn ask_win_points(rec: &[u8], row: &[u8], t: stored::Tally) -> stored::Tally
     requires { ⌜ length (now rec) ≡ 256 ⌝ }
 {
-    if rec[66] != 0 {
+    if rec[88] != 0 {
         return t;
     }
     let win = stored::win_at(rec, 51);
-    let leveled = asked::ask_level(rec, 115, 118, 120, row, t);
-    asked::ask_payment(rec, 120, 0, win.seat_wind == 27, win.win_type, row, leveled)
+    let leveled = asked::ask_level(rec, 137, 140, 144, row, t);
+    asked::ask_payment(rec, 144, 0, win.seat_wind == 27, win.win_type, row, leveled)
 }
 
 // The tally after a win with these counts, which the number of its record names.

@@ -26,6 +26,7 @@ use Rattle.scoring.specs.declared.Payment.the-variants.{Ron, DealerTsumo, Tsumo
 use Rattle.scoring.specs.declared.PaymentAnswer.{PaymentAnswer}
 use Rattle.scoring.specs.declared.PaymentAnswer.the-variants.{Refused, Paid}
 use Rattle.fu.specs.Fu.{standardFu, fu}
+use Rattle.dora.specs.Dora.{doraOf, doraIn, totalHan}
 use Rattle.scoring.specs.Level.{level, basicPoints}
 use Rattle.scoring.specs.Payment.{payment, paymentAnswer}
 use Rattle.checks.specs.Checks.{check, handCheck}
@@ -158,15 +159,19 @@ comesTo i v a = eqb (a .number) 0 && (eqb (a .reading) i && isWorth v (a .score)
 abbrev pub refusedWith : ℕ → ScoreAnswer → Bool
 refusedWith n a = eqb (a .number) n
 
--- what the checks answer: 1 to 9 are their refusals; 10 and 11 come after all checks have passed
+-- 1 to 9 and 14 are refusals of the checks; 10 and 11 come after all checks have passed
+abbrev pub byCheck : ℕ → Bool
+byCheck n = ltb n 10 || eqb n 14
+
+-- what the checks answer
 abbrev pub checkedTo : Outcome → ℕ
-checkedTo (refuses n) = cond (ltb n 10) n 0
+checkedTo (refuses n) = cond (byCheck n) n 0
 checkedTo (chooses i) = 0
 
--- listing refuses with 1 to 6 likewise, and else has so many readings; where the win alone is refused (8, 9) nothing is said of them
+-- listing refuses with 1 to 6 likewise, and else has so many readings; where the win alone is refused (8, 14, 9) nothing is said of them
 abbrev pub listsTo : Outcome → ℕ → Listing → Bool
 listsTo (refuses n) m l =
-    cond (ltb n 7) (eqb (numberOf l) n) (eqb (numberOf l) 0 && (ltb n 10 || eqb (readingsOf l) m))
+    cond (ltb n 7) (eqb (numberOf l) n) (eqb (numberOf l) 0 && (byCheck n || eqb (readingsOf l) m))
 listsTo (chooses i) m l = eqb (numberOf l) 0 && eqb (readingsOf l) m
 
 -- each reading by its number, counted from n, comes to what is said, and the number after the last one is refused with 12, or with the check's number
@@ -192,7 +197,7 @@ answers vs o n l f a =
 
 -- the row holds. What a proof computes with stands here once: `unfolding holds` opens all of it
 unfoldable pub holds : Row → Bool
-unfolding meldLists standardsAt sevenPairs thirteenOrphans readings recordOf pinfu waits tanyao honroutou tsuuiisou chinroutou ryuuiisou honitsu chinitsu nineGates pureWait tileYaku toitoi kans yakuhai dragons winds sanAnkou ittsu sanshokuDoujun sanshokuDoukou peikou chanta junchan shousangen suuankou daisangen shousuushii daisuushii suuKantsu names oneHan moreHan isYakuman ordinary tallies hanOf han standardFu fu level basicPoints payment paymentAnswer check handCheck handReadings handRecords listing result scoreOf rank chooseBy choice numbered orThen winCheck scoreIn scores scoreReading scoreWin nameWaits
+unfolding meldLists standardsAt sevenPairs thirteenOrphans readings recordOf pinfu waits tanyao honroutou tsuuiisou chinroutou ryuuiisou honitsu chinitsu nineGates pureWait tileYaku toitoi kans yakuhai dragons winds sanAnkou ittsu sanshokuDoujun sanshokuDoukou peikou chanta junchan shousangen suuankou daisangen shousuushii daisuushii suuKantsu names oneHan moreHan isYakuman ordinary tallies hanOf han standardFu fu level basicPoints payment paymentAnswer check handCheck handReadings handRecords listing doraOf doraIn totalHan result scoreOf rank chooseBy choice numbered orThen winCheck scoreIn scores scoreReading scoreWin nameWaits
 holds (won cs ms w vs o) =
     let k = callsOf ms in
     answers vs o (winCheck cs k w) (listing cs k 1467) (scoreReading cs k w) (scoreWin cs k w)

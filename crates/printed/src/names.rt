@@ -129,8 +129,8 @@ const LEVELS: [[u8; 9]; 6] = [
     *b"Yakuman  ",
 ];
 
-// What each refusal of a win means, by its number.
-const REFUSALS: [[u8; 53]; 12] = [
+// What each refusal means, by its number.
+const REFUSALS: [[u8; 53]; 15] = [
     *b"accepted                                             ",
     *b"the counts are not 34 long                           ",
     *b"more than four calls                                 ",
@@ -143,6 +143,9 @@ const REFUSALS: [[u8; 53]; 12] = [
     *b"the winning tile is not in the hand                  ",
     *b"the hand has no reading                              ",
     *b"no reading has a yaku                                ",
+    *b"no reading has this number                           ",
+    *b"basic points above 152,000                           ",
+    *b"an indicator is above 33, or there are more than ten ",
 ];
 
 // The name of the yaku at a place of the tallies.
@@ -168,7 +171,7 @@ fn level_row(i: usize) -> [u8; 9]
 
 // The meaning of a refusal.
 fn refusal_row(i: usize) -> [u8; 53]
-    requires { ⌜ i < 12 ⌝ }
+    requires { ⌜ i < 15 ⌝ }
 {
     REFUSALS[i]
 }
@@ -244,7 +247,7 @@ pub fn say_level(level: scoring::ScoreLevel) {
 
 // Writes what a refusal means.
 pub fn say_refusal(number: u8) {
-    if 11 < number {
+    if 14 < number {
         return;
     }
     let row = refusal_row(number as usize);

@@ -1,4 +1,4 @@
-// Waits, yaku, han, fu, levels and payments.
+// Waits, yaku, dora, han, fu, levels and payments.
 ghost use Prim.Native.Nat.{_<_};
 use crate::names;
 use crate::parts;
@@ -104,6 +104,50 @@ fn say_yaku_of(x: reading_score::ScoringResult, opened: bool) {
     text::say(b"\n");
 }
 
+// Writes how many dora of a sort there are, if any, and that they are han where they count. Answers whether nothing stands in the list yet.
+fn say_dora(name: &[u8], n: u8, counts: bool, first: bool) -> bool {
+    if n == 0 {
+        return first;
+    }
+    text::say_comma(first);
+    text::say(name);
+    text::say_number(n as u64);
+    if counts {
+        text::say(b" han");
+    }
+    false
+}
+
+// Has the reading a dora of either sort?
+fn has_dora(x: reading_score::ScoringResult) -> bool {
+    let dora = x.dora;
+    (0 < dora.regular) | (0 < dora.ura)
+}
+
+// Writes the dora of a reading, if it has any; beside a yakuman none counts.
+fn say_dora_of(x: reading_score::ScoringResult) {
+    let dora = x.dora;
+    if !has_dora(x) {
+        return;
+    }
+    text::say(b"  dora: ");
+    let first = say_dora(b"Dora ", dora.regular, !x.is_yakuman, true);
+    say_dora(b"Ura Dora ", dora.ura, !x.is_yakuman, first);
+    if x.is_yakuman {
+        text::say(b" (beside a yakuman no dora counts)");
+    }
+    text::say(b"\n");
+}
+
+// Writes that a reading without a yaku cannot win, with dora neither.
+fn say_no_yaku(x: reading_score::ScoringResult) {
+    text::say(b"  no yaku: cannot win");
+    if has_dora(x) {
+        text::say(b" (dora alone is no yaku)");
+    }
+    text::say(b"\n");
+}
+
 // Writes what a reading with a yaku is worth, and who pays it.
 fn say_worth_of(x: reading_score::ScoringResult) {
     let payment = x.payment;
@@ -116,7 +160,7 @@ fn say_worth_of(x: reading_score::ScoringResult) {
     text::say(b"\n");
 }
 
-// Writes the waits, the yaku, the fu in its parts and the worth of a reading; of one without a yaku that it cannot win.
+// Writes the waits, the yaku, the dora, the fu in its parts and the worth of a reading; of one without a yaku that it cannot win.
 pub fn say_score(
     x: reading_score::ScoringResult,
     waits: [u8; 6],
@@ -128,12 +172,13 @@ pub fn say_score(
     say_waits(waits);
     text::say(b"\n");
     say_yaku_of(x, opened);
+    say_dora_of(x);
     text::say(b"  fu: ");
     parts::say_parts(h, w, opened, x.fu);
     text::say(b"\n");
     if has_yaku(x) {
         say_worth_of(x);
     } else {
-        text::say(b"  no yaku: cannot win\n");
+        say_no_yaku(x);
     }
 }

@@ -9,15 +9,16 @@ use Rattle.context.specs.Named.{win, dealerWins, ron, tsumo, byRon, byTsumo}
 use Rattle.scoring.specs.declared.Payment.the-variants.{Ron, DealerTsumo, Tsumo}
 use Rattle.scoring.specs.Level.{basicPoints}
 use Rattle.scoring.specs.Payment.{payment}
+use Rattle.dora.specs.Dora.{noDora}
 use Rattle.reading_score.specs.declared.ScoringResult.{ScoringResult}
 use Rattle.reading_score.specs.Score.{result, rank}
 
 -- a score by ron with a yaku, of so many han and fu, counted or of a yakuman
 abbrev counted : ℕ → ℕ → ScoringResult
-counted han fu = result (ron (man 1)) (1 ∷ []) han fu false
+counted han fu = result (ron (man 1)) (1 ∷ []) han fu false noDora
 
 abbrev ofYakuman : ℕ → ℕ → ScoringResult
-ofYakuman han fu = result (ron (man 1)) (1 ∷ []) han fu true
+ofYakuman han fu = result (ron (man 1)) (1 ∷ []) han fu true noDora
 
 -- the first ranks above the second
 abbrev Above : ScoringResult → ScoringResult → Type 0
@@ -49,41 +50,41 @@ unfolding result payment basicPoints rank
 fu-last = tt
 
 -- and nothing else tells them apart: not which yaku it is
-pub same-score-same-rank : rank (result (ron (man 1)) (1 ∷ 0 ∷ []) 5 30 false) ≡ rank (result (ron (man 1)) (0 ∷ 1 ∷ []) 5 30 false)
+pub same-score-same-rank : rank (result (ron (man 1)) (1 ∷ 0 ∷ []) 5 30 false noDora) ≡ rank (result (ron (man 1)) (0 ∷ 1 ∷ []) 5 30 false noDora)
 unfolding result payment basicPoints rank
 same-score-same-rank = refl
 
 -- ---- without a yaku the rank is 0, whatever is paid; with one, even the least is above it
-pub no-yaku-no-rank : rank (result (ron (man 1)) (0 ∷ 0 ∷ []) 5 30 false) ≡ 0
+pub no-yaku-no-rank : rank (result (ron (man 1)) (0 ∷ 0 ∷ []) 5 30 false noDora) ≡ 0
 unfolding result payment basicPoints rank
 no-yaku-no-rank = refl
 
-pub least-above-none : Above (counted 1 30) (result (ron (man 1)) (0 ∷ 0 ∷ []) 5 30 false)
+pub least-above-none : Above (counted 1 30) (result (ron (man 1)) (0 ∷ 0 ∷ []) 5 30 false noDora)
 unfolding result payment basicPoints rank
 least-above-none = tt
 
 -- ---- who pays: 3 han 30 fu of the seat South, and of the dealer, by ron and by tsumo
-pub south-by-ron : result (ron (man 1)) (1 ∷ []) 3 30 false .payment ≡ Ron 3900
+pub south-by-ron : result (ron (man 1)) (1 ∷ []) 3 30 false noDora .payment ≡ Ron 3900
 unfolding result payment basicPoints
 south-by-ron = refl
 
-pub dealer-by-ron : result (dealerWins byRon (man 1) []) (1 ∷ []) 3 30 false .payment ≡ Ron 5800
+pub dealer-by-ron : result (dealerWins byRon (man 1) []) (1 ∷ []) 3 30 false noDora .payment ≡ Ron 5800
 unfolding result payment basicPoints
 dealer-by-ron = refl
 
-pub south-by-tsumo : result (tsumo (man 1)) (1 ∷ []) 3 30 false .payment ≡ Tsumo 2000 1000
+pub south-by-tsumo : result (tsumo (man 1)) (1 ∷ []) 3 30 false noDora .payment ≡ Tsumo 2000 1000
 unfolding result payment basicPoints
 south-by-tsumo = refl
 
-pub dealer-by-tsumo : result (dealerWins byTsumo (man 1) []) (1 ∷ []) 3 30 false .payment ≡ DealerTsumo 2000
+pub dealer-by-tsumo : result (dealerWins byTsumo (man 1) []) (1 ∷ []) 3 30 false noDora .payment ≡ DealerTsumo 2000
 unfolding result payment basicPoints
 dealer-by-tsumo = refl
 
 -- in the round South the dealer sits East all the same, and the seat South is no dealer
-pub south-round-east-seat : result (win byRon (man 1) South East []) (1 ∷ []) 3 30 false .payment ≡ Ron 5800
+pub south-round-east-seat : result (win byRon (man 1) South East []) (1 ∷ []) 3 30 false noDora .payment ≡ Ron 5800
 unfolding result payment basicPoints
 south-round-east-seat = refl
 
-pub south-round-south-seat : result (win byRon (man 1) South South []) (1 ∷ []) 3 30 false .payment ≡ Ron 3900
+pub south-round-south-seat : result (win byRon (man 1) South South []) (1 ∷ []) 3 30 false noDora .payment ≡ Ron 3900
 unfolding result payment basicPoints
 south-round-south-seat = refl

@@ -3,21 +3,27 @@
 -- level, basic points and payment follow from them. Assumes nothing.
 use mathlib.Core.Path.{_≡_, refl, sym, ap, subst, _∙_}
 use mathlib.Core.Logic.{_⊎_, inl, inr}
-use mathlib.Core.Bool.{Bool, true, false, cond}
+use mathlib.Core.Bool.{Bool, true, false, not, cond}
 use Prim.Native.Nat.{ℕ, suc, _<_, _≤_}
 use native.Mathlib.Omega.{arith}
 use native.Mathlib.Decide.{decLe}
-use lib.Dec.{T}
+use lib.Dec.{T, eqb}
+use Rattle.lists.specs.Fold.{any}
 use Rattle.lists.proofs.Finite.{T→true}
 use Rattle.context.specs.declared.GameContext.{GameContext}
 use Rattle.context.specs.Context.{isDealer, isTsumo}
 use Rattle.hand.specs.Reading.{Reading}
 use Rattle.tile_yaku.specs.declared.TileYaku.{TileYaku}
 use Rattle.structure.proofs.Short.{Short}
-use Rattle.yaku.proofs.Laws.{han-small}
+use Rattle.yaku.specs.Tally.{isYakuman}
+use Rattle.yaku.specs.Han.{han}
+use Rattle.yaku.proofs.Laws.{han-small, han-plain}
 use Rattle.scoring.specs.Level.{level, basicPoints}
 use Rattle.scoring.specs.Payment.{payment, totalAt}
 use Rattle.fu.proofs.Bounds.{fu-small}
+use Rattle.dora.specs.declared.DoraCount.{DoraCount}
+use Rattle.dora.specs.Dora.{AtMostForty}
+use Rattle.dora.proofs.Counting.{total-small}
 use Rattle.reading_score.specs.declared.ScoringResult.{ScoringResult}
 use Rattle.reading_score.specs.Score.{result, scoreOf, hasYaku, yakumanFirst, inDigits, rank}
 use Rattle.reading_score.specs.Preferred.{Preferred, by-total, by-yakuman, by-han, by-fu}
@@ -26,6 +32,11 @@ use Rattle.reading_score.specs.Preferred.{Preferred, by-total, by-yakuma
 pub record Small (x : ScoringResult) : Type 0 where
   pub han : x .han < 256
   pub fu : x .fu < 256
+
+-- ---- dora is no yaku: where every tally is 0 the rank is 0, whatever the dora
+pub dora-no-yaku : (x : ScoringResult) → any (λ n. not (eqb n 0)) (x .tallies) ≡ false → rank x ≡ 0
+unfolding rank
+dora-no-yaku x e = rw e
 
 -- ---- a rank above 0 is of a yaku
 above-zero : (b : Bool) (n : ℕ) → 0 < cond b (suc n) 0 → T b
@@ -146,11 +157,15 @@ pub record Priced (tsumo dealer : Bool) (x : ScoringResult) : Type 0 where
   pub basic-points-are : x .«basic_points» ≡ basicPoints (x .han) (x .fu) (x .«is_yakuman»)
   pub payment-is : x .payment ≡ payment tsumo dealer (x .«basic_points»)
 
-module _ (w : GameContext) (opened : Bool) (s : TileYaku) (r : Reading) where
-  pub score-small : Short r → Small (scoreOf w opened s r)
+module _ (w : GameContext) (opened : Bool) (s : TileYaku) (d : DoraCount) (r : Reading) where
+  pub score-small : AtMostForty d → Short r → Small (scoreOf w opened s d r)
   unfolding scoreOf result
-  score-small h = record { han = han-small w opened s r h; fu = fu-small w opened r h }
+  score-small f h =
+      record {
+        han = total-small d f (isYakuman w opened s r) (han w opened s r) (han-small w opened s r h) (han-plain w opened s r h);
+        fu = fu-small w opened r h;
+      }
 
-  pub score-priced : Priced (isTsumo w) (isDealer w) (scoreOf w opened s r)
+  pub score-priced : Priced (isTsumo w) (isDealer w) (scoreOf w opened s d r)
   unfolding scoreOf result
   score-priced = record { level-is = refl; basic-points-are = refl; payment-is = refl }

@@ -1,5 +1,5 @@
 -- The score of a reading: all that is answered of it. w is the win, `opened` whether something was called from another player, s the answers
--- to the yaku that depend on the tiles alone (tile_yaku), r the reading. These are definitions.
+-- to the yaku that depend on the tiles alone (tile_yaku), d the dora of hand and calls together, r the reading. These are definitions.
 use mathlib.Core.Bool.{Bool, cond, not}
 use mathlib.Core.List.{List}
 use Prim.Native.Nat.{ℕ, suc, _+_, _*_}
@@ -12,13 +12,15 @@ use Rattle.tile_yaku.specs.declared.TileYaku.{TileYaku}
 use Rattle.yaku.specs.Tally.{tallies, isYakuman}
 use Rattle.yaku.specs.Han.{han}
 use Rattle.fu.specs.Fu.{fu}
+use Rattle.dora.specs.declared.DoraCount.{DoraCount}
+use Rattle.dora.specs.Dora.{totalHan}
 use Rattle.scoring.specs.Level.{level, basicPoints}
 use Rattle.scoring.specs.Payment.{payment, totalAt}
 use Rattle.reading_score.specs.declared.ScoringResult.{ScoringResult}
 
--- what yaku, han and fu come to; ts are the tallies: for each yaku, by its place, how often it counts
-unfoldable pub result : GameContext → List ℕ → ℕ → ℕ → Bool → ScoringResult
-result w ts han fu yakuman =
+-- what yaku, han, fu and dora come to; ts are the tallies: for each yaku, by its place, how often it counts. The dora are in the han already
+unfoldable pub result : GameContext → List ℕ → ℕ → ℕ → Bool → DoraCount → ScoringResult
+result w ts han fu yakuman d =
     record {
       tallies = ts;
       han = han;
@@ -27,13 +29,18 @@ result w ts han fu yakuman =
       «score_level» = level han fu yakuman;
       «basic_points» = basicPoints han fu yakuman;
       payment = payment (isTsumo w) (isDealer w) (basicPoints han fu yakuman);
+      dora = d;
     }
 
--- the score of the reading r
-unfoldable pub scoreOf : GameContext → Bool → TileYaku → Reading → ScoringResult
-scoreOf w opened s r = result w (tallies w opened s r) (han w opened s r) (fu w opened r) (isYakuman w opened s r)
+-- the han of the reading r: those of its yaku, with dora where there is no yakuman; also where there is no yaku
+abbrev pub hanWith : GameContext → Bool → TileYaku → DoraCount → Reading → ℕ
+hanWith w opened s d r = totalHan d (isYakuman w opened s r) (han w opened s r)
 
--- at least one yaku
+-- the score of the reading r
+unfoldable pub scoreOf : GameContext → Bool → TileYaku → DoraCount → Reading → ScoringResult
+scoreOf w opened s d r = result w (tallies w opened s r) (hanWith w opened s d r) (fu w opened r) (isYakuman w opened s r) d
+
+-- at least one yaku; dora is none
 abbrev pub hasYaku : ScoringResult → Bool
 hasYaku x = any (λ n. not (eqb n 0)) (x .tallies)
 

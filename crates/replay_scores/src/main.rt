@@ -1,19 +1,20 @@
 // Replays a stored sample of the reference library's answers for one reading each (data/scores): tallies, waits, han, fu, yakuman.
 //
-// The file is a row of records of 128 bytes:
+// The file is a row of records of 160 bytes:
 //   0         kind of the reading: 1 seven pairs, 2 thirteen orphans, 3 standard
 //   1         tile of the pair, or the doubled tile
 //   2..10     four melds, each its tile and its kind
 //   10..17    the tiles of seven pairs
 //   17..51    the counts of hand and calls together
-//   51..64    the win: type, winning tile, round wind, seat wind, eight flags as 0 or 1: riichi, double riichi, ippatsu, rinshan, chankan,
-//             last tile, tenhou, chiihou, and the room's fu for a pair that is both round and seat wind
-//   64        1 where the hand is open
-//   65..112   the answer's 47 tallies
-//   112..118  its 6 waits
-//   118       its han
-//   119       its fu
-//   120       1 where it has a yakuman
+//   51..86    the win: type, winning tile, round wind, seat wind, eight flags as 0 or 1: riichi, double riichi, ippatsu, rinshan, chankan,
+//             last tile, tenhou, chiihou; the room's fu for a pair that is both round and seat wind; and the indicators of dora and of ura,
+//             each how many are shown and ten tiles
+//   86        1 where the hand is open
+//   87..134   the answer's 47 tallies
+//   134..140  its 6 waits
+//   140       the han of its yaku, without dora
+//   141       its fu
+//   142       1 where it has a yakuman
 // The other bytes are zero.
 ghost use mathlib.Core.Path.{_≡_};
 ghost use lib.ListN.{length};
@@ -26,7 +27,7 @@ const WITHOUT: usize = 1;
 
 // The reading of a record.
 fn reading_of(rec: &[u8]) -> structure::Hand
-    requires { ⌜ length (now rec) ≡ 128 ⌝ }
+    requires { ⌜ length (now rec) ≡ 160 ⌝ }
 {
     let kind = rec[0];
     let pair = tile::Tile(rec[1]);
@@ -49,19 +50,19 @@ fn reading_of(rec: &[u8]) -> structure::Hand
 
 // The tally after a record.
 fn replay(rec: &[u8], t: stored::Tally) -> stored::Tally
-    requires { ⌜ length (now rec) ≡ 128 ⌝ }
+    requires { ⌜ length (now rec) ≡ 160 ⌝ }
 {
     let hand = reading_of(rec);
     let win = stored::win_at(rec, 51);
-    let opened = rec[64] == 1;
+    let opened = rec[86] == 1;
     let tiles = tile_yaku::tile_yaku(&rec[17..51], win.winning_tile);
     let found = yaku::detect_yaku_with_context(hand, tiles, win, opened);
     let tallies = found.tallies;
     let waits = wait::detect_wait_types(hand, tile::Tile(win.winning_tile));
     let fu = fu::calculate_fu(hand, win, opened);
-    let agrees = stored::same_tallies(rec, 65, tallies)
-        & stored::same_waits(rec, 112, waits)
-        & stored::same_numbers(rec, 118, found.han, fu, found.is_yakuman);
+    let agrees = stored::same_tallies(rec, 87, tallies)
+        & stored::same_waits(rec, 134, waits)
+        & stored::same_numbers(rec, 140, found.han, fu, found.is_yakuman);
     t.record(agrees)
         .kind_if(YAKUMAN, found.is_yakuman)
         .kind_if(WITHOUT, found.han == 0)
@@ -69,9 +70,9 @@ fn replay(rec: &[u8], t: stored::Tally) -> stored::Tally
 
 // The turn after the next record of the file.
 fn step(fd: i32, t: stored::Tally) -> stored::Turn {
-    let mut rec = [0u8; 128];
+    let mut rec = [0u8; 160];
     let n = io::read_full(fd, &mut rec);
-    if n < 128 {
+    if n < 160 {
         return stored::Turn::last(t, n);
     }
     stored::Turn::next(replay(&rec[..n], t))

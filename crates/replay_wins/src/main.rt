@@ -6,38 +6,39 @@
 //   1..41     the counts
 //   41..43    number of calls
 //   43..51    four melds, each its tile and its kind
-//   51..64    the win: type, winning tile, round wind, seat wind, eight flags as 0 or 1: riichi, double riichi, ippatsu, rinshan, chankan,
-//             last tile, tenhou, chiihou, and the room's fu for a pair that is both round and seat wind
-//   64..66    the number of a reading
-//   66..140   the score of the win
-//   140..214  the score of that reading
-//   214       the number answered where its waits are asked for
-//   215..221  their 6 tallies
+//   51..86    the win: type, winning tile, round wind, seat wind, eight flags as 0 or 1: riichi, double riichi, ippatsu, rinshan, chankan,
+//             last tile, tenhou, chiihou; the room's fu for a pair that is both round and seat wind; and the indicators of dora and of ura,
+//             each how many are shown and ten tiles
+//   86..88    the number of a reading
+//   88..164   the score of the win
+//   164..240  the score of that reading
+//   240       the number answered where its waits are asked for
+//   241..247  their 6 tallies
 // The other bytes are zero. A score is the answer's number, the number of the reading, 47 tallies, han, fu, 1 where it has a yakuman, the
-// level and how many times a yakuman counts, each in one byte; then, in four bytes each, basic points, what each non-dealer, the dealer and
-// the discarder pays, and the total. A refusal has its number alone.
+// level, how many times a yakuman counts, the dora and the ura, each in one byte; then, in four bytes each, basic points, what each non-dealer,
+// the dealer and the discarder pays, and the total. A refusal has its number alone.
 ghost use mathlib.Core.Path.{_≡_};
 ghost use Prim.Native.Nat.{_+_, _≤_};
 ghost use lib.ListN.{length};
 
-// The kind of wins that are scored. Kinds 1 to 12 are the refusals of a win.
+// The kind of wins that are scored. Kinds 1 to 11 and 14 are the refusals of a win.
 const SCORED: usize = 0;
+
+// The kind of numbers that no reading has.
+const MISSING: usize = 12;
 
 // The kind of readings that are scored by their number.
 const READINGS: usize = 13;
 
-// The kind of numbers that no reading has.
-const MISSING: usize = 14;
-
 // Is the answer the one at a place: its number, that of the reading, and the score?
 fn same_answer(rec: &[u8], at: usize, a: choice::ScoreAnswer) -> bool
-    requires { ⌜ at + 74 ≤ length (now rec) ⌝ }
+    requires { ⌜ at + 76 ≤ length (now rec) ⌝ }
 {
     let score = a.score;
     let reading = stored::wide(rec[at + 1]);
     (a.number == rec[at])
         & (a.reading == reading)
-        & stored::same_score(rec, at + 2, at + 49, at + 54, score)
+        & stored::same_score(rec, at + 2, at + 49, at + 56, score)
 }
 
 // The tally after the win of a record is scored.
@@ -46,7 +47,7 @@ fn ask_win(rec: &[u8], counts: &[u8], t: stored::Tally) -> stored::Tally
 {
     let calls = stored::calls_at(rec, 41);
     let a = win::score_win(counts, calls, stored::win_at(rec, 51));
-    let agrees = same_answer(rec, 66, a);
+    let agrees = same_answer(rec, 88, a);
     t.kind(stored::wide(a.number)).record(agrees)
 }
 
@@ -54,10 +55,10 @@ fn ask_win(rec: &[u8], counts: &[u8], t: stored::Tally) -> stored::Tally
 fn ask_reading(rec: &[u8], counts: &[u8], t: stored::Tally) -> stored::Tally
     requires { ⌜ length (now rec) ≡ 256 ⌝ }
 {
-    let n = stored::u16_at(rec, 64);
+    let n = stored::u16_at(rec, 86);
     let calls = stored::calls_at(rec, 41);
     let a = win::score_reading(counts, calls, stored::win_at(rec, 51), n);
-    let agrees = same_answer(rec, 140, a);
+    let agrees = same_answer(rec, 164, a);
     t.kind_if(READINGS, a.number == 0)
         .kind_if(MISSING, a.number == 12)
         .answer(agrees)
@@ -67,11 +68,11 @@ fn ask_reading(rec: &[u8], counts: &[u8], t: stored::Tally) -> stored::Tally
 fn ask_waits(rec: &[u8], counts: &[u8], t: stored::Tally) -> stored::Tally
     requires { ⌜ length (now rec) ≡ 256 ⌝ }
 {
-    let n = stored::u16_at(rec, 64);
+    let n = stored::u16_at(rec, 86);
     let calls = stored::calls_at(rec, 41);
     let a = win::name_waits(counts, calls, stored::win_at(rec, 51), n);
     let waits = a.waits;
-    t.answer((a.number == rec[214]) & stored::same_waits(rec, 215, waits))
+    t.answer((a.number == rec[240]) & stored::same_waits(rec, 241, waits))
 }
 
 // The tally after a record. One with a length out of range differs, and nothing is asked.
@@ -109,13 +110,14 @@ fn run(fd: i32) -> stored::Tally {
     turn.tally
 }
 
-// Writes the tally: of the refusals, those of a win, 1 to 11 without 7.
+// Writes the tally: of the refusals, those of a win, 1 to 11 without 7, and 14.
 fn print(t: stored::Tally) {
     let kinds = t.kinds;
     stored::print_count(t.records, b" wins replayed: ");
     stored::print_count(kinds[SCORED], b" scored\nrefused: ");
     stored::print_kinds(kinds, 11, 7);
-    stored::print(b"\n");
+    stored::print(b", 14: ");
+    stored::print_count(kinds[14], b"\n");
     stored::print_count(
         kinds[READINGS],
         b" readings scored by their numbers, with their waits; ",

@@ -94,8 +94,33 @@ fn say_not_held(t: u8) {
     text::say(b" is to be typed among its tiles too; tiles of calls do not count");
 }
 
+// Writes how many indicators of a sort there are, where they are more than ten; they are counted up to 255. Answers whether nothing is written yet.
+fn say_above_ten(count: u8, sort: &[u8], first: bool) -> bool {
+    if count <= 10 {
+        return first;
+    }
+    if first {
+        text::say(b": ");
+    }
+    text::say_comma(first);
+    text::say_number(count as u64);
+    if count == 255 {
+        text::say(b" or more");
+    }
+    text::say(sort);
+    false
+}
+
+// Writes of which indicators there are more than ten.
+fn say_indicator_counts(w: context::GameContext) {
+    let dora = w.dora_indicators;
+    let ura = w.ura_dora_indicators;
+    let first = say_above_ten(dora.count, b" of dora", true);
+    say_above_ten(ura.count, b" of ura", first);
+}
+
 // Writes what exactly is wrong, behind the meaning of a refusal.
-fn say_detail(number: u8, counts: &[u8; 34], k: checks::Calls, winning_tile: u8) {
+fn say_detail(number: u8, counts: &[u8; 34], k: checks::Calls, w: context::GameContext) {
     match number {
         2 => {
             text::say(b": ");
@@ -104,21 +129,22 @@ fn say_detail(number: u8, counts: &[u8; 34], k: checks::Calls, winning_tile: u8)
         4 => say_above_four(counts, without_calls(k)),
         5 => say_above_four(counts, k),
         6 => say_sizes(counts, k.count),
-        9 => say_not_held(winning_tile),
+        9 => say_not_held(w.winning_tile),
         10 => text::say(
             b": no four melds and a pair, no seven different pairs, no thirteen orphans",
         ),
+        14 => say_indicator_counts(w),
         _ => text::say(b""),
     }
 }
 
 // Writes a refusal.
-pub fn say_refused(number: u8, counts: &[u8; 34], k: checks::Calls, winning_tile: u8) {
+pub fn say_refused(number: u8, counts: &[u8; 34], k: checks::Calls, w: context::GameContext) {
     text::say(b"answer: refused with ");
     text::say_number(number as u64);
     text::say(b": ");
     names::say_refusal(number);
-    say_detail(number, counts, k, winning_tile);
+    say_detail(number, counts, k, w);
     text::say(b"\n");
 }
 

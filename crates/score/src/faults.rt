@@ -5,43 +5,44 @@ use printed::text;
 use tile_words::faults;
 
 // What each fault means, after the word at fault, in the order of the numbers in `tile_words::faults`.
-const FAULTS: [[u8; 87]; 24] = [
-    *b"has no fault                                                                           ",
-    *b"is not a known word; 'score help' lists them                                           ",
-    *b"which is no suit: m, p, s or z follows numbers (honors: 1z to 7z, or e s w n wh g r)   ",
-    *b"has numbers without a suit: m, p, s or z belongs behind them, as in 123m               ",
-    *b"has a suit without numbers before it: numbers come first, as in 123m                   ",
-    *b"has an honor that is none: 1z to 7z are East, South, West, North, White, Green, Red    ",
-    *b"is no chi: three tiles in a row of one suit, as in chi 123m                            ",
-    *b"is no pon: three tiles alike, as in pon 111m                                           ",
-    *b"is no kan: four tiles alike, as in kan 1111m                                           ",
-    *b"is no open call: three in a row, three alike or four alike, as in (123m) (111m) (1111m)",
-    *b"is no closed kan: four alike, as in [1111m]; other closed melds stand in the hand      ",
-    *b"has a bracket that is not closed                                                       ",
-    *b"is a closing bracket that nothing opens                                                ",
-    *b"is not one tile: the winning tile is one, as in ron 8s                                 ",
-    *b"is a second winning tile: ron or tsumo is said once                                    ",
-    *b"is no wind: east, south, west or north, or e, s, w, n                                  ",
-    *b"is said twice: there is one round wind, one seat wind and one double wind setting      ",
-    *b"is longer than 512 letters                                                             ",
-    *b"is the last word, and another belongs behind it, as in ron 8s, chi 123m, seat east     ",
-    *b"no winning tile: say ron or tsumo, then the tile, as in ron 8s                         ",
-    *b"is not riichi: double is said as double riichi                                         ",
-    *b"haitei is the last tile by tsumo; the last discard by ron is houtei                    ",
-    *b"houtei is the last discard by ron; the last tile by tsumo is haitei                    ",
-    *b"makes more than 136 tiles, and there are no more                                       ",
+const FAULTS: [[u8; 111]; 25] = [
+    *b"has no fault                                                                                                   ",
+    *b"is not a known word; 'score help' lists them                                                                   ",
+    *b"which is no suit: m, p, s or z follows numbers (honors: 1z to 7z, or e s w n wh g r)                           ",
+    *b"has numbers without a suit: m, p, s or z belongs behind them, as in 123m                                       ",
+    *b"has a suit without numbers before it: numbers come first, as in 123m                                           ",
+    *b"has an honor that is none: 1z to 7z are East, South, West, North, White, Green, Red                            ",
+    *b"is no chi: three tiles in a row of one suit, as in chi 123m                                                    ",
+    *b"is no pon: three tiles alike, as in pon 111m                                                                   ",
+    *b"is no kan: four tiles alike, as in kan 1111m                                                                   ",
+    *b"is no open call: three in a row, three alike or four alike, as in (123m) (111m) (1111m)                        ",
+    *b"is no closed kan: four alike, as in [1111m]; other closed melds stand in the hand                              ",
+    *b"has a bracket that is not closed                                                                               ",
+    *b"is a closing bracket that nothing opens                                                                        ",
+    *b"is not one tile: the winning tile is one, as in ron 8s                                                         ",
+    *b"is a second winning tile: ron or tsumo is said once                                                            ",
+    *b"is no wind: east, south, west or north, or e, s, w, n                                                          ",
+    *b"is said twice: there is one round wind, one seat wind and one double wind setting                              ",
+    *b"is longer than 512 letters                                                                                     ",
+    *b"is the last word, and another belongs behind it, as in ron 8s, chi 123m, seat east                             ",
+    *b"no winning tile: say ron or tsumo, then the tile, as in ron 8s                                                 ",
+    *b"is not riichi: double is said as double riichi                                                                 ",
+    *b"haitei is the last tile by tsumo; the last discard by ron is houtei                                            ",
+    *b"houtei is the last discard by ron; the last tile by tsumo is haitei                                            ",
+    *b"makes more than 136 tiles, and there are no more                                                               ",
+    *b"has a red five: none is counted, so the han would be too few; write 5 for 0, and add a han for each in the hand",
 ];
 
 // The row of a fault.
-fn fault_row(i: usize) -> [u8; 87]
-    requires { ⌜ i < 24 ⌝ }
+fn fault_row(i: usize) -> [u8; 111]
+    requires { ⌜ i < 25 ⌝ }
 {
     FAULTS[i]
 }
 
 // Writes what a fault means.
 fn say_fault(number: u8) {
-    if 23 < number {
+    if 24 < number {
         return;
     }
     let row = fault_row(number as usize);

@@ -1,8 +1,7 @@
-// What was said and does not count: flags, red fives, dora.
+// What was said and does not count: flags, and indicators of ura.
 ghost use Prim.Native.Nat.{_<_};
 use crate::hand_line;
 use explained::flags::Uncounted;
-use notation::said;
 use printed::text;
 
 // Writes why a flag does not count.
@@ -49,18 +48,21 @@ fn say_flags(w: context::GameContext, opened: bool) {
     }
 }
 
-// Writes that red fives and dora are not counted, where some were said.
-fn say_dora(s: said::Said) {
-    if 0 < s.reds {
-        text::say(b"note: red fives are read as fives; dora are not counted here\n");
+// Writes, where indicators of ura were said, that they do not count without riichi, or that they count with it though the hand is open.
+fn say_ura(w: context::GameContext, opened: bool) {
+    let ura = w.ura_dora_indicators;
+    if ura.count == 0 {
+        return;
     }
-    if s.dora {
-        text::say(b"note: dora indicators are not counted here\n");
+    if !w.is_riichi {
+        text::say(b"note: ura does not count: there is no riichi\n");
+    } else if opened {
+        text::say(b"note: ura counts, as riichi was said, though the hand is open\n");
     }
 }
 
 // Writes what was said and does not count.
-pub fn say_notes(s: said::Said, w: context::GameContext, opened: bool) {
+pub fn say_notes(w: context::GameContext, opened: bool) {
     say_flags(w, opened);
-    say_dora(s);
+    say_ura(w, opened);
 }

@@ -78,6 +78,21 @@ fn say_double_wind(two: bool) {
     }
 }
 
+// Writes indicators behind their word, in their order; nothing where none is shown.
+fn say_indicators(word: &[u8], k: context::Indicators) {
+    let tiles = k.tiles;
+    let count = k.count as usize;
+    if count == 0 {
+        return;
+    }
+    text::say(word);
+    for i in 0..10 {
+        if i < count {
+            print::say_alike(tiles[i], 1);
+        }
+    }
+}
+
 // Writes whether the hand is open.
 fn say_opened(k: checks::Calls) {
     if win::is_opened(k) {
@@ -87,12 +102,22 @@ fn say_opened(k: checks::Calls) {
     }
 }
 
-// Writes the hand as it was understood. Of more than four calls only four are kept, and nothing is written.
+// Are there more calls or indicators than are kept: four, and ten of each sort?
+fn has_lost(s: said::Said) -> bool {
+    let calls = s.calls;
+    let dora = s.dora;
+    let ura = s.ura;
+    (4 < calls.count) | ((10 < dora.count) | (10 < ura.count))
+}
+
+// Writes the hand as it was understood; nothing where a call or an indicator was not kept, as such a line could not be given again.
 pub fn say_hand(s: said::Said) {
     let counts = s.counts;
     let calls = s.calls;
     let flags = s.flags;
-    if 4 < calls.count {
+    let dora = s.dora;
+    let ura = s.ura;
+    if has_lost(s) {
         return;
     }
     text::say(b"hand:");
@@ -105,6 +130,8 @@ pub fn say_hand(s: said::Said) {
     say_wind(s.seat);
     say_flags(flags);
     say_double_wind(s.double_wind_two);
+    say_indicators(b" dora ", dora);
+    say_indicators(b" ura ", ura);
     text::say_byte(b'\n');
     say_opened(calls);
 }

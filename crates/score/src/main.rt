@@ -45,12 +45,12 @@ fn show(s: said::Said) {
     let scored = win::score_win(&counts, k, w);
     let number = scored.number;
     hand_line::say_hand(s);
-    flags::say_notes(s, w, win::is_opened(k));
+    flags::say_notes(w, win::is_opened(k));
     if (number == 0) | (number == 11) {
         readings::say_all(&counts, k, w, scored);
     }
     if number != 0 {
-        answer::say_refused(number, &counts, k, w.winning_tile);
+        answer::say_refused(number, &counts, k, w);
         return;
     }
     answer::say_answer(scored);

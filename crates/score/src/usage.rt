@@ -24,25 +24,37 @@ fn say_words() {
         b"FLAG   riichi double-riichi ippatsu rinshan chankan last-tile (or haitei, houtei) tenhou chiihou\n",
     );
     text::say(
-        b"ROOM   double-wind-2: a pair that is both round and seat wind has 2 fu; double-wind-4, or neither: 4\n\n",
+        b"ROOM   double-wind-2: a pair that is both round and seat wind has 2 fu; double-wind-4, or neither: 4\n",
+    );
+}
+
+// Writes how dora is said, and what is to be known beside the words.
+fn say_dora() {
+    text::say(
+        b"DORA   dora TILES, ura TILES: the indicators, which are the tiles shown and not the dora itself, as in\n",
     );
     text::say(
-        b"Words may stand in quotes together. Red fives (0m) are read as fives, and dora TILES and\n",
+        b"       dora 3m4p or dora 3m dora 4p, at most ten of each; ura counts only with riichi\n\n",
     );
-    text::say(b"ura TILES are taken, but neither is counted.\n\n");
+    text::say(
+        b"Words may stand in quotes together. Red fives (0m) are refused, as they are not counted: write 5m,\n",
+    );
+    text::say(b"and add a han by hand for each in the hand.\n\n");
 }
 
 // Writes how to use it.
 pub fn say_usage() {
     text::say(
-        b"score TILES.. [CALL TILES].. ron|tsumo TILE [round WIND] [seat WIND] [FLAG].. [ROOM]\n",
+        b"score TILES.. [CALL TILES].. ron|tsumo TILE [round WIND] [seat WIND] [FLAG].. [ROOM] [DORA]..\n",
     );
     text::say(
         b"writes every reading of a finished hand, what it is worth, and which is chosen\n\n",
     );
     say_tiles();
     say_words();
+    say_dora();
     text::say(b"score 222333444m567p88s ron 8s\n");
     text::say(b"score 22m567p345s chi 234m pon 555z tsumo 5s dealer\n");
-    text::say(b"score '22m 567p 345s (234m) (555z) tsumo 5s dealer'\n\n");
+    text::say(b"score '22m 567p 345s (234m) (555z) tsumo 5s dealer'\n");
+    text::say(b"score 123m55m456p234678s ron 8s riichi dora 4m ura 1z\n\n");
 }

@@ -67,9 +67,31 @@ pub fn calls_at(s: &[u8], at: usize) -> checks::Calls
     calls_of(u16_at(s, at), s, at + 2)
 }
 
-// The win in thirteen bytes: type, winning tile, round wind, seat wind, eight flags as 0 or 1, and the room's fu for the pair of the double wind.
+// The indicators in eleven bytes: how many are shown, and ten tiles.
+fn indicators_at(s: &[u8], at: usize) -> context::Indicators
+    requires { ⌜ at + 11 ≤ length (now s) ⌝ }
+{
+    context::Indicators {
+        count: s[at],
+        tiles: [
+            s[at + 1],
+            s[at + 2],
+            s[at + 3],
+            s[at + 4],
+            s[at + 5],
+            s[at + 6],
+            s[at + 7],
+            s[at + 8],
+            s[at + 9],
+            s[at + 10],
+        ],
+    }
+}
+
+// The win in 35 bytes: type, winning tile, round wind, seat wind, eight flags as 0 or 1, the room's fu for the pair of the double wind, and the
+// indicators of dora and of ura, eleven bytes each.
 pub fn win_at(s: &[u8], at: usize) -> context::GameContext
-    requires { ⌜ at + 13 ≤ length (now s) ⌝ }
+    requires { ⌜ at + 35 ≤ length (now s) ⌝ }
 {
     context::GameContext {
         win_type: s[at],
@@ -85,6 +107,8 @@ pub fn win_at(s: &[u8], at: usize) -> context::GameContext
         is_tenhou: s[at + 10] == 1,
         is_chiihou: s[at + 11] == 1,
         double_wind_fu: s[at + 12],
+        dora_indicators: indicators_at(s, at + 13),
+        ura_dora_indicators: indicators_at(s, at + 24),
     }
 }
 
@@ -122,6 +146,13 @@ pub fn same_numbers(s: &[u8], at: usize, han: u8, fu: u8, yakuman: bool) -> bool
 {
     let stored = s[at + 2] == 1;
     (han == s[at]) & ((fu == s[at + 1]) & (yakuman == stored))
+}
+
+// Are these the dora of both sorts? Two bytes: those that are shown, and ura.
+pub fn same_dora(s: &[u8], at: usize, regular: u8, ura: u8) -> bool
+    requires { ⌜ at + 2 ≤ length (now s) ⌝ }
+{
+    (regular == s[at]) & (ura == s[at + 1])
 }
 
 // Is this the level? Two bytes: its place, 0 Normal to 5 Yakuman, and how many times a yakuman counts.
@@ -164,8 +195,8 @@ pub fn same_payment(s: &[u8], at: usize, p: scoring::Payment) -> bool
     }
 }
 
-// Is this the score of a reading? `at` is the place of the tallies, `numbers` that of han, fu, yakuman and level, and `points` that of basic
-// points and payment.
+// Is this the score of a reading? `at` is the place of the tallies, `numbers` that of han, fu, yakuman, level and dora, and `points` that of
+// basic points and payment.
 pub fn same_score(
     s: &[u8],
     at: usize,
@@ -173,14 +204,16 @@ pub fn same_score(
     points: usize,
     x: reading_score::ScoringResult,
 ) -> bool
-    requires { ⌜ (at + 47 ≤ length (now s)) × ((numbers + 5 ≤ length (now s)) × (points + 20 ≤ length (now s))) ⌝ }
+    requires { ⌜ (at + 47 ≤ length (now s)) × ((numbers + 7 ≤ length (now s)) × (points + 20 ≤ length (now s))) ⌝ }
 {
     let tallies = x.tallies;
     let level = x.score_level;
     let payment = x.payment;
+    let dora = x.dora;
     same_tallies(s, at, tallies)
         & same_numbers(s, numbers, x.han, x.fu, x.is_yakuman)
         & same_level(s, numbers + 3, level)
+        & same_dora(s, numbers + 5, dora.regular, dora.ura)
         & (x.basic_points == u32_at(s, points))
         & same_payment(s, points + 4, payment)
 }

@@ -1,7 +1,7 @@
 -- A renaming (a term of the scope paper) gives every tile the name of another by one rule, under which a hand should keep its worth: the
 -- suits change places, all numbers n stay or all become 10 - n, White and Red stay or change places. Suits and honors are independent
 -- parts. These are definitions.
-use mathlib.Core.Bool.{_&&_, _||_, cond}
+use mathlib.Core.Bool.{Bool, _&&_, _||_, not, cond}
 use Prim.Native.Nat.{ℕ, _+_, _-_, _*_, _/_, _%_}
 use lib.Dec.{eqb, ltb}
 use Rattle.tile.specs.declared.Suits.{Suits}
@@ -34,6 +34,10 @@ renHonor η t = cond (η .dragons && (eqb t 31 || eqb t 33)) (64 - t) t
 -- the tile that a tile becomes; a number above 33 stays
 abbrev pub ren : Renaming → ℕ → ℕ
 ren ρ t = cond (ltb t 27) (renNumber (ρ .numbers) t) (renHonor (ρ .honors) t)
+
+-- it exchanges suits and nothing else: numbers and dragons stay
+abbrev pub suitsAlone : Renaming → Bool
+suitsAlone ρ = not (ρ .numbers .mirror) && not (ρ .honors .dragons)
 
 -- the renaming that undoes it
 abbrev pub suitsBack : Suits → Suits

@@ -5,12 +5,12 @@ use mathlib.Core.List.{List, [], _∷_}
 use Prim.Native.Nat.{ℕ, suc, _+_, _-_, _<_, _≤_}
 use native.Mathlib.Numerals.{add-one}
 use native.Mathlib.Omega.{arith}
-use lib.Dec.{eqb, ltb}
+use lib.Dec.{ltb}
 use lib.ListN.{length, getD, drop, drop-of-length-le}
 use lib.Seq.{drop-cons, getD-drop}
 use Rattle.lists.specs.Fold.{one, count}
 use Rattle.tile_words.specs.Chars.{isNumber, honorOf, tileOf, isSilent, isStrange}
-use Rattle.tile_words.specs.Words.{leading, behind, suitAfter, readAt, tilesFrom, isRed, redsIn, isGood, goodFrom, goodLength, charBefore, faultPlace}
+use Rattle.tile_words.specs.Words.{leading, behind, suitAfter, readAt, tilesFrom, isGood, goodFrom, goodLength, charBefore, faultPlace}
 
 -- counting place by place: n so far, m of this place, r of those behind it, a from this place on, t in all
 pub turn : (n m r a t : ℕ) → a ≡ m + r → n + a ≡ t → (n + m) + r ≡ t
@@ -72,18 +72,16 @@ module _ (w : List ℕ) (i : ℕ) (h : i < length w) where
     pub read-honor : isNumber (getD w i 0) ≡ false → isNumber b ≡ false → honorOf (getD w i 0) (getD w (i + 1) 0) ≡ readAt b (drop i w)
     read-honor e f = sym (read-letter e ∙ ap (λ (n : Bool). cond n 34 (honorOf (getD w i 0) (getD w (i + 1) 0))) f)
 
+  -- the tile of this place comes before those behind it
+  pub tiles-here : (b : ℕ) → tilesFrom b (drop i w) ≡ readAt b (drop i w) ∷ tilesFrom (charBefore w (i + 1)) (drop (i + 1) w)
+  tiles-here b =
+      subst (λ (l : List ℕ). tilesFrom b l ≡ readAt b l ∷ tilesFrom (getD w i 0) (drop (i + 1) w)) (sym here) refl
+      ∙ ap (λ (c : ℕ). readAt b (drop i w) ∷ tilesFrom c (drop (i + 1) w)) next-before
+
   pub count-here :
       (b : ℕ) (p : ℕ → Bool)
       → count p (tilesFrom b (drop i w)) ≡ one (p (readAt b (drop i w))) + count p (tilesFrom (charBefore w (i + 1)) (drop (i + 1) w))
-  count-here b p =
-      subst (λ (l : List ℕ). count p (tilesFrom b l) ≡ one (p (readAt b l)) + count p (tilesFrom (getD w i 0) (drop (i + 1) w))) (sym here) refl
-      ∙ ap (λ (c : ℕ). one (p (readAt b (drop i w))) + count p (tilesFrom c (drop (i + 1) w))) next-before
-
-  pub red-here : isRed (drop i w) ≡ eqb (getD w i 0) 48 && ltb (suitAfter (drop (i + 1) w)) 3
-  red-here = ap isRed here
-
-  pub reds-here : redsIn (drop i w) ≡ one (isRed (drop i w)) + redsIn (drop (i + 1) w)
-  reds-here = subst (λ (l : List ℕ). redsIn l ≡ one (isRed l) + redsIn (drop (i + 1) w)) (sym here) refl
+  count-here b p = ap (count p) (tiles-here b)
 
   -- ---- good characters: one is passed, any other ends them
   pub good-here : (b : ℕ) → isGood b (drop i w) ≡ ltb (readAt b (drop i w)) 34 || isSilent b (getD w i 0)
@@ -124,11 +122,11 @@ module _ (w : List ℕ) (i : ℕ) (h : length w ≤ i) where
   pub read-end : (b : ℕ) → 34 ≡ readAt b (drop i w)
   read-end b = sym (ap (readAt b) none)
 
-  pub count-end : (b : ℕ) (p : ℕ → Bool) → count p (tilesFrom b (drop i w)) ≡ 0
-  count-end b p = ap (λ (l : List ℕ). count p (tilesFrom b l)) none
+  pub tiles-end : (b : ℕ) → tilesFrom b (drop i w) ≡ []
+  tiles-end b = ap (tilesFrom b) none
 
-  pub reds-end : redsIn (drop i w) ≡ 0
-  reds-end = ap redsIn none
+  pub count-end : (b : ℕ) (p : ℕ → Bool) → count p (tilesFrom b (drop i w)) ≡ 0
+  count-end b p = ap (count p) (tiles-end b)
 
   pub good-end : i ≡ i + goodLength (charBefore w i) (drop i w)
   unfolding goodLength

@@ -28,17 +28,13 @@ honorOf c n =
     (cond (isLetter 119 c) (westOrWhite n)
     (cond (isLetter 110 c) 30 (cond (isLetter 103 c) 32 (cond (isLetter 114 c) 33 34)))))
 
--- there is such a tile: 0 to 9 of man, pin and sou, where 0 is a red five, and 1 to 7 of the honors
+-- there is such a tile: 1 to 9 of man, pin and sou, and 1 to 7 of the honors. 0 is how players write a red five, which is not counted
 abbrev pub isNamed : ℕ → ℕ → Bool
-isNamed c s = isNumber c && (leb s 3 && not (eqb s 3 && (eqb c 48 || ltb 55 c)))
-
--- the number of a tile in its suit, counted from 0; a red five is a five
-abbrev pub rankOf : ℕ → ℕ
-rankOf c = cond (eqb c 48) 4 (c - 49)
+isNamed c s = leb 49 c && (leb c 57 && (leb s 3 && not (eqb s 3 && ltb 55 c)))
 
 -- the tile of a number in a suit; 34 where there is none
 unfoldable pub tileOf : ℕ → ℕ → ℕ
-tileOf c s = cond (isNamed c s) (s * 9 + rankOf c) 34
+tileOf c s = cond (isNamed c s) (s * 9 + (c - 49)) 34
 
 -- c names no tile itself and is good behind b: the letter of a suit right behind a number, or the h of wh
 abbrev pub isSilent : ℕ → ℕ → Bool

@@ -1,12 +1,12 @@
 -- Words of tiles, as 222333444m or ew: numbers, and behind them the letter of their suit; or letters of honors. What a character names depends
 -- on the character b before it: s behind a number is sou, any other is South. These are definitions.
 use mathlib.Core.Path.{_≡_}
-use mathlib.Core.Bool.{Bool, true, false, _&&_, _||_, cond}
+use mathlib.Core.Bool.{Bool, true, _&&_, _||_, cond}
 use mathlib.Core.List.{List, [], _∷_}
 use Prim.Native.Nat.{ℕ, suc, _+_, _<_, min, max}
 use lib.Dec.{eqb, ltb}
 use lib.ListN.{getD, drop}
-use Rattle.lists.specs.Fold.{one, count}
+use Rattle.lists.specs.Fold.{count, keep}
 use Rattle.hand.specs.Counts.{held}
 use Rattle.tile_words.specs.Chars.{isNumber, suitOf, honorOf, tileOf, isSilent, isStrange}
 
@@ -36,19 +36,13 @@ tilesFrom b (c ∷ cs) = readAt b (c ∷ cs) ∷ tilesFrom c cs
 abbrev pub tilesIn : List ℕ → List ℕ
 tilesIn w = tilesFrom 0 w
 
+-- the tiles alone, in the word's order
+abbrev pub tilesOf : List ℕ → List ℕ
+tilesOf w = keep (λ t. ltb t 34) (tilesIn w)
+
 -- how many tiles that is
 abbrev pub namedIn : List ℕ → ℕ
 namedIn w = count (λ t. ltb t 34) (tilesIn w)
-
--- a text begins with a red five: 0 in man, pin or sou
-abbrev pub isRed : List ℕ → Bool
-isRed [] = false
-isRed (c ∷ cs) = eqb c 48 && ltb (suitAfter cs) 3
-
--- the red fives of a text
-abbrev pub redsIn : List ℕ → ℕ
-redsIn [] = 0
-redsIn (c ∷ cs) = one (isRed (c ∷ cs)) + redsIn cs
 
 -- a count and n more of its tile, up to 255, the most that a byte holds; a count never falls
 abbrev pub addTo : ℕ → ℕ → ℕ

@@ -1,7 +1,6 @@
 // The characters of words of tiles, each by itself.
 ghost use mathlib.Core.Path.{_≡_};
-ghost use Prim.Native.Nat.{_≤_};
-ghost use Rattle.tile_words.specs.Chars.{isNumber, suitOf, westOrWhite, honorOf, rankOf, tileOf, isSilent, isStrange};
+ghost use Rattle.tile_words.specs.Chars.{isNumber, suitOf, westOrWhite, honorOf, tileOf, isSilent, isStrange};
 
 // Is the character one of 0 to 9?
 pub fn is_number(c: u8) -> bool
@@ -64,22 +63,11 @@ pub fn honor_of(c: u8, next: u8) -> u8
     34
 }
 
-// The number of a tile in its suit, counted from 0; a red five is a five.
-fn rank_of(c: u8) -> u8
-    requires { ⌜ (48 ≤ c) × (c ≤ 57) ⌝ }
-    ensures { λ r. ⌜ (r ≡ rankOf c) × (r ≤ 8) ⌝ }
-{
-    if c == b'0' {
-        return 4;
-    }
-    c - b'1'
-}
-
-// The tile of a number in a suit; 34 where there is none. There is no 0, 8 or 9 among the honors.
+// The tile of a number in a suit; 34 where there is none. There is no 8 or 9 among the honors; 0 is how players write a red five, which is not counted.
 pub fn tile_of(c: u8, suit: u8) -> u8
     ensures { λ r. ⌜ r ≡ tileOf c suit ⌝ }
 {
-    if c < b'0' {
+    if c < b'1' {
         return 34;
     }
     if b'9' < c {
@@ -88,10 +76,10 @@ pub fn tile_of(c: u8, suit: u8) -> u8
     if 3 < suit {
         return 34;
     }
-    if (suit == 3) & ((c == b'0') | (b'7' < c)) {
+    if (suit == 3) & (b'7' < c) {
         return 34;
     }
-    suit * 9 + rank_of(c)
+    suit * 9 + (c - b'1')
 }
 
 // Is c good behind b, though it names no tile: the letter of a suit right behind a number, or the h of wh?

@@ -68,5 +68,8 @@ pub const HOUTEI_TSUMO: u8 = 22;
 // more tiles than a set has
 pub const TOO_MANY: u8 = 23;
 
+// a red five: 0m, 0p or 0s
+pub const RED_FIVE: u8 = 24;
+
 // how many numbers there are, 0 among them
-pub const FAULTS: usize = 24;
+pub const FAULTS: usize = 25;

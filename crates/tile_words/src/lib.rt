@@ -5,7 +5,7 @@ ghost use lib.ListN.{length, drop, getD};
 ghost use lib.Dec.{eqb};
 ghost use Rattle.lists.specs.Fold.{one};
 ghost use Rattle.hand.specs.Counts.{held};
-ghost use Rattle.tile_words.specs.Words.{leading, behind, suitAfter, readAt, tilesIn, namedIn, isRed, redsIn, addTo, Counted, isGood, goodLength, charBefore, isGoodWord, faultPlace};
+ghost use Rattle.tile_words.specs.Words.{leading, behind, suitAfter, readAt, tilesIn, namedIn, addTo, Counted, isGood, goodLength, charBefore, isGoodWord, faultPlace};
 
 pub mod chars;
 pub mod faults;
@@ -90,25 +90,6 @@ pub fn named_in(word: &[u8]) -> usize
     n
 }
 
-// Does a word name a red five at a place?
-fn is_red_at(word: &[u8], i: usize) -> bool
-    requires { ⌜ i < length (now word) ⌝ }
-    ensures { λ r. ⌜ r ≡ isRed (drop i (now (word .entry))) ⌝ }
-{
-    (word[i] == b'0') & (suit_after(word, i + 1) < 3)
-}
-
-// How many red fives a word names.
-pub fn reds_in(word: &[u8]) -> usize
-    ensures { λ r. ⌜ r ≡ redsIn (now (word .entry)) ⌝ }
-{
-    let mut n = 0;
-    for i in 0..word.len() {
-        n += lists::one_if(is_red_at(word, i)) as usize;
-    }
-    n
-}
-
 // Counts a tile, up to 255 of a kind.
 fn add_tile(counts: &mut [u8; 34], t: u8)
     requires { ⌜ length (now counts) ≡ 34 ⌝ }
@@ -157,14 +138,18 @@ fn good_length(word: &[u8]) -> usize
     i
 }
 
-// What is wrong with a number that names no tile, by the first character behind it that is none.
+// What is wrong with a number that names no tile, by the first character behind it that is none. In man, pin and sou only 0 names none.
 fn fault_of_number(next: u8) -> u8
     ensures { λ r. ⌜ 0 < r ⌝ }
 {
     if chars::is_strange(next) {
         return faults::NO_LETTER;
     }
-    if chars::suit_of(next) < 4 {
+    let suit = chars::suit_of(next);
+    if suit < 3 {
+        return faults::RED_FIVE;
+    }
+    if suit == 3 {
         return faults::NO_HONOR;
     }
     faults::NO_SUIT

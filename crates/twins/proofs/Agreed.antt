@@ -16,10 +16,12 @@ use Rattle.scoring.specs.declared.ScoreLevel.{ScoreLevel}
 use Rattle.scoring.specs.declared.ScoreLevel.the-variants.{Normal, Mangan, Haneman, Baiman, Sanbaiman, Yakuman}
 use Rattle.scoring.specs.declared.Payment.{Payment}
 use Rattle.scoring.specs.declared.Payment.the-variants.{Ron, DealerTsumo, Tsumo}
+use Rattle.dora.specs.declared.DoraCount.{DoraCount}
 use Rattle.checks.specs.declared.Calls.{Calls}
 use Rattle.choice.specs.declared.ScoreAnswer.{ScoreAnswer}
 use Rattle.win.specs.Win.{winCheck, scoreWin}
-use Rattle.agreement.specs.Agreement.{SameAnswer, NotGreen}
+use Rattle.agreement.specs.Agreement.{SameAnswer, NotGreen, Comparable}
+use Rattle.agreement.proofs.Indicators.{renamed-win}
 use Rattle.agreement.proofs.Demand3.{demand3}
 use Rattle.twins.specs.Twins.{renCalls, levelNumber, kindOf, firstAmount, secondAmount, agrees}
 use Rattle.twins.proofs.Renamed.{four-renamed, calls-renamed}
@@ -33,11 +35,13 @@ unfolding agrees
 agreed a b s =
     both (eq-eqb _ _ (s .same-number))
     (both (eq-eqb _ _ (s .same-han))
+    (both (eq-eqb _ _ (ap (λ (d : DoraCount). d .regular) (s .same-dora)))
+    (both (eq-eqb _ _ (ap (λ (d : DoraCount). d .ura) (s .same-dora)))
     (both (eq-eqb _ _ (s .same-fu))
     (both (eq-eqb _ _ (ap levelNumber (s .same-level)))
     (both (eq-eqb _ _ (s .same-basic))
     (both (eq-eqb _ _ (ap kindOf (s .same-payment)))
-    (both (eq-eqb _ _ (ap firstAmount (s .same-payment))) (eq-eqb _ _ (ap secondAmount (s .same-payment)))))))))
+    (both (eq-eqb _ _ (ap firstAmount (s .same-payment))) (eq-eqb _ _ (ap secondAmount (s .same-payment)))))))))))
 
 -- ---- and the other way: levels and settlements are read back from their numbers
 levelAt : ℕ → ScoreLevel
@@ -68,6 +72,10 @@ payment-back (Ron m) = refl
 payment-back (DealerTsumo m) = refl
 payment-back (Tsumo m n) = refl
 
+-- dora by its two numbers
+abbrev the-dora : ℕ → ℕ → DoraCount
+the-dora n m = record { regular = n; ura = m }
+
 -- so equal numbers are of equal levels and settlements
 level-is : (a b : ScoreLevel) → levelNumber a ≡ levelNumber b → a ≡ b
 level-is a b e = sym (level-back a) ∙ ap levelAt e ∙ level-back b
@@ -81,7 +89,9 @@ agree-means a b h =
     let t1 = true→T _ h in
     let t2 = and-right (eqb (a .number) (b .number)) _ t1 in
     let t3 = and-right (eqb (a .score .han) (b .score .han)) _ t2 in
-    let t4 = and-right (eqb (a .score .fu) (b .score .fu)) _ t3 in
+    let r3 = and-right (eqb (a .score .dora .regular) (b .score .dora .regular)) _ t3 in
+    let u3 = and-right (eqb (a .score .dora .ura) (b .score .dora .ura)) _ r3 in
+    let t4 = and-right (eqb (a .score .fu) (b .score .fu)) _ u3 in
     let t5 = and-right (eqb (levelNumber (a .score .«score_level»)) (levelNumber (b .score .«score_level»))) _ t4 in
     let t6 = and-right (eqb (a .score .«basic_points») (b .score .«basic_points»)) _ t5 in
     let t7 = and-right (eqb (kindOf (a .score .payment)) (kindOf (b .score .payment))) _ t6 in
@@ -89,7 +99,10 @@ agree-means a b h =
     record {
       same-number = eqb→eq _ _ (and-left (eqb (a .number) (b .number)) _ t1);
       same-han = eqb→eq _ _ (and-left (eqb (a .score .han) (b .score .han)) _ t2);
-      same-fu = eqb→eq _ _ (and-left (eqb (a .score .fu) (b .score .fu)) _ t3);
+      same-dora =
+          ap₂ the-dora (eqb→eq _ _ (and-left (eqb (a .score .dora .regular) (b .score .dora .regular)) _ t3))
+          (eqb→eq _ _ (and-left (eqb (a .score .dora .ura) (b .score .dora .ura)) _ r3));
+      same-fu = eqb→eq _ _ (and-left (eqb (a .score .fu) (b .score .fu)) _ u3);
       same-level =
           level-is (a .score .«score_level») (b .score .«score_level»)
           (eqb→eq _ _ (and-left (eqb (levelNumber (a .score .«score_level»)) (levelNumber (b .score .«score_level»))) _ t4));
@@ -104,6 +117,8 @@ agree-means a b h =
 -- under the conditions of the theorem the answers of the two calls agree
 pub calls-agree :
     (ρ : Renaming) (cs : List ℕ) (k : Calls) (w : GameContext) → length (k .melds) ≡ 4 → winCheck cs k w ≡ 0 → NotGreen cs k
-    → NotGreen (renCounts ρ cs) (renCalls ρ k) → agrees (scoreWin (renCounts ρ cs) (renCalls ρ k) (renWin ρ w)) (scoreWin cs k w) ≡ true
-calls-agree ρ cs k w four passes plain plain′ =
-    agreed _ _ (demand3 ρ cs k (renCalls ρ k) w four (four-renamed ρ k four) (calls-renamed ρ k) passes plain plain′ .won)
+    → NotGreen (renCounts ρ cs) (renCalls ρ k) → Comparable ρ w
+    → agrees (scoreWin (renCounts ρ cs) (renCalls ρ k) (renWin ρ w)) (scoreWin cs k w) ≡ true
+calls-agree ρ cs k w four passes plain plain′ fair =
+    let alike = demand3 ρ cs k (renCalls ρ k) w (renWin ρ w) four (four-renamed ρ k four) (calls-renamed ρ k) (renamed-win ρ w) in
+    agreed _ _ (alike .scored passes plain plain′ fair .won)

@@ -5,7 +5,7 @@ use Prim.Native.Nat.{ℕ, _+_, _<_, _≤_}
 use lib.ListN.{length, length-map, getD, drop, set}
 use lib.Seq.{sets}
 use Rattle.lists.proofs.Elements.{four}
-use Rattle.lists.proofs.Stores.{sets-next}
+use Rattle.lists.proofs.Stores.{sets-next, copy-end, copy-whole}
 use Rattle.tile.specs.Tile.{tiles}
 use Rattle.tile.specs.declared.Renaming.{Renaming}
 use Rattle.tile.specs.Renaming.{ren, back}
@@ -13,7 +13,6 @@ use Rattle.meld.specs.declared.Meld.{Meld}
 use Rattle.meld.specs.Renamed.{renMeld}
 use Rattle.checks.specs.declared.Calls.{Calls}
 use Rattle.lists.proofs.Members.{take-map}
-use Rattle.checks.proofs.Turns.{copy-end, copy-whole}
 use Rattle.hand.specs.Counts.{held}
 use Rattle.renamed.specs.Renamed.{renCounts}
 use Rattle.renamed.proofs.Counts.{at-tile}

@@ -43,14 +43,16 @@ secondAmount (Ron n) = 0
 secondAmount (DealerTsumo n) = 0
 secondAmount (Tsumo d n) = n
 
--- the same number, han, fu, level, basic points and payments
+-- the same number, han, dora, fu, level, basic points and payments
 unfoldable pub agrees : ScoreAnswer → ScoreAnswer → Bool
 agrees a b =
     eqb (a .number) (b .number)
     && (eqb (a .score .han) (b .score .han)
+    && (eqb (a .score .dora .regular) (b .score .dora .regular)
+    && (eqb (a .score .dora .ura) (b .score .dora .ura)
     && (eqb (a .score .fu) (b .score .fu)
     && (eqb (levelNumber (a .score .«score_level»)) (levelNumber (b .score .«score_level»))
     && (eqb (a .score .«basic_points») (b .score .«basic_points»)
     && (eqb (kindOf (a .score .payment)) (kindOf (b .score .payment))
     && (eqb (firstAmount (a .score .payment)) (firstAmount (b .score .payment))
-    && eqb (secondAmount (a .score .payment)) (secondAmount (b .score .payment))))))))
+    && eqb (secondAmount (a .score .payment)) (secondAmount (b .score .payment))))))))))

@@ -7,7 +7,7 @@ ghost use Rattle.context.specs.Context.{renWin};
 ghost use Rattle.hand.specs.Counts.{held};
 ghost use Rattle.renamed.specs.Renamed.{renCounts};
 ghost use Rattle.win.specs.Win.{winCheck, scoreWin};
-ghost use Rattle.agreement.specs.Agreement.{NotGreen};
+ghost use Rattle.agreement.specs.Agreement.{NotGreen, Comparable};
 ghost use Rattle.twins.specs.Twins.{renCalls, levelNumber, kindOf, firstAmount, secondAmount, agrees};
 
 // The suits that undo a change of suits.
@@ -139,31 +139,35 @@ fn second_amount(p: scoring::Payment) -> u32
     }
 }
 
-// Do two answers agree: the same number, han, fu, level, basic points and payments?
+// Do two answers agree: the same number, han, dora, fu, level, basic points and payments?
 fn same_answer(a: choice::ScoreAnswer, b: choice::ScoreAnswer) -> bool
     ensures { λ r. ⌜ r ≡ agrees a b ⌝ }
 {
     let x = a.score;
     let y = b.score;
+    let xd = x.dora;
+    let yd = y.dora;
     let xl = x.score_level;
     let yl = y.score_level;
     let xp = x.payment;
     let yp = y.payment;
     (a.number == b.number)
         & ((x.han == y.han)
-            & ((x.fu == y.fu)
-                & ((level_number(xl) == level_number(yl))
-                    & ((x.basic_points == y.basic_points)
-                        & ((kind_of(xp) == kind_of(yp))
-                            & ((first_amount(xp) == first_amount(yp))
-                                & (second_amount(xp) == second_amount(yp))))))))
+            & ((xd.regular == yd.regular)
+                & ((xd.ura == yd.ura)
+                    & ((x.fu == y.fu)
+                        & ((level_number(xl) == level_number(yl))
+                            & ((x.basic_points == y.basic_points)
+                                & ((kind_of(xp) == kind_of(yp))
+                                    & ((first_amount(xp) == first_amount(yp))
+                                        & (second_amount(xp) == second_amount(yp))))))))))
 }
 
-// Scores a win and the same win renamed, and says whether the two answers agree. Where the first passes the checks and neither hand is all
-// green, they do.
+// Scores a win and the same win renamed, and says whether the two answers agree. Where the first passes the checks, neither hand is all
+// green and, if an indicator is shown, suits alone are exchanged, they do.
 pub fn agree(counts: &[u8], k: checks::Calls, w: context::GameContext, by: tile::Renaming) -> bool
     ensures answer { λ r. ⌜ r ≡ agrees (scoreWin (renCounts by (now (counts .entry))) (renCalls by k) (renWin by w)) (scoreWin (now (counts .entry)) k w) ⌝ }
-    ensures agreement { λ r. ⌜ (winCheck (now (counts .entry)) k w ≡ 0 → NotGreen (now (counts .entry)) k → NotGreen (renCounts by (now (counts .entry))) (renCalls by k) → r ≡ true) ⌝ }
+    ensures agreement { λ r. ⌜ (winCheck (now (counts .entry)) k w ≡ 0 → NotGreen (now (counts .entry)) k → NotGreen (renCounts by (now (counts .entry))) (renCalls by k) → Comparable by w → r ≡ true) ⌝ }
 {
     let first = win::score_win(counts, k, w);
     let renamed = renamed_counts(counts, by);

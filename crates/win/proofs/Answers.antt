@@ -1,5 +1,5 @@
 -- The answers of the three operations, by the ways they end. Assumes nothing.
-use mathlib.Core.Path.{_≡_, sym, _∙_}
+use mathlib.Core.Path.{_≡_, refl, sym, _∙_}
 use mathlib.Core.Bool.{Bool, true, false}
 use mathlib.Core.List.{List, map}
 use Prim.Native.Nat.{ℕ, _≤_, _<_}
@@ -9,6 +9,7 @@ use Rattle.context.specs.declared.GameContext.{GameContext}
 use Rattle.hand.specs.Reading.{Reading}
 use Rattle.wait.specs.Wait.{waits}
 use Rattle.tile_yaku.specs.declared.TileYaku.{TileYaku}
+use Rattle.dora.specs.declared.DoraCount.{DoraCount}
 use Rattle.checks.specs.declared.Calls.{Calls}
 use Rattle.unit.specs.Listing.{handReadings}
 use Rattle.records.specs.Buffer.{readingAt, readingsIn, placeOf}
@@ -18,8 +19,9 @@ use Rattle.reading_score.specs.Score.{scoreOf}
 use Rattle.choice.specs.declared.ScoreAnswer.{ScoreAnswer}
 use Rattle.choice.specs.Choice.{refused, scored, choice, numbered}
 use Rattle.choice.specs.Standing.{StandsAt}
+use Rattle.choice.proofs.Pass.{choice-none}
 use Rattle.choice.proofs.Standing.{stands-picked}
-use Rattle.win.specs.Win.{isOpened, tilesTogether, winCheck, scoreIn, scores, scoreWin, scoreReading, refusedWaits, namedWaits, nameWaits}
+use Rattle.win.specs.Win.{isOpened, tilesTogether, doraTogether, winCheck, scoreIn, scores, scoreWin, scoreReading, refusedWaits, namedWaits, nameWaits}
 use Rattle.win.proofs.Readings.{pick-there, pick-none}
 
 module _ (cs : List ℕ) (k : Calls) (w : GameContext) where
@@ -69,23 +71,30 @@ module _ (cs : List ℕ) (k : Calls) (w : GameContext) where
 
   -- ---- passed, with a buffer b that holds the m readings
   module _ (passes : winCheck cs k w ≡ 0) (b : List ℕ) (m : ℕ) (holds : readingsIn b m 0 ≡ handReadings cs k) where
-    -- the choice among all readings; s is what all tiles together are
+    -- the choice among all readings; s is what all tiles together are, d the dora among them
     pub win-chosen :
-        (s : TileYaku) (opened : Bool) → s ≡ tilesTogether cs k w → opened ≡ isOpened k → (a : ScoreAnswer)
-        → a ≡ choice (map (scoreOf w opened s) (readingsIn b m 0)) → a ≡ scoreWin cs k w
+        (s : TileYaku) (d : DoraCount) (opened : Bool) → s ≡ tilesTogether cs k w → d ≡ doraTogether cs k w → opened ≡ isOpened k → (a : ScoreAnswer)
+        → a ≡ choice (map (scoreOf w opened s d) (readingsIn b m 0)) → a ≡ scoreWin cs k w
     unfolding scores scoreIn
-    win-chosen s opened e f a is = is ∙ sym (win-choice passes ∙ rw (e, f, holds))
+    win-chosen s d opened e g f a is = is ∙ sym (win-choice passes ∙ rw (e, g, f, holds))
+
+    -- no reading
+    pub win-none : m ≡ 0 → refused 10 ≡ scoreWin cs k w
+    win-none e =
+        let s = tilesTogether cs k w in
+        let d = doraTogether cs k w in
+        win-chosen s d (isOpened k) refl refl refl (refused 10) (choice-none (scoreOf w (isOpened k) s d) b m e)
 
     -- reading number n, or none
     pub reading-none : (n : ℕ) → m ≤ n → refused 12 ≡ scoreReading cs k w n
     reading-none n h = sym (reading-picked passes n ∙ pick-none cs k b m holds (refused 12) (λ r. scored n (scoreIn cs k w r)) n h)
 
     pub reading-scored :
-        (n : ℕ) → n < m → (s : TileYaku) (opened : Bool) → s ≡ tilesTogether cs k w → opened ≡ isOpened k → (r : Reading) → r ≡ readingAt b (placeOf b n 0)
-        → scored n (scoreOf w opened s r) ≡ scoreReading cs k w n
+        (n : ℕ) → n < m → (s : TileYaku) (d : DoraCount) (opened : Bool) → s ≡ tilesTogether cs k w → d ≡ doraTogether cs k w → opened ≡ isOpened k
+        → (r : Reading) → r ≡ readingAt b (placeOf b n 0) → scored n (scoreOf w opened s d r) ≡ scoreReading cs k w n
     unfolding scoreIn
-    reading-scored n h s opened e f r g =
-        rw (e, f, g) (sym (reading-picked passes n ∙ pick-there cs k b m holds (refused 12) (λ q. scored n (scoreIn cs k w q)) n h))
+    reading-scored n h s d opened e i f r g =
+        rw (e, i, f, g) (sym (reading-picked passes n ∙ pick-there cs k b m holds (refused 12) (λ q. scored n (scoreIn cs k w q)) n h))
 
     pub waits-none : (n : ℕ) → m ≤ n → refusedWaits 12 ≡ nameWaits cs k w n
     waits-none n h = sym (waits-picked passes n ∙ pick-none cs k b m holds (refusedWaits 12) (λ r. namedWaits (waits (w .«winning_tile») r)) n h)

@@ -5,3 +5,4 @@ pub mod Opened
 pub mod Readings
 pub mod Answers
 pub mod RefusalExamples
+pub mod Forty

@@ -1,14 +1,14 @@
--- What refuses a win, by examples: for 8 and 9 an input with this fault and near misses, and two faults at once. Assumes nothing.
+-- What refuses a win, by examples: for 8, 14 and 9 an input with this fault and near misses, and two faults at once. Assumes nothing.
 use mathlib.Core.Path.{_≡_, refl}
 use mathlib.Core.List.{List, [], _∷_, _++_}
 use Prim.Native.Nat.{ℕ}
-use lib.ListN.{length}
+use lib.ListN.{length, replicate}
 use Rattle.tile.specs.Named.{man, sou, mans, pins, sous, East, South, North, White, Red}
 use Rattle.meld.specs.declared.Meld.{Meld}
 use Rattle.meld.specs.Named.{pon}
 use Rattle.context.specs.declared.GameContext.{GameContext}
-use Rattle.context.specs.Context.{inRoom}
-use Rattle.context.specs.Named.{win, ron, tsumo, byRon}
+use Rattle.context.specs.Context.{inRoom, indicating}
+use Rattle.context.specs.Named.{win, ron, tsumo, byRon, indicators, showing}
 use Rattle.hand.specs.Named.{hand}
 use Rattle.checks.specs.Checks.{check, handCheck}
 use Rattle.win.specs.Win.{orThen, winCheck}
@@ -62,6 +62,56 @@ no-setting = refl
 pub setting-three : refuses fourteen [] (inRoom 3 (ron (sou 8))) ≡ 8
 unfolding winCheck orThen handCheck check
 setting-three = refl
+
+-- ---- 14: more than ten indicators, or one that is shown is above 33
+-- the ten places that follow a count
+abbrev places : List ℕ
+places = man 1 ∷ Red ∷ man 1 ∷ man 1 ∷ man 1 ∷ man 1 ∷ man 1 ∷ man 1 ∷ man 1 ∷ 34 ∷ []
+
+-- so many are shown, of either sort
+abbrev shows : ℕ → GameContext → GameContext
+shows n w = indicating (record { count = n; tiles = places }) (w .«ura_dora_indicators») w
+
+abbrev showsBelow : ℕ → GameContext → GameContext
+showsBelow n w = indicating (w .«dora_indicators») (record { count = n; tiles = places }) w
+
+-- what stands behind the count is no fault: nine are tiles
+pub nine-pass : refuses fourteen [] (shows 9 (ron (sou 8))) ≡ 0
+unfolding winCheck orThen handCheck check
+nine-pass = refl
+
+-- the tenth is shown too
+pub tenth-above : refuses fourteen [] (shows 10 (ron (sou 8))) ≡ 14
+unfolding winCheck orThen handCheck check
+tenth-above = refl
+
+-- ten pass where each is a tile, Red being the last
+pub ten-pass : refuses fourteen [] (showing (replicate 10 Red) (replicate 10 Red) (ron (sou 8))) ≡ 0
+unfolding winCheck orThen handCheck check
+ten-pass = refl
+
+-- eleven do not, nor do 255
+pub eleven-shown : refuses fourteen [] (indicating (record { count = 11; tiles = replicate 10 Red }) (indicators []) (ron (sou 8))) ≡ 14
+unfolding winCheck orThen handCheck check
+eleven-shown = refl
+
+pub most-shown : refuses fourteen [] (indicating (record { count = 255; tiles = replicate 10 Red }) (indicators []) (ron (sou 8))) ≡ 14
+unfolding winCheck orThen handCheck check
+most-shown = refl
+
+-- those below are looked at without riichi too
+pub tenth-below : refuses fourteen [] (showsBelow 10 (ron (sou 8))) ≡ 14
+unfolding winCheck orThen handCheck check
+tenth-below = refl
+
+-- ---- 8 comes before 14, and 14 before 9
+pub eight-before-fourteen : refuses fourteen [] (shows 10 (win byRon (sou 8) White South [])) ≡ 8
+unfolding winCheck orThen handCheck check
+eight-before-fourteen = refl
+
+pub fourteen-before-nine : refuses fourteen [] (shows 10 (ron (sou 9))) ≡ 14
+unfolding winCheck orThen handCheck check
+fourteen-before-nine = refl
 
 -- ---- 9: the winning tile is above 33 or not in the hand
 pub no-tile : refuses fourteen [] (ron 34) ≡ 9

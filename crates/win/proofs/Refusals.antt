@@ -5,17 +5,18 @@ use mathlib.Core.Bool.{Bool, true, false, _&&_, _||_, not}
 use mathlib.Core.List.{List, List·Memᴰ, List·Memᴰ·head, List·Memᴰ·tail}
 use Prim.Native.Nat.{ℕ}
 use native.Mathlib.Omega.{arith}
-use lib.Dec.{T, eqb, ltb, eqb→eq, ltb→lt, eqb-refl}
-use borrow.Author.Tests.{lt-ltb, ltb-true}
-use Rattle.lists.specs.Fold.{allBelow, any}
+use lib.Dec.{T, eqb, ltb, leb, eqb→eq, ltb→lt, leb→le, eqb-refl}
+use borrow.Author.Tests.{lt-ltb, le-leb, ltb-true}
+use Rattle.lists.specs.Fold.{all, allBelow, any}
 use Rattle.lists.specs.Refusals.{Answers}
 use Rattle.lists.proofs.Arranged.{any-mem}
-use Rattle.lists.proofs.Finite.{true→T, and-both, or-elim, or-skip, at}
-use Rattle.lists.proofs.Members.{all-mem}
+use Rattle.lists.proofs.Finite.{true→T, and-left, and-right, and-both, or-elim, or-skip, at}
+use Rattle.lists.proofs.Members.{all-mem, all-intro}
 use Rattle.tile.specs.Tile.{isWind}
 use Rattle.tile.proofs.Tiles.{wind-below}
+use Rattle.context.specs.declared.Indicators.{Indicators}
 use Rattle.context.specs.declared.GameContext.{GameContext}
-use Rattle.context.specs.Context.{isSetting, inRange}
+use Rattle.context.specs.Context.{isSetting, inRange, shown, areIndicators, indicatorsIn}
 use Rattle.context.proofs.Range.{type-in, round-in, seat-in, setting-in}
 use Rattle.checks.specs.declared.Calls.{Calls}
 use Rattle.checks.specs.Checks.{handCheck}
@@ -23,7 +24,7 @@ use Rattle.checks.specs.Refusals.{handChecks}
 use Rattle.checks.proofs.InOrder.{next-check, then-checks, exactly}
 use Rattle.checks.proofs.Refusals.{hand-refusals}
 use Rattle.win.specs.Win.{winCheck}
-use Rattle.win.specs.Refusals.{winTypes, winds, settings, InRange, contextChecks, winChecks}
+use Rattle.win.specs.Refusals.{winTypes, winds, settings, InRange, Indicated, BothIndicated, contextChecks, winChecks}
 use Rattle.win.proofs.Checked.{or-second, refused-hand}
 
 -- ---- the win type, the winds and the setting, as a test and as a fact
@@ -62,6 +63,36 @@ module _ (w : GameContext) where
       (and-both (isWind (w .«round_wind»)) _ (all-mem isWind {l = winds} tt (r .round))
       (and-both (isWind (w .«seat_wind»)) _ (all-mem isWind {l = winds} tt (r .seat)) (all-mem isSetting {l = settings} tt (r .setting))))
 
+-- ---- the indicators, as a test and as a fact
+indicated : (i : Indicators) → T (areIndicators i) → Indicated i
+indicated i h =
+    record {
+      few = leb→le (i .count) 10 (and-left (leb (i .count) 10) _ h);
+      tiles = λ t m. ltb→lt t 34 (all-mem (λ t. ltb t 34) (and-right (leb (i .count) 10) (all (λ t. ltb t 34) (shown i)) h) m);
+    }
+
+indicated-test : (i : Indicators) → Indicated i → T (areIndicators i)
+indicated-test i r =
+    and-both (leb (i .count) 10) _ (true→T _ (le-leb (i .count) 10 (r .few)))
+    (all-intro (λ t. ltb t 34) (shown i) (λ t m. true→T _ (lt-ltb t 34 (r .tiles t m))))
+
+module _ (w : GameContext) where
+  abbrev d : Indicators
+  d = w .«dora_indicators»
+
+  abbrev u : Indicators
+  u = w .«ura_dora_indicators»
+
+  pub both-indicated : T (indicatorsIn w) → BothIndicated w
+  both-indicated h =
+      record {
+        dora = indicated d (and-left (areIndicators d) (areIndicators u) h);
+        ura = indicated u (and-right (areIndicators d) (areIndicators u) h);
+      }
+
+  pub indicators-test : BothIndicated w → T (indicatorsIn w)
+  indicators-test r = and-both (areIndicators d) (areIndicators u) (indicated-test d (r .dora)) (indicated-test u (r .ura))
+
 -- ---- two tests together
 both-true : (a b : Bool) → (a && b) ≡ true → (a ≡ true) × (b ≡ true)
 both-true true b e = (refl, e)
@@ -76,8 +107,9 @@ module _ (cs : List ℕ) (k : Calls) (w : GameContext) where
   unfolding winCheck
   context-answers z n e =
       next-check _ _ _ (e ∙ or-second (handCheck cs k) _ z) (λ h. in-range w (true→T (inRange w) h)) (λ h r. subst T h (range-test w r))
-      (λ range e. next-check _ _ _ e (λ h. let p = both-true (ltb (w .«winning_tile») 34) _ h in record { tile = omega (arith, ltb-true); there = omega (arith, ltb-true) })
-      (λ h i. both-false (ltb (w .«winning_tile») 34) _ h (lt-ltb _ _ (i .tile)) (lt-ltb _ _ (i .there))) (λ tile e. e))
+      (λ range e. next-check _ _ _ e (λ h. both-indicated w (true→T (indicatorsIn w) h)) (λ h r. subst T h (indicators-test w r))
+      (λ shown e. next-check _ _ _ e (λ h. let p = both-true (ltb (w .«winning_tile») 34) _ h in record { tile = omega (arith, ltb-true); there = omega (arith, ltb-true) })
+      (λ h i. both-false (ltb (w .«winning_tile») 34) _ h (lt-ltb _ _ (i .tile)) (lt-ltb _ _ (i .there))) (λ tile e. e)))
 
   -- n is answered exactly where the checks before it pass and this one fails; 0 where all pass
   pub win-refusals : (n : ℕ) → (winCheck cs k w ≡ n) ↔ Answers (winChecks cs k w) n

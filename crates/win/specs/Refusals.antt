@@ -1,12 +1,14 @@
 -- What the operations on a win ask, in the words of the scope paper. These are definitions.
 use mathlib.Core.Logic.{_≢_}
 use mathlib.Core.List.{List, [], _∷_, _++_, List·Memᴰ}
-use Prim.Native.Nat.{ℕ, _<_}
+use Prim.Native.Nat.{ℕ, _<_, _≤_}
 use lib.Dec.{T}
 use lib.ListN.{length}
 use Rattle.lists.specs.Refusals.{Check, unless}
 use Rattle.tile.specs.Named.{East, South, West, North}
+use Rattle.context.specs.declared.Indicators.{Indicators}
 use Rattle.context.specs.declared.GameContext.{GameContext}
+use Rattle.context.specs.Context.{shown}
 use Rattle.context.specs.Named.{byRon, byTsumo}
 use Rattle.hand.specs.Counts.{held}
 use Rattle.hand.specs.Reading.{Reading}
@@ -33,13 +35,23 @@ pub record InRange (w : GameContext) : Type 0 where
   pub seat : List·Memᴰ (w .«seat_wind») winds
   pub setting : List·Memᴰ (w .«double_wind_fu») settings
 
+-- ten indicators at most are shown, and each is a tile
+pub record Indicated (i : Indicators) : Type 0 where
+  pub few : i .count ≤ 10
+  pub tiles : (t : ℕ) → List·Memᴰ t (shown i) → t < 34
+
+-- those of both sorts, whether or not they count
+pub record BothIndicated (w : GameContext) : Type 0 where
+  pub dora : Indicated (w .«dora_indicators»)
+  pub ura : Indicated (w .«ura_dora_indicators»)
+
 -- the winning tile is a tile, and the hand without its calls holds it
 pub record InHand (cs : List ℕ) (t : ℕ) : Type 0 where
   pub tile : t < 34
   pub there : 0 < held cs t
 
 abbrev pub contextChecks : List ℕ → GameContext → List Check
-contextChecks cs w = unless 8 (InRange w) ∷ unless 9 (InHand cs (w .«winning_tile»)) ∷ []
+contextChecks cs w = unless 8 (InRange w) ∷ unless 14 (BothIndicated w) ∷ unless 9 (InHand cs (w .«winning_tile»)) ∷ []
 
 -- the checks of the hand, then those of the win
 abbrev pub winChecks : List ℕ → Calls → GameContext → List Check

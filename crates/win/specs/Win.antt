@@ -8,12 +8,14 @@ use lib.ListN.{replicate}
 use Rattle.lists.specs.Fold.{any}
 use Rattle.meld.specs.Meld.{isOpen}
 use Rattle.context.specs.declared.GameContext.{GameContext}
-use Rattle.context.specs.Context.{inRange}
+use Rattle.context.specs.Context.{inRange, indicatorsIn}
 use Rattle.hand.specs.Counts.{held}
 use Rattle.hand.specs.Reading.{Reading}
 use Rattle.wait.specs.Wait.{waits}
 use Rattle.tile_yaku.specs.declared.TileYaku.{TileYaku}
 use Rattle.tile_yaku.specs.Tiles.{tileYaku}
+use Rattle.dora.specs.declared.DoraCount.{DoraCount}
+use Rattle.dora.specs.Dora.{doraIn}
 use Rattle.checks.specs.declared.Calls.{Calls}
 use Rattle.checks.specs.Checks.{called, together, check, handCheck}
 use Rattle.unit.specs.Listing.{handReadings}
@@ -32,7 +34,12 @@ isOpened k = any isOpen (called k)
 abbrev pub tilesTogether : List ℕ → Calls → GameContext → TileYaku
 tilesTogether cs k w = tileYaku (together cs (called k)) (w .«winning_tile»)
 
--- ---- the checks: 1 to 6; 8 the win type, a wind or the room's setting is out of range; 9 the winning tile is above 33 or not in the hand
+-- the dora of hand and calls together
+abbrev pub doraTogether : List ℕ → Calls → GameContext → DoraCount
+doraTogether cs k w = doraIn (together cs (called k)) w
+
+-- ---- the checks: 1 to 6; 8 the win type, a wind or the room's setting is out of range; 14 there are more than ten indicators of a sort, or one that is
+-- shown is above 33; 9 the winning tile is above 33 or not in the hand
 -- the first of two numbers, or the second where the first is 0
 unfoldable pub orThen : ℕ → ℕ → ℕ
 orThen zero m = m
@@ -43,11 +50,12 @@ abbrev pub inHand : List ℕ → ℕ → Bool
 inHand cs t = ltb t 34 && ltb 0 (held cs t)
 
 unfoldable pub winCheck : List ℕ → Calls → GameContext → ℕ
-winCheck cs k w = orThen (handCheck cs k) (check (inRange w) 8 (check (inHand cs (w .«winning_tile»)) 9 0))
+winCheck cs k w =
+    orThen (handCheck cs k) (check (inRange w) 8 (check (indicatorsIn w) 14 (check (inHand cs (w .«winning_tile»)) 9 0)))
 
 -- ---- the score of a reading of the win, and the scores of all readings in their order
 unfoldable pub scoreIn : List ℕ → Calls → GameContext → Reading → ScoringResult
-scoreIn cs k w r = scoreOf w (isOpened k) (tilesTogether cs k w) r
+scoreIn cs k w r = scoreOf w (isOpened k) (tilesTogether cs k w) (doraTogether cs k w) r
 
 unfoldable pub scores : List ℕ → Calls → GameContext → List ScoringResult
 scores cs k w = map (scoreIn cs k w) (handReadings cs k)

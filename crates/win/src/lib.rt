@@ -1,11 +1,13 @@
 // Scoring a win, scoring a reading by its number, and naming its waits. Each operation has no `requires`, and its `ensures` says for every
 // input what is answered.
 ghost use mathlib.Core.Path.{_≡_};
-ghost use mathlib.Core.Bool.{_&&_};
+ghost use mathlib.Core.Bool.{true, _&&_};
 ghost use lib.ListN.{length};
 ghost use Rattle.meld.specs.Meld.{isOpen};
+ghost use Rattle.context.specs.Context.{indicatorsIn};
+ghost use Rattle.dora.specs.Dora.{AtMostForty};
 ghost use Rattle.checks.specs.Checks.{handCheck};
-ghost use Rattle.win.specs.Win.{isOpened, tilesTogether, inHand, winCheck, scoreWin, scoreReading, refusedWaits, nameWaits};
+ghost use Rattle.win.specs.Win.{isOpened, tilesTogether, doraTogether, inHand, winCheck, scoreWin, scoreReading, refusedWaits, nameWaits};
 
 // The answer to naming waits: number 0 and a tally for each wait, Ryanmen, Kanchan, Penchan, Shanpon, Tanki, Kokushi13; or a refusal's number alone.
 pub struct WaitsAnswer {
@@ -46,12 +48,16 @@ fn in_hand(counts: &[u8], t: u8) -> bool
 fn check_win(counts: &[u8], k: checks::Calls, w: context::GameContext) -> u8
     ensures { λ r. ⌜ r ≡ winCheck (now (counts .entry)) k w ⌝ }
 {
+    let shown = w.has_indicators();
     let number = checks::check_hand(counts, k);
     if number != 0 {
         return number;
     }
     if !w.is_in_range() {
         return 8;
+    }
+    if !shown {
+        return 14;
     }
     if !in_hand(counts, w.winning_tile) {
         return 9;
@@ -68,6 +74,18 @@ fn tiles_together(counts: &[u8], k: checks::Calls, w: context::GameContext) -> t
     tile_yaku::tile_yaku(&all, w.winning_tile)
 }
 
+// The dora of hand and calls together, where they and the win have passed the checks. Most often none is shown.
+fn dora_together(counts: &[u8], k: checks::Calls, w: context::GameContext) -> dora::DoraCount
+    requires { ⌜ (handCheck (now counts) k ≡ 0) × (indicatorsIn w ≡ true) ⌝ }
+    ensures { λ r. ⌜ (r ≡ doraTogether (now (counts .entry)) k w) × AtMostForty r ⌝ }
+{
+    if w.shows_none() {
+        return dora::DoraCount { regular: 0, ura: 0 };
+    }
+    let whole = checks::with_calls(counts, k);
+    dora::count_dora_detailed(&whole, w)
+}
+
 // Scores a win: the reading with a yaku that pays most.
 pub fn score_win(counts: &[u8], k: checks::Calls, w: context::GameContext) -> choice::ScoreAnswer
     ensures { λ r. ⌜ r ≡ scoreWin (now (counts .entry)) k w ⌝ }
@@ -78,7 +96,11 @@ pub fn score_win(counts: &[u8], k: checks::Calls, w: context::GameContext) -> ch
     }
     let mut buffer = [0u8; 1467];
     let n = unit::write_all(counts, k, &mut buffer);
-    choice::choose(&buffer, n, tiles_together(counts, k, w), w, is_opened(k))
+    if n == 0 {
+        return choice::refused(10);
+    }
+    let d = dora_together(counts, k, w);
+    choice::choose(&buffer, n, tiles_together(counts, k, w), d, w, is_opened(k))
 }
 
 // Scores reading number n, counted from 0.
@@ -100,9 +122,10 @@ pub fn score_reading(
         return choice::refused(12);
     }
     let h = records::reading_at(&buffer, records::place_of(&buffer, n));
+    let d = dora_together(counts, k, w);
     choice::scored(
         n,
-        reading_score::calculate_score(h, tiles_together(counts, k, w), w, is_opened(k)),
+        reading_score::calculate_score(h, tiles_together(counts, k, w), d, w, is_opened(k)),
     )
 }
 

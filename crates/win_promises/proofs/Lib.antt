@@ -4,3 +4,4 @@ pub mod Refusals
 pub mod Open
 pub mod Whole
 pub mod Rooms
+pub mod Indicated

@@ -1,13 +1,20 @@
--- The ways in which the choice among scores ends: without a score, without a yaku, or with a score that is chosen. Assumes nothing.
-use mathlib.Core.Path.{_≡_, refl, ap}
-use mathlib.Core.List.{List, [], _∷_, List·Memᴰ}
+-- The ways in which the choice among scores ends: without a score, without a yaku, or with a score that is chosen; and the number that is answered.
+-- Assumes nothing.
+use mathlib.Core.Path.{_≡_, refl, sym, ap, ap₂, _∙_}
+use mathlib.Core.Bool.{Bool, false, _||_, cond}
+use mathlib.Core.List.{List, [], _∷_, map, List·Memᴰ, List·Memᴰ·head, List·Memᴰ·tail}
 use Prim.Native.Nat.{ℕ, _<_, _≤_}
 use native.Mathlib.Omega.{arith}
-use Rattle.lists.proofs.Members.{not-empty}
+use Rattle.lists.specs.Fold.{any, some}
+use Rattle.lists.proofs.Finite.{T→true, ¬T→false}
+use Rattle.lists.proofs.Members.{any-of, not-empty}
 use Rattle.reading_score.specs.declared.ScoringResult.{ScoringResult}
-use Rattle.reading_score.specs.Score.{rank}
+use Rattle.reading_score.specs.Score.{hasYaku, rank}
+use Rattle.reading_score.proofs.Ranks.{rank-yaku, yaku-rank}
+use Rattle.choice.specs.declared.ScoreAnswer.{ScoreAnswer}
 use Rattle.choice.specs.Choice.{refused, scored, answerOf, choice}
 use Rattle.choice.specs.Standing.{StandsAt}
+use Rattle.choice.proofs.Standing.{stands-mem}
 use Rattle.choice.proofs.Choosing.{ChosenOrNone, none-there, one-there, chosen-or-none, chosen-first, greatest-most}
 
 -- x, which stands at the number i of the scores xs, is chosen: it has a rank, none has a greater one, each before it has a smaller one
@@ -40,3 +47,27 @@ pub outcome : (xs : List ScoringResult) → Outcome xs
 unfolding choice
 outcome [] = without-score refl refl
 outcome (x ∷ xs) = some-outcome x xs (chosen-or-none rank (x ∷ xs))
+
+-- ---- the number that is answered: 10 without a score, 11 without a yaku, else 0. Nothing else of the scores decides it
+abbrev numberFor : List Bool → ℕ
+numberFor [] = 10
+numberFor (b ∷ bs) = cond (some (b ∷ bs)) 0 11
+
+no-yaku : (xs : List ScoringResult) → ((y : ScoringResult) → List·Memᴰ y xs → rank y ≡ 0) → some (map hasYaku xs) ≡ false
+no-yaku [] z = refl
+no-yaku (x ∷ xs) z =
+    ap₂ _||_ (¬T→false (hasYaku x) (λ t. let h = yaku-rank x t in let e = z x (List·Memᴰ·head refl) in omega arith))
+    (no-yaku xs (λ y i. z y (List·Memᴰ·tail i)))
+
+number-for : (xs : List ScoringResult) → Outcome xs → choice xs .number ≡ numberFor (map hasYaku xs)
+number-for xs (without-score e a) = ap (λ (b : ScoreAnswer). b .number) a ∙ sym (ap (λ (l : List ScoringResult). numberFor (map hasYaku l)) e)
+number-for [] (without-yaku s z a) = absurd (s refl)
+number-for (x ∷ xs) (without-yaku s z a) = ap (λ (b : ScoreAnswer). b .number) a ∙ sym (ap (λ (b : Bool). cond b 0 11) (no-yaku (x ∷ xs) z))
+number-for [] (with-score i x c a) = absurd (c .stands)
+number-for (y ∷ xs) (with-score i x c a) =
+    ap (λ (b : ScoreAnswer). b .number) a
+    ∙ sym (ap (λ (b : Bool). cond b 0 11) (T→true (any hasYaku (y ∷ xs)) (any-of hasYaku (stands-mem x i (y ∷ xs) (c .stands)) (rank-yaku x (c .some)))))
+
+pub same-number :
+    (xs ys : List ScoringResult) → map hasYaku xs ≡ map hasYaku ys → choice xs .number ≡ choice ys .number
+same-number xs ys e = number-for xs (outcome xs) ∙ ap numberFor e ∙ sym (number-for ys (outcome ys))

@@ -15,6 +15,7 @@ use Rattle.context.specs.Context.{inRoom}
 use Rattle.hand.specs.Reading.{Reading}
 use Rattle.scoring.specs.Payment.{totalAt}
 use Rattle.fu.proofs.DoubleWind.{hasDoubleWind}
+use Rattle.dora.specs.Dora.{doraIn}
 use Rattle.checks.specs.declared.Calls.{Calls}
 use Rattle.unit.specs.Listing.{handReadings}
 use Rattle.records.specs.Pick.{pickAt}
@@ -26,8 +27,9 @@ use Rattle.choice.specs.declared.ScoreAnswer.{ScoreAnswer}
 use Rattle.choice.specs.Choice.{refused, scored, choice, numbered}
 use Rattle.choice.specs.Standing.{StandsAt}
 use Rattle.choice.proofs.Standing.{stands-mem, stands-of-map}
-use Rattle.win.specs.Win.{winCheck, isOpened, tilesTogether, scoreIn, scores, scoreWin, scoreReading, nameWaits}
-use Rattle.win.proofs.Checked.{hand-passes}
+use Rattle.win.specs.Win.{winCheck, isOpened, tilesTogether, doraTogether, scoreIn, scores, scoreWin, scoreReading, nameWaits}
+use Rattle.win.proofs.Passed.{checked}
+use Rattle.win.proofs.Forty.{dora-forty}
 use Rattle.win.proofs.Readings.{listed-short}
 use Rattle.win_promises.proofs.Outcomes.{IsChosen, Outcome, without-score, without-yaku, with-score, outcome}
 
@@ -116,8 +118,8 @@ module _ (cs : List ℕ) (k : Calls) (w : GameContext) where
   waits-any-room n = refl
 
   less-in : (r : Reading) → LessFu (scoreIn cs k (inRoom 2 w) r) (scoreIn cs k (inRoom 4 w) r)
-  unfolding scoreIn
-  less-in r = score-in-two w 4 (isOpened k) (tilesTogether cs k w) r
+  unfolding scoreIn doraIn
+  less-in r = score-in-two w 4 (isOpened k) (tilesTogether cs k w) (doraTogether cs k w) r
 
   refused-alike : (m : ℕ) → LessAnswer (refused m) (refused m)
   refused-alike m = record { same-number = refl; same-reading = refl; less = less-itself (refused m .score) }
@@ -146,9 +148,11 @@ module _ (cs : List ℕ) (k : Calls) (w : GameContext) where
   small-in :
       length (k .melds) ≡ 4 → winCheck cs k (inRoom 4 w) ≡ 0 → (r : Reading) → List·Memᴰ r (handReadings cs k)
       → Small (scoreIn cs k (inRoom 4 w) r)
-  unfolding scoreIn
+  unfolding scoreIn doraIn
   small-in four passes r i =
-      score-small (inRoom 4 w) (isOpened k) (tilesTogether cs k w) r (listed-short cs k four (hand-passes cs k (inRoom 4 w) passes) r i)
+      let p = checked cs k (inRoom 4 w) passes in
+      score-small (inRoom 4 w) (isOpened k) (tilesTogether cs k w) (doraTogether cs k w) r (dora-forty cs k (inRoom 4 w) p)
+      (listed-short cs k four (p .hand) r i)
 
   -- the win: it pays no more where the room gives two
   pub win-in-two : length (k .melds) ≡ 4 → PaysLess (scoreWin cs k (inRoom 2 w)) (scoreWin cs k (inRoom 4 w))
@@ -168,12 +172,12 @@ module _ (cs : List ℕ) (k : Calls) (w : GameContext) where
   -- a hand of which no reading has the double wind as its pair is scored alike in both rooms
   module _ (other : (r : Reading) → List·Memᴰ r (handReadings cs k) → T (not (hasDoubleWind w r))) where
     same-scores : scores cs k (inRoom 2 w) ≡ scores cs k (inRoom 4 w)
-    unfolding scores scoreIn
+    unfolding scores scoreIn doraIn
     same-scores =
         map-members (scoreIn cs k (inRoom 2 w)) (scoreIn cs k (inRoom 4 w)) (handReadings cs k)
         (λ r i.
-        score-any-room w 2 (isOpened k) (tilesTogether cs k w) r (other r i)
-        ∙ sym (score-any-room w 4 (isOpened k) (tilesTogether cs k w) r (other r i)))
+        score-any-room w 2 (isOpened k) (tilesTogether cs k w) (doraTogether cs k w) r (other r i)
+        ∙ sym (score-any-room w 4 (isOpened k) (tilesTogether cs k w) (doraTogether cs k w) r (other r i)))
 
     pub win-any-room : scoreWin cs k (inRoom 2 w) ≡ scoreWin cs k (inRoom 4 w)
     unfolding scoreWin winCheck

@@ -22,8 +22,9 @@ use Rattle.choice.specs.Choice.{refused, scored, choice}
 use Rattle.choice.specs.Standing.{StandsAt}
 use Rattle.choice.proofs.Standing.{stands-mem, stands-map, stands-of-map}
 use Rattle.win.specs.declared.WaitsAnswer.{WaitsAnswer}
-use Rattle.win.specs.Win.{winCheck, isOpened, tilesTogether, scoreIn, scores, scoreWin, scoreReading, refusedWaits, namedWaits, nameWaits}
-use Rattle.win.proofs.Checked.{hand-passes}
+use Rattle.win.specs.Win.{winCheck, isOpened, tilesTogether, doraTogether, scoreIn, scores, scoreWin, scoreReading, refusedWaits, namedWaits, nameWaits}
+use Rattle.win.proofs.Passed.{checked}
+use Rattle.win.proofs.Forty.{dora-forty}
 use Rattle.win.proofs.Readings.{listed-short}
 use Rattle.win.proofs.Answers.{win-choice, reading-picked, waits-picked, scored-at}
 use Rattle.win_promises.proofs.Outcomes.{IsChosen, Outcome, without-score, without-yaku, with-score, outcome}
@@ -141,7 +142,9 @@ module _ (cs : List ℕ) (k : Calls) (w : GameContext) (passes : winCheck cs k w
     module _ (four : length (k .melds) ≡ 4) where
       small : (r : Reading) → List·Memᴰ r (handReadings cs k) → Small (scoreIn cs k w r)
       unfolding scoreIn
-      small r i = score-small w (isOpened k) (tilesTogether cs k w) r (listed-short cs k four (hand-passes cs k w passes) r i)
+      small r i =
+          let p = checked cs k w passes in
+          score-small w (isOpened k) (tilesTogether cs k w) (doraTogether cs k w) r (dora-forty cs k w p) (listed-short cs k four (p .hand) r i)
 
       small-chosen : Small (scoreWin cs k w .score)
       small-chosen =

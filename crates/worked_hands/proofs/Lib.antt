@@ -3,5 +3,6 @@ pub mod MoreHan
 pub mod Yakuman
 pub mod Fu
 pub mod Points
+pub mod Dora
 pub mod Readings
 pub mod Refusals

@@ -2,7 +2,7 @@
 use lib.Dec.{T}
 use Rattle.played.specs.Row.{holds}
 use Rattle.played.proofs.Quick.{quick}
-use Rattle.worked_hands.specs.Refusals.{fiveCalls, fiveCallsFiveTiles, sequenceFromEight, sequenceOfHonors, fiveInHand, fiveWithCalls, fiveWithKan, fifteenTiles, elevenTiles, kanThreePlaces, elevenTilesNoSetting, noSuchWinType, whiteAsSeat, whiteAsRound, noSetting, settingThree, settingBeforeTile, seatBeforeTile, tileNotInHand, tileInCallOnly, tileAbove33, noReading, oneTileAway, closedWithoutYaku, basicWinType}
+use Rattle.worked_hands.specs.Refusals.{fiveCalls, fiveCallsFiveTiles, sequenceFromEight, sequenceOfHonors, fiveInHand, fiveWithCalls, fiveWithKan, fifteenTiles, elevenTiles, kanThreePlaces, elevenTilesNoSetting, noSuchWinType, whiteAsSeat, whiteAsRound, noSetting, settingThree, settingBeforeTile, seatBeforeTile, indicatorAbove33, uraAbove33, indicatorBeforeTile, seatBeforeIndicator, tileNotInHand, tileInCallOnly, tileAbove33, noReading, oneTileAway, closedWithoutYaku, basicWinType}
 
 -- ---- 2 more than four calls
 pub five-calls : T (holds fiveCalls)
@@ -81,6 +81,23 @@ setting-before-tile = quick settingBeforeTile tt
 pub seat-before-tile : T (holds seatBeforeTile)
 unfolding holds
 seat-before-tile = quick seatBeforeTile tt
+
+-- ---- 14 an indicator is above 33, or there are more than ten
+pub indicator-above33 : T (holds indicatorAbove33)
+unfolding holds
+indicator-above33 = quick indicatorAbove33 tt
+
+pub ura-above33 : T (holds uraAbove33)
+unfolding holds
+ura-above33 = quick uraAbove33 tt
+
+pub indicator-before-tile : T (holds indicatorBeforeTile)
+unfolding holds
+indicator-before-tile = quick indicatorBeforeTile tt
+
+pub seat-before-indicator : T (holds seatBeforeIndicator)
+unfolding holds
+seat-before-indicator = quick seatBeforeIndicator tt
 
 -- ---- 9 the winning tile is no tile or not in the hand
 pub tile-not-in-hand : T (holds tileNotInHand)

@@ -3,7 +3,7 @@ use mathlib.Core.List.{[], _∷_, _++_}
 use Rattle.tile.specs.Named.{man, sou, East, South, White, mans, pins, sous}
 use Rattle.meld.specs.Named.{chi, pon, closedKan}
 use Rattle.context.specs.Context.{inRoom}
-use Rattle.context.specs.Named.{byRon, riichi, win, southWins, ron}
+use Rattle.context.specs.Named.{byRon, riichi, win, southWins, ron, showing}
 use Rattle.hand.specs.Named.{hand}
 use Rattle.scoring.specs.declared.Payment.the-variants.{Ron}
 use Rattle.scoring.specs.declared.PaymentAnswer.the-variants.{Refused}
@@ -94,6 +94,26 @@ settingBeforeTile =
 abbrev pub seatBeforeTile : Row
 seatBeforeTile =
     won (hand (mans 12355 ++ pins 456 ++ sous 234678)) [] (win byRon (sou 9) East White []) [] (refuses 8)
+
+-- ---- 14 an indicator is above 33, or there are more than ten
+abbrev pub indicatorAbove33 : Row
+indicatorAbove33 =
+    won (hand (mans 12355 ++ pins 456 ++ sous 234678)) [] (showing (man 1 ∷ 34 ∷ []) [] (ron (sou 8))) [] (refuses 14)
+
+-- of those below too, though without riichi they do not count
+abbrev pub uraAbove33 : Row
+uraAbove33 =
+    won (hand (mans 12355 ++ pins 456 ++ sous 234678)) [] (showing [] (34 ∷ []) (ron (sou 8))) [] (refuses 14)
+
+-- before 9: the winning tile is not in the hand
+abbrev pub indicatorBeforeTile : Row
+indicatorBeforeTile =
+    won (hand (mans 12355 ++ pins 456 ++ sous 234678)) [] (showing (255 ∷ []) [] (ron (man 9))) [] (refuses 14)
+
+-- after 8: a dragon is no seat wind
+abbrev pub seatBeforeIndicator : Row
+seatBeforeIndicator =
+    won (hand (mans 12355 ++ pins 456 ++ sous 234678)) [] (showing (34 ∷ []) [] (win byRon (sou 8) East White [])) [] (refuses 8)
 
 -- ---- 9 the winning tile is no tile or not in the hand
 abbrev pub tileNotInHand : Row

@@ -1,5 +1,5 @@
--- The han of a reading with at most four melds is below 256; it is 0 exactly where no yaku that counts is there; and a value of the
--- table for open hands is that of closed hands, one less, or nothing. Assumes nothing.
+-- The han of a reading with at most four melds is below 256, and without a yakuman at most 175, which leaves room for dora; it is 0 exactly where no
+-- yaku that counts is there; and a value of the table for open hands is that of closed hands, one less, or nothing. Assumes nothing.
 use mathlib.Core.Path.{_≡_, refl, subst}
 use mathlib.Core.Logic.{_⊎_, inl, inr, ⊎-elim}
 use mathlib.Core.Bool.{Bool, true, false, _&&_, _||_, cond}
@@ -11,7 +11,7 @@ use lib.Dec.{T, eqb, leb, leb→le, lit≤}
 use borrow.Author.Tests.{le-leb}
 use lib.ListN.{getD, replicate}
 use Rattle.lists.specs.Fold.{any, one}
-use Rattle.lists.proofs.Finite.{and-left, and-right, and-both, true→T, at}
+use Rattle.lists.proofs.Finite.{and-left, and-right, and-both, true→T, at, cond-le}
 use Rattle.lists.proofs.Sums.{count-le}
 use Rattle.context.specs.declared.GameContext.{GameContext}
 use Rattle.hand.specs.Reading.{Reading, pairs, orphans, standard}
@@ -100,13 +100,13 @@ unfolding hanOf names
 yakuman-most true = lit≤ tt
 yakuman-most false = lit≤ tt
 
-ordinary-most : (opened : Bool) → dot (hanOf opened) ((oneHanMost ++ moreHanMost) ++ replicate 15 0) ≤ 255
+ordinary-most : (opened : Bool) → dot (hanOf opened) ((oneHanMost ++ moreHanMost) ++ replicate 15 0) ≤ 175
 unfolding hanOf names
 ordinary-most true = lit≤ tt
 ordinary-most false = lit≤ tt
 
 module _ (w : GameContext) (opened : Bool) (s : TileYaku) (r : Reading) (short : Short r) where
-  dot-most : (limit : Bool) → any (λ b. b) (yakuman w opened s r) ≡ limit → dot (hanOf opened) (cond limit (replicate 32 0) (ordinary w opened s r) ++ map one (yakuman w opened s r)) ≤ 255
+  dot-most : (limit : Bool) → any (λ b. b) (yakuman w opened s r) ≡ limit → dot (hanOf opened) (cond limit (replicate 32 0) (ordinary w opened s r) ++ map one (yakuman w opened s r)) ≤ cond limit 255 175
   dot-most true e =
       le-trans
       (dot-within (hanOf opened) (replicate 32 0 ++ map one (yakuman w opened s r)) (replicate 32 0 ++ replicate 15 1) (ones-within (yakuman w opened s r)))
@@ -119,7 +119,16 @@ module _ (w : GameContext) (opened : Bool) (s : TileYaku) (r : Reading) (short :
 
   pub han-small : han w opened s r < 256
   unfolding han tallies isYakuman
-  han-small = let most = dot-most (any (λ b. b) (yakuman w opened s r)) refl in omega arith
+  han-small =
+      let limit = any (λ b. b) (yakuman w opened s r) in
+      let most = dot-most limit refl in
+      let byte = cond-le limit 255 175 255 (lit≤ tt) (lit≤ tt) in
+      omega arith
+
+  -- without a yakuman
+  pub han-plain : isYakuman w opened s r ≡ false → han w opened s r ≤ 175
+  unfolding han tallies isYakuman
+  han-plain e = subst (λ (limit : Bool). dot (hanOf opened) (tallies w opened s r) ≤ cond limit 255 175) e (dot-most _ refl)
 
 -- ---- no han: at each place the value or the tally is 0
 no-sum→ : (vs ns : List ℕ) → dot vs ns ≡ 0 → (i : ℕ) → (getD vs i 0 ≡ 0) ⊎ (getD ns i 0 ≡ 0)

@@ -29,6 +29,7 @@ use denote.Plain.{uint-vals, uint-tells}
 use denote.Builtin.{u8, usize}
 use denote.Signature.{plain, shrSliceOf}
 use denote.Slice.{sliceTy, sliceVal, ShrSlice, Room, slice-vals, shr-slice-tells}
+use denote.Steps.{only}
 use denote.Struct.Laws as LL
 use denote.Triple.Statement.{Contract, Triple}
 use denote.Triple.Entry.{Args, Vals, alive, onEntry}
@@ -105,7 +106,7 @@ module _ (R : RattleType) (ty : Ty) (φ : List ℕ → Calls → GameContext →
   at = (slice-vals (a .0), (slice-vals (a .1 .0), (w, (n ∷ [], tt))))
 
   abbrev vs : List Val
-  vs = sliceVal (a .0 .ptr) (length (a .0 .now)) ∷ sliceVal (a .1 .0 .ptr) (length (a .1 .0 .now)) ∷ X′.lowered (a .1 .1 .0) ∷ n ∷ []
+  vs = sliceVal (a .0 .ptr) (length (a .0 .now)) ∷ sliceVal (a .1 .0 .ptr) (length (a .1 .0 .now)) ∷ only w ∷ n ∷ []
 
   abbrev Post : Val → SProp 𝓤
   Post = walkOf 𝓤 H A (ended-f R) (stayed R) (clauses-f R φ 𝓤) .post ((κs, qs, tt, a, at), tt)

@@ -1,7 +1,7 @@
 //! The hands and wins that are measured.
 
 use compare::hand::{Hand, KINDS};
-use compare::library::{RON, TSUMO, Win};
+use compare::library::{Indicators, RON, TSUMO, Win};
 use compare::oracle::Expected;
 use compare::random::{self, Pool, Style};
 use compare::rng::Rng;
@@ -122,6 +122,23 @@ impl Case {
     }
 }
 
+/// The same wins in riichi without indicators, and with three indicators and two ura indicators of any
+/// tiles.
+pub fn with_and_without_indicators(wins: &[Won]) -> [Vec<Won>; 2] {
+    let mut rng = Rng::new(SEED);
+    let mut shown = |number: usize| {
+        let tiles: Vec<u8> = (0..number).map(|_| rng.below(KINDS) as u8).collect();
+        Indicators::of(&tiles)
+    };
+    let mut riichi = wins.to_vec();
+    riichi.iter_mut().for_each(|won| won.win.is_riichi = true);
+    let mut with = riichi.clone();
+    for won in &mut with {
+        won.win = won.win.showing([shown(3), shown(2)]);
+    }
+    [with, riichi]
+}
+
 /// A hand, and how it was won.
 #[derive(Clone, Copy)]
 pub struct Won {
@@ -130,7 +147,8 @@ pub struct Won {
 }
 
 /// A win as players have them: 6 in 10 by ron, the rounds of East and South, any seat; 4 in 10 closed
-/// hands in riichi, a tenth of these with ippatsu; the last tile in 2 of 100. The setting is four.
+/// hands in riichi, a tenth of these with ippatsu; the last tile in 2 of 100. The setting is four, and there
+/// are no indicators.
 fn win(rng: &mut Rng, hand: &Hand) -> Win {
     let is_riichi = !hand.is_open() && rng.percent(40);
     let win_type = if rng.percent(60) { RON } else { TSUMO };
@@ -151,4 +169,22 @@ fn any_tile(rng: &mut Rng, hand: &Hand) -> u8 {
         .flat_map(|tile| (0..hand.counts[usize::from(tile)]).map(move |_| tile))
         .collect();
     rng.pick(&tiles)
+}
+
+#[cfg(test)]
+mod tests {
+    use super::*;
+
+    #[test]
+    fn wins_with_five_indicators_are_the_same_wins() {
+        let [with, without] = with_and_without_indicators(&CASES[0].wins(100));
+        for (with, without) in with.iter().zip(&without) {
+            let counts = with.win.indicators().map(|sort| sort.count);
+            assert_eq!(counts, [3, 2]);
+            assert!(with.win.is_riichi && without.win.is_riichi);
+            assert!(!without.win.has_indicators());
+            assert_eq!(with.win.winning_tile, without.win.winning_tile);
+            assert_eq!(with.hand.counts(), without.hand.counts());
+        }
+    }
 }

@@ -4,7 +4,7 @@ mod cases;
 mod timing;
 mod worst;
 
-use cases::{CASES, Case, Won};
+use cases::{CASES, Case, Won, with_and_without_indicators};
 use compare::agari;
 use compare::agari_wins::AgariWin;
 use compare::answers;
@@ -15,7 +15,7 @@ use compare::oracle::Expected;
 use std::hint::black_box;
 use std::process::ExitCode;
 
-const USAGE: &str = "usage: bench [readings | wins | worst]
+const USAGE: &str = "usage: bench [readings | wins | dora | worst]
        bench profile readings|wins CASE N
 where CASE is mixture, several, flush, none or changing";
 const NUMBER: usize = 20_000;
@@ -88,6 +88,26 @@ fn measure_wins() {
     }
 }
 
+/// Scoring a win with five indicators, three and two ura, in riichi, so that all of them count, beside the
+/// same win without them.
+fn measure_dora() {
+    println!(
+        "scoring a win in riichi with five indicators: {NUMBER} wins a case, {}",
+        timing::about_passes()
+    );
+    for case in &CASES {
+        let wins = case.wins(NUMBER);
+        let hands: Vec<Hand> = wins.iter().map(|won| won.hand).collect();
+        print_case(case, &hands);
+        let [with, without] = with_and_without_indicators(&wins);
+        let theirs: Vec<_> = with
+            .iter()
+            .map(|won| AgariWin::of(&won.hand, &won.win))
+            .collect();
+        timing::compare_with(&theirs, score_by_agari, &with, &without, score);
+    }
+}
+
 /// Runs the library alone, so many times, going round the hands or wins of a case.
 fn profile(operation: &str, name: &str, times: usize) -> Option<()> {
     let case = CASES.iter().find(|case| case.name == name)?;
@@ -108,10 +128,12 @@ fn main() -> ExitCode {
             [] => {
                 measure_readings();
                 measure_wins();
+                measure_dora();
                 worst::measure(NUMBER);
             }
             ["readings"] => measure_readings(),
             ["wins"] => measure_wins(),
+            ["dora"] => measure_dora(),
             ["worst"] => worst::measure(NUMBER),
             ["profile", operation, case, times] => profile(operation, case, times.parse().ok()?)?,
             _ => return None,

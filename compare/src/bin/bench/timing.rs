@@ -37,29 +37,64 @@ fn time<T>(inputs: &[T], call: &mut impl FnMut(&T)) -> f64 {
     (thread_time() - start) / inputs.len() as f64
 }
 
-/// Takes both sides in turn, after one pass of each that is not counted, and prints the median and
-/// the least time of the passes.
+/// The times of each side that are printed: the median and the least of the passes.
+const PRINTED: [(&str, usize); 2] = [("median", PASSES / 2), ("least", 0)];
+
+/// Takes the sides in turn, each second time from the last to the first, after one pass of each that is
+/// not counted. Answers the times of each side, ascending.
+fn passes<const N: usize>(sides: [&mut dyn FnMut() -> f64; N]) -> [Vec<f64>; N] {
+    let mut times = [(); N].map(|_| Vec::new());
+    for pass in 0..=PASSES {
+        for place in 0..N {
+            let side = if pass % 2 == 0 { place } else { N - 1 - place };
+            times[side].push(sides[side]());
+        }
+    }
+    times.map(|mut side| {
+        side.remove(0);
+        side.sort_by(f64::total_cmp);
+        side
+    })
+}
+
+/// Takes both sides in turn, and prints the median and the least time of the passes.
 pub fn compare<A, O>(
     theirs: &[A],
     mut agari: impl FnMut(&A),
     inputs: &[O],
     mut ours: impl FnMut(&O),
 ) {
-    let mut times = [Vec::new(), Vec::new()];
-    for pass in 0..=PASSES {
-        let both = [time(theirs, &mut agari), time(inputs, &mut ours)];
-        if pass > 0 {
-            times[0].push(both[0]);
-            times[1].push(both[1]);
-        }
-    }
-    times
-        .iter_mut()
-        .for_each(|side| side.sort_by(f64::total_cmp));
-    for (name, pass) in [("median", PASSES / 2), ("least", 0)] {
-        let [agari, ours] = [times[0][pass], times[1][pass]];
+    let [agari, ours] = passes([&mut || time(theirs, &mut agari), &mut || {
+        time(inputs, &mut ours)
+    }]);
+    for (name, pass) in PRINTED {
+        let [agari, ours] = [agari[pass], ours[pass]];
         let ratio = agari / ours;
         println!("  {name:6}  agari {agari:6.0} ns, ours {ours:5.0} ns, ratio {ratio:5.1}");
+    }
+}
+
+/// Takes both sides in turn, ours also on the same inputs with less in them, and prints the same and how
+/// many times as long ours takes as with less.
+pub fn compare_with<A, O>(
+    theirs: &[A],
+    mut agari: impl FnMut(&A),
+    inputs: &[O],
+    less: &[O],
+    ours: impl Fn(&O),
+) {
+    let [agari, with, without] = passes([
+        &mut || time(theirs, &mut agari),
+        &mut || time(inputs, &mut |input| ours(input)),
+        &mut || time(less, &mut |input| ours(input)),
+    ]);
+    for (name, pass) in PRINTED {
+        let [agari, with, without] = [agari[pass], with[pass], without[pass]];
+        let [ratio, more] = [agari / with, with / without];
+        println!(
+            "  {name:6}  agari {agari:6.0} ns, ours {with:5.0} ns, ratio {ratio:5.1}; \
+             ours without {without:5.0} ns, {more:.3} times as long with"
+        );
     }
 }
 

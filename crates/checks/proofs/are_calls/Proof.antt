@@ -7,7 +7,7 @@ use native.Mathlib.Omega.{arith}
 use lib.ListN.{length, getD, take, drop, length-map}
 use Rattle.lists.specs.Fold.{all}
 use Rattle.meld.specs.Meld.{isCall, meld}
-use Rattle.checks.proofs.Turns.{first-pass, first-fail, first-end}
+use Rattle.lists.proofs.First.{first-pass, first-fail, first-end}
 use borrow.Author.Tests.{not-true, not-false}
 use borrow.Author.Needs.{needs}
 use Rattle.checks.proofs.are_calls.Statement.{statement}

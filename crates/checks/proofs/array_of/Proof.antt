@@ -5,8 +5,7 @@ use Prim.Native.Nat.{_-_}
 use native.Mathlib.Omega.{arith}
 use lib.ListN.{length, drop, length-set}
 use lib.Seq.{sets}
-use Rattle.lists.proofs.Stores.{sets-next}
-use Rattle.checks.proofs.Turns.{copy-end, copy-whole}
+use Rattle.lists.proofs.Stores.{sets-next, copy-end, copy-whole}
 use borrow.Author.Needs.{needs}
 use Rattle.checks.proofs.array_of.Statement.{statement}
 use Rattle.checks.proofs.array_of.Tie as tie

@@ -9,7 +9,7 @@ use Rattle.lists.proofs.Finite.{and-left, T→true, true→T}
 use Rattle.meld.specs.Meld.{isCall, isMeld, meld}
 use Rattle.hand.specs.Counts.{held}
 use Rattle.checks.specs.Checks.{called}
-use Rattle.checks.proofs.Turns.{first-at}
+use Rattle.lists.proofs.First.{first-at}
 use Rattle.checks.proofs.Added.{usesOf, uses-next, uses-first}
 use borrow.Author.Needs.{needs}
 use Rattle.checks.proofs.with_calls.Statement.{statement}

@@ -12,11 +12,11 @@ use Rattle.choice.proofs.choose.Statement.{statement}
 use Rattle.choice.proofs.choose.Tie as tie
 
 abbrev Inv-loop : tie.InvT-loop
-Inv-loop b n s w opened best₀ found₀ at₀ i₀ best found at i =
-    (i ≤ n) × ((at ≤ i * 255) × (Rest (scoreOf w opened s) b n best found i at ≡ Rest (scoreOf w opened s) b n 0 noYaku 0 0))
+Inv-loop b n s d w opened best₀ found₀ at₀ i₀ best found at i =
+    (i ≤ n) × ((at ≤ i * 255) × (Rest (scoreOf w opened s d) b n best found i at ≡ Rest (scoreOf w opened s d) b n 0 noYaku 0 0))
 
 abbrev μ-loop : tie.MeasureT-loop
-μ-loop b n s w opened best₀ found₀ at₀ i₀ best found at i = n - i
+μ-loop b n s d w opened best₀ found₀ at₀ i₀ best found at i = n - i
 
 refused-requires : tie.Need-refused-requires Inv-loop μ-loop
 refused-requires c κs = search needs
@@ -24,7 +24,7 @@ refused-requires c κs = search needs
 returns : tie.Need-returns Inv-loop μ-loop
 returns c =
     let a = c .before .before .before .args in
-    c .refused .ensures ∙ choice-none (scoreOf (a .w) (a .opened) (a .s)) (a .b .now) (a .n) (c .before .if1 .taken)
+    c .refused .ensures ∙ choice-none (scoreOf (a .w) (a .opened) (a .s) (a .d)) (a .b .now) (a .n) (c .before .if1 .taken)
 
 refused-requires-2 : tie.Need-refused-requires-2 Inv-loop μ-loop
 refused-requires-2 c κs = search needs
@@ -32,7 +32,7 @@ refused-requires-2 c κs = search needs
 loop-holds : tie.Need-loop-holds Inv-loop μ-loop
 loop-holds c =
     let a = c .before .before .before .args in
-    (omega arith, (omega arith, ap (λ f. Rest (scoreOf (a .w) (a .opened) (a .s)) (a .b .now) (a .n) 0 f 0 0) (c .refused2 .ensures)))
+    (omega arith, (omega arith, ap (λ f. Rest (scoreOf (a .w) (a .opened) (a .s) (a .d)) (a .b .now) (a .n) 0 f 0 0) (c .refused2 .ensures)))
 
 reading-at-requires : tie.Need-reading-at-requires Inv-loop μ-loop
 reading-at-requires c κs = omega arith
@@ -62,7 +62,7 @@ loop-again : tie.Need-loop-again Inv-loop μ-loop
 loop-again c =
     let a = c .before .before .before .before .before .before .before .before .before .before .args in
     let l = c .before .before .before .before .before .before .loop in
-    let g = scoreOf (a .w) (a .opened) (a .s) in
+    let g = scoreOf (a .w) (a .opened) (a .s) (a .d) in
     let x = c .before .before .before .calculate-score in
     let r = c .before .before .rank in
     let d = c .length-at in
@@ -89,7 +89,7 @@ returns-2 : tie.Need-returns-2 Inv-loop μ-loop
 returns-2 c =
     let a = c .before .before .before .before .before .args in
     let l = c .before .loop in
-    let g = scoreOf (a .w) (a .opened) (a .s) in
+    let g = scoreOf (a .w) (a .opened) (a .s) (a .d) in
     sym (rest-end g (a .b .now) (a .n) (l .best) (l .found) (l .i) (l .at) (c .loop-test .left))
     ∙ l .inv .1 .1 ∙ rest-all g (a .b .now) (a .n) ∙ choice-some g (a .b .now) (a .n) (c .before .before .before .if1 .left)
 

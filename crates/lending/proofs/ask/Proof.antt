@@ -109,7 +109,7 @@ module _ {M : Type 1} (𝓤 : URA M) (H : Heap 𝓤) (A : Atoms 𝓤) (W : Given
   Post ys n = walkOf 𝓤 H A f.ended stayed (f.clauses 𝓤 H A mem run) .post (((κ, tt), (q, tt), tt, (s, (ys, (n, (w, (k, tt))))), at ys n), tt)
 
   abbrev vs : List Meld → ℕ → List Val
-  vs ys n = sliceVal (s .ptr) (length (s .now)) ∷ only (array-vals vals ys) ∷ vint w64 n ∷ X′.lowered w ∷ vint w64 k ∷ []
+  vs ys n = sliceVal (s .ptr) (length (s .now)) ∷ only (array-vals vals ys) ∷ vint w64 n ∷ only wv ∷ vint w64 k ∷ []
 
   -- what is walked, for any five melds and any number of them
   abbrev Walked : Table 𝓤 H → Loops 𝓤 H → List Meld → ℕ → Type 1

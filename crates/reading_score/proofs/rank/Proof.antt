@@ -10,18 +10,14 @@ use Rattle.reading_score.proofs.rank.Statement.{statement}
 use Rattle.reading_score.proofs.rank.Tie as tie
 use Rattle.reading_score.proofs.rank.Reads as reads
 use Rattle.reading_score.proofs.rank.Lts as lts
-use Rattle.lists.proofs.any_above_zero.Reads as any-above-zero-reads
+use Rattle.reading_score.proofs.has_yaku.Reads as has-yaku-reads
 use Rattle.scoring.proofs.Payment.total.Reads as total-reads
 
-slice-aggregate-any-above-zero : tie.Need-slice-aggregate-any-above-zero
-slice-aggregate-any-above-zero c = search needs
-
-any-above-zero-requires : tie.Need-any-above-zero-requires
-any-above-zero-requires c κs = search needs
+has-yaku-requires : tie.Need-has-yaku-requires
+has-yaku-requires c κs = search needs
 
 returns : tie.Need-returns
-returns c =
-    rank-none (c .before .before .before .before .args .x) (c .before .any-above-zero .result) (c .before .any-above-zero .ensures) (c .if1 .taken)
+returns c = rank-none (c .before .before .args .x) (c .before .has-yaku .result) (c .before .has-yaku .ensures) (c .if1 .taken)
 
 total-requires : tie.Need-total-requires
 total-requires c κs = search needs
@@ -34,11 +30,11 @@ cast-fu c = search needs
 
 -- where the four digits are there
 abbrev Digits : Type 0
-Digits = lts.After-struct-known2 (any-above-zero-reads.Asked, any-above-zero-reads.Learnt, total-reads.Asked, total-reads.Learnt) reads.Pre reads.Post
+Digits = lts.After-struct-known2 (has-yaku-reads.Asked, has-yaku-reads.Learnt, total-reads.Asked, total-reads.Learnt) reads.Pre reads.Post
 
 small : (c : Digits) → (c .before .before .before .total .result ≤ 3 * 4294967295) × (c .before .before .if2 .yakuman ≤ 1)
 small c =
-    let start = c .before .before .before .before .before .before .before .before in
+    let start = c .before .before .before .before .before .before in
     let few = total-fits (start .args .x .payment) _ (start .good .0 .1 .1 .1 .1 .1 .1 .1 .1 .0) in
     let told = c .before .before .before .total .ensures in
     (omega arith, ⊎-elim (λ w. omega (arith, w .1)) (λ w. omega (arith, w .1)) (c .before .before .if2 .came))
@@ -68,17 +64,16 @@ returns-2 : tie.Need-returns-2
 returns-2 c =
     let branch = c .before .before .before in
     let called = branch .before in
-    let x = called .before .before .before .before .before .args .x in
+    let x = called .before .before .before .args .x in
     let digit : branch .if2 .yakuman ≡ yakumanFirst (x .«is_yakuman») = ⊎-elim (λ w. rw (w .0 .taken) (omega (arith, w .1))) (λ w. rw (w .0 .left) (omega (arith, w .1))) (branch .if2 .came) in
-    rank-some x (called .before .before .any-above-zero .result) (called .total .result) (branch .if2 .yakuman)
-    (called .before .before .any-above-zero .ensures) (called .before .if1 .left) (called .total .ensures) digit
+    rank-some x (called .before .before .has-yaku .result) (called .total .result) (branch .if2 .yakuman)
+    (called .before .before .has-yaku .ensures) (called .before .if1 .left) (called .total .ensures) digit
 
 pub rank-spec : {M : Type 1} → statement M
 rank-spec =
     tie.close
     (tie.spec
-    slice-aggregate-any-above-zero
-    any-above-zero-requires
+    has-yaku-requires
     returns
     total-requires
     cast-han

@@ -59,7 +59,7 @@ returns c =
     ) at (c .before .score-win2 .ensures) in
     let first = c .before .before .before .before .before .before .score-win .ensures in
     let answer = c .same-answer .ensures ∙ ap₂ agrees second first in
-    (answer, λ passes plain plain′. answer ∙ calls-agree by cs k w long passes plain plain′)
+    (answer, λ passes plain plain′ fair. answer ∙ calls-agree by cs k w long passes plain plain′ fair)
 
 pub agree-spec : {M : Type 1} → statement M
 agree-spec =

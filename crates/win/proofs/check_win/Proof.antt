@@ -1,4 +1,4 @@
--- `check_win` meets its contract: the checks are made in the definition's order. Assumes nothing.
+-- `check_win` meets its contract: the checks are answered in the definition's order, whichever is made first. Assumes nothing.
 use mathlib.Core.Path.{sym, _∙_}
 use borrow.Author.Tests.{not-true, not-false}
 use Rattle.checks.proofs.Checked.{pass, refuse}
@@ -9,12 +9,15 @@ use borrow.Author.Needs.{needs}
 use Rattle.win.proofs.check_win.Statement.{statement}
 use Rattle.win.proofs.check_win.Tie as tie
 
+has-indicators-requires : tie.Need-has-indicators-requires
+has-indicators-requires c κs = search needs
+
 check-hand-requires : tie.Need-check-hand-requires
 check-hand-requires c κs = search needs
 
 returns : tie.Need-returns
 returns c =
-    let a = c .before .before .before .args in
+    let a = c .before .before .before .before .args in
     refused-hand (a .counts .now) (a .k) (a .w) (c .before .check-hand .result) (c .before .check-hand .ensures) (c .if1 .taken)
 
 is-in-range-requires : tie.Need-is-in-range-requires
@@ -26,33 +29,48 @@ returns-2 c =
     let ok = sym (c .before .before .before .check-hand .ensures) ∙ c .before .before .if1 .left in
     sym (or-second _ _ ok ∙ refuse _ _ _ (sym (c .before .is-in-range .ensures) ∙ not-true _ (c .if2 .taken)))
 
-in-hand-requires : tie.Need-in-hand-requires
-in-hand-requires c κs =
-    let a = c .before .before .before .before .before .args in
-    passed (a .counts .now) (a .k) (sym (c .before .before .before .check-hand .ensures) ∙ c .before .before .if1 .left) .long
-
 returns-3 : tie.Need-returns-3
 unfolding winCheck
 returns-3 c =
-    let ok = sym (c .before .before .before .before .before .check-hand .ensures) ∙ c .before .before .before .before .if1 .left in
-    let range = sym (c .before .before .before .is-in-range .ensures) ∙ not-false _ (c .before .before .if2 .left) in
-    sym (or-second _ _ ok ∙ pass _ _ _ range ∙ refuse _ _ _ (sym (c .before .in-hand .ensures) ∙ not-true _ (c .if3 .taken)))
+    let early = c .before .before .before .before in
+    let ok = sym (early .check-hand .ensures) ∙ c .before .before .before .if1 .left in
+    let range = sym (c .before .before .is-in-range .ensures) ∙ not-false _ (c .before .if2 .left) in
+    sym (or-second _ _ ok ∙ pass _ _ _ range ∙ refuse _ _ _ (sym (early .before .has-indicators .ensures) ∙ not-true _ (c .if3 .taken)))
+
+in-hand-requires : tie.Need-in-hand-requires
+in-hand-requires c κs =
+    let hand = c .before .before .before .before in
+    let a = hand .before .before .before .args in
+    passed (a .counts .now) (a .k) (sym (hand .check-hand .ensures) ∙ c .before .before .before .if1 .left) .long
 
 returns-4 : tie.Need-returns-4
 unfolding winCheck
 returns-4 c =
-    let ok = sym (c .before .before .before .before .before .check-hand .ensures) ∙ c .before .before .before .before .if1 .left in
-    let in-range = sym (c .before .before .before .is-in-range .ensures) ∙ not-false _ (c .before .before .if2 .left) in
-    sym (or-second _ _ ok ∙ pass _ _ _ in-range ∙ pass _ _ _ (sym (c .before .in-hand .ensures) ∙ not-false _ (c .if3 .left)))
+    let fourth = c .before .before .before .before .before .before in
+    let ok = sym (fourth .check-hand .ensures) ∙ c .before .before .before .before .before .if1 .left in
+    let range = sym (c .before .before .before .before .is-in-range .ensures) ∙ not-false _ (c .before .before .before .if2 .left) in
+    let shown = sym (fourth .before .has-indicators .ensures) ∙ not-false _ (c .before .before .if3 .left) in
+    sym (or-second _ _ ok ∙ pass _ _ _ range ∙ pass _ _ _ shown ∙ refuse _ _ _ (sym (c .before .in-hand .ensures) ∙ not-true _ (c .if4 .taken)))
+
+returns-5 : tie.Need-returns-5
+unfolding winCheck
+returns-5 c =
+    let fifth = c .before .before .before .before .before .before in
+    let ok = sym (fifth .check-hand .ensures) ∙ c .before .before .before .before .before .if1 .left in
+    let in-range = sym (c .before .before .before .before .is-in-range .ensures) ∙ not-false _ (c .before .before .before .if2 .left) in
+    let are-shown = sym (fifth .before .has-indicators .ensures) ∙ not-false _ (c .before .before .if3 .left) in
+    sym (or-second _ _ ok ∙ pass _ _ _ in-range ∙ pass _ _ _ are-shown ∙ pass _ _ _ (sym (c .before .in-hand .ensures) ∙ not-false _ (c .if4 .left)))
 
 pub check-win-spec : {M : Type 1} → statement M
 check-win-spec =
     tie.close
     (tie.spec
+    has-indicators-requires
     check-hand-requires
     returns
     is-in-range-requires
     returns-2
-    in-hand-requires
     returns-3
-    returns-4)
+    in-hand-requires
+    returns-4
+    returns-5)

@@ -1,8 +1,10 @@
 -- `score_reading` meets its contract: a refusal, or the score of the reading at its place in the buffer. Assumes nothing.
 use mathlib.Core.Path.{sym, ap, _∙_}
 use lib.ListN.{length-map}
+use Rattle.lists.proofs.Finite.{T→true}
 use Rattle.promises.proofs.Listing.{room}
 use Rattle.win.proofs.Checked.{hand-passes}
+use Rattle.win.proofs.Passed.{checked}
 use Rattle.win.proofs.Readings.{held-readings}
 use Rattle.win.proofs.Answers.{reading-refused, reading-none, reading-scored}
 use Rattle.structure.specs.Structure.{readingOf}
@@ -64,42 +66,47 @@ place-of-requires c κs = search needs
 reading-at-requires : tie.Need-reading-at-requires
 reading-at-requires c κs = search needs
 
+dora-together-requires : tie.Need-dora-together-requires
+dora-together-requires c κs =
+    let s = c .before .before .before .before .before .before .before .before .before .before .before in
+    let passes = sym (c .before .before .before .before .before .before .before .before .before .check-win .ensures) ∙ c .before .before .before .before .before .before .before .before .if1 .left in
+    let p = checked (s .args .counts .now) (s .args .k) (s .args .w) passes in
+    (p .hand, T→true _ (p .indicators))
+
 tiles-together-requires : tie.Need-tiles-together-requires
 tiles-together-requires c κs =
-    let s = c .before .before .before .before .before .before .before .before .before .before .before in
-    let cs = s .args .counts .now in
-    let k = s .args .k in
-    let passes = sym (c .before .before .before .before .before .before .before .before .before .check-win .ensures) ∙ c .before .before .before .before .before .before .before .before .if1 .left in
-    let ok = hand-passes cs k (s .args .w) passes in
-    ok
+    let s = c .before .before .before .before .before .before .before .before .before .before .before .before in
+    let passes = sym (c .before .before .before .before .before .before .before .before .before .before .check-win .ensures) ∙ c .before .before .before .before .before .before .before .before .before .if1 .left in
+    hand-passes (s .args .counts .now) (s .args .k) (s .args .w) passes
 
 is-opened-requires : tie.Need-is-opened-requires
 is-opened-requires c κs = search needs
 
 calculate-score-requires : tie.Need-calculate-score-requires
-calculate-score-requires c κs = search needs
+calculate-score-requires c κs = c .before .before .dora-together .ensures .1
 
 scored-requires : tie.Need-scored-requires
 scored-requires c κs = search needs
 
 returns-3 : tie.Need-returns-3
 returns-3 c =
-    let s = c .before .before .before .before .before .before .before .before .before .before .before .before .before .before .before in
+    let s = c .before .before .before .before .before .before .before .before .before .before .before .before .before .before .before .before in
     let cs = s .args .counts .now in
     let k = s .args .k in
-    let passes = sym (c .before .before .before .before .before .before .before .before .before .before .before .before .before .check-win .ensures) ∙ c .before .before .before .before .before .before .before .before .before .before .before .before .if1 .left in
+    let passes = sym (c .before .before .before .before .before .before .before .before .before .before .before .before .before .before .check-win .ensures) ∙ c .before .before .before .before .before .before .before .before .before .before .before .before .before .if1 .left in
     let ok = hand-passes cs k (s .args .w) passes in
     let four = sym (length-map (k .melds) _) ∙ s .good .1 .0 .1 .1 .1 .0 .1 .0 .1 in
-    let b = c .before .before .before .before .before .before .before .before .before .before .write-all in
+    let b = c .before .before .before .before .before .before .before .before .before .before .before .write-all in
     let holds = held-readings cs k four ok _ _ (b .result) (b .ensures .1 .1) (room cs k four ok) (b .ensures .0) in
-    let h = c .before .before .before .before .reading-at in
-    let place = c .before .before .before .before .before .place-of in
+    let h = c .before .before .before .before .before .reading-at in
+    let place = c .before .before .before .before .before .before .place-of in
+    let dora = c .before .before .before .before .dora-together in
     let tiles = c .before .before .before .tiles-together in
     let opened = c .before .before .is-opened in
     c .scored .ensures
     ∙ ap (scored (s .args .n)) (c .before .calculate-score .ensures)
-    ∙ reading-scored cs k (s .args .w) passes _ (b .result) holds (s .args .n) (c .before .before .before .before .before .before .before .before .if2 .left) (tiles .result) (opened .result) (tiles .ensures)
-    (opened .ensures) (readingOf (h .result)) (h .ensures ∙ ap (readingAt _) (place .ensures .0))
+    ∙ reading-scored cs k (s .args .w) passes _ (b .result) holds (s .args .n) (c .before .before .before .before .before .before .before .before .before .if2 .left) (tiles .result) (dora .result) (opened .result)
+    (tiles .ensures) (dora .ensures .0) (opened .ensures) (readingOf (h .result)) (h .ensures ∙ ap (readingAt _) (place .ensures .0))
 
 pub score-reading-spec : {M : Type 1} → statement M
 score-reading-spec =
@@ -116,6 +123,7 @@ score-reading-spec =
     slice-aggregate-place-of
     place-of-requires
     reading-at-requires
+    dora-together-requires
     tiles-together-requires
     is-opened-requires
     calculate-score-requires

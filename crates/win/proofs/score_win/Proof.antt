@@ -1,10 +1,12 @@
 -- `score_win` meets its contract: a refusal, or the choice among all readings that the buffer holds. Assumes nothing.
 use mathlib.Core.Path.{sym, _∙_}
 use lib.ListN.{length-map}
+use Rattle.lists.proofs.Finite.{T→true}
 use Rattle.promises.proofs.Listing.{room}
 use Rattle.win.proofs.Checked.{hand-passes}
+use Rattle.win.proofs.Passed.{checked}
 use Rattle.win.proofs.Readings.{held-readings}
-use Rattle.win.proofs.Answers.{win-refused, win-chosen}
+use Rattle.win.proofs.Answers.{win-refused, win-none, win-chosen}
 use borrow.Author.Needs.{needs}
 use Rattle.win.proofs.score_win.Statement.{statement}
 use Rattle.win.proofs.score_win.Tie as tie
@@ -34,36 +36,58 @@ write-all-requires c κs =
     let four = sym (length-map (k .melds) _) ∙ s .good .1 .0 .1 .1 .1 .0 .1 .0 .1 in
     (ok, room cs k four ok)
 
+refused-requires-2 : tie.Need-refused-requires-2
+refused-requires-2 c κs = search needs
+
+returns-2 : tie.Need-returns-2
+returns-2 c =
+    let s = c .before .before .before .before .before .before .before .before in
+    let cs = s .args .counts .now in
+    let k = s .args .k in
+    let passes = sym (c .before .before .before .before .before .before .check-win .ensures) ∙ c .before .before .before .before .before .if1 .left in
+    let ok = hand-passes cs k (s .args .w) passes in
+    let four = sym (length-map (k .melds) _) ∙ s .good .1 .0 .1 .1 .1 .0 .1 .0 .1 in
+    let b = c .before .before .before .write-all in
+    let holds = held-readings cs k four ok _ _ (b .result) (b .ensures .1 .1) (room cs k four ok) (b .ensures .0) in
+    c .refused2 .ensures ∙ win-none cs k (s .args .w) passes _ (b .result) holds (c .before .if2 .taken)
+
+dora-together-requires : tie.Need-dora-together-requires
+dora-together-requires c κs =
+    let s = c .before .before .before .before .before .before .before in
+    let passes = sym (c .before .before .before .before .before .check-win .ensures) ∙ c .before .before .before .before .if1 .left in
+    let p = checked (s .args .counts .now) (s .args .k) (s .args .w) passes in
+    (p .hand, T→true _ (p .indicators))
+
 slice-aggregate-choose : tie.Need-slice-aggregate-choose
 slice-aggregate-choose c = search needs
 
 tiles-together-requires : tie.Need-tiles-together-requires
 tiles-together-requires c κs =
-    let s = c .before .before .before .before .before .before .before in
-    let cs = s .args .counts .now in
-    let k = s .args .k in
-    let passes = sym (c .before .before .before .before .before .check-win .ensures) ∙ c .before .before .before .before .if1 .left in
-    let ok = hand-passes cs k (s .args .w) passes in
-    ok
+    let s = c .before .before .before .before .before .before .before .before .before in
+    let passes = sym (c .before .before .before .before .before .before .before .check-win .ensures) ∙ c .before .before .before .before .before .before .if1 .left in
+    hand-passes (s .args .counts .now) (s .args .k) (s .args .w) passes
 
 is-opened-requires : tie.Need-is-opened-requires
 is-opened-requires c κs = search needs
 
 choose-requires : tie.Need-choose-requires
-choose-requires c κs = search needs
+choose-requires c κs = (search needs, c .before .before .before .dora-together .ensures .1)
 
-returns-2 : tie.Need-returns-2
-returns-2 c =
-    let s = c .before .before .before .before .before .before .before .before .before .before in
+returns-3 : tie.Need-returns-3
+returns-3 c =
+    let s = c .before .before .before .before .before .before .before .before .before .before .before .before in
     let cs = s .args .counts .now in
     let k = s .args .k in
-    let passes = sym (c .before .before .before .before .before .before .before .before .check-win .ensures) ∙ c .before .before .before .before .before .before .before .if1 .left in
+    let passes = sym (c .before .before .before .before .before .before .before .before .before .before .check-win .ensures) ∙ c .before .before .before .before .before .before .before .before .before .if1 .left in
     let ok = hand-passes cs k (s .args .w) passes in
     let four = sym (length-map (k .melds) _) ∙ s .good .1 .0 .1 .1 .1 .0 .1 .0 .1 in
-    let b = c .before .before .before .before .before .write-all in
+    let b = c .before .before .before .before .before .before .before .write-all in
     let holds = held-readings cs k four ok _ _ (b .result) (b .ensures .1 .1) (room cs k four ok) (b .ensures .0) in
-    win-chosen cs k (s .args .w) passes _ (b .result) holds (c .before .before .tiles-together .result) (c .before .is-opened .result)
-    (c .before .before .tiles-together .ensures) (c .before .is-opened .ensures) (c .choose .result) (c .choose .ensures)
+    let dora = c .before .before .before .before .dora-together in
+    let tiles = c .before .before .tiles-together in
+    let opened = c .before .is-opened in
+    win-chosen cs k (s .args .w) passes _ (b .result) holds (tiles .result) (dora .result) (opened .result) (tiles .ensures) (dora .ensures .0)
+    (opened .ensures) (c .choose .result) (c .choose .ensures)
 
 pub score-win-spec : {M : Type 1} → statement M
 score-win-spec =
@@ -74,8 +98,11 @@ score-win-spec =
     returns
     slice-aggregate-write-all
     write-all-requires
+    refused-requires-2
+    returns-2
+    dora-together-requires
     slice-aggregate-choose
     tiles-together-requires
     is-opened-requires
     choose-requires
-    returns-2)
+    returns-3)

@@ -23,6 +23,7 @@ use denote.Laws.{Is}
 use denote.Builtin.{u8}
 use denote.Signature.{plain, shrSliceOf}
 use denote.Slice.{sliceVal, ShrSlice, Room, slice-vals, shr-slice-tells}
+use denote.Steps.{only}
 use denote.Struct.Laws as LL
 use denote.Triple.Statement.{Contract, Triple}
 use denote.Triple.Entry.{Args, Vals, alive, onEntry}
@@ -69,7 +70,7 @@ module _ {M : Type 1} (𝓤 : URA M) (H : Heap 𝓤) (A : Atoms 𝓤) (W : Given
   at = (slice-vals (a .0), (slice-vals (a .1 .0), (w, tt)))
 
   abbrev vs : List Val
-  vs = sliceVal (a .0 .ptr) (length (a .0 .now)) ∷ sliceVal (a .1 .0 .ptr) (length (a .1 .0 .now)) ∷ X′.lowered (a .1 .1 .0) ∷ []
+  vs = sliceVal (a .0 .ptr) (length (a .0 .now)) ∷ sliceVal (a .1 .0 .ptr) (length (a .1 .0 .now)) ∷ only w ∷ []
 
   abbrev Post : Val → SProp 𝓤
   Post = walkOf 𝓤 H A f.ended stayed (f.clauses 𝓤 H A mem run) .post ((κs, qs, tt, a, at), tt)

@@ -1,4 +1,4 @@
--- `GameContext::renamed` meets its contract, by what `Tile::renamed` ensures.
+-- `GameContext::renamed` meets its contract, by what `Tile::renamed` ensures of the winning tile and `Indicators::renamed` of both sorts.
 -- Assumes nothing.
 use borrow.Author.Needs.{needs}
 use Rattle.context.proofs.GameContext.renamed.Statement.{statement}
@@ -7,8 +7,14 @@ use Rattle.context.proofs.GameContext.renamed.Tie as tie
 renamed-requires : tie.Need-renamed-requires
 renamed-requires c κs = search needs
 
+renamed-requires-2 : tie.Need-renamed-requires-2
+renamed-requires-2 c κs = search needs
+
+renamed-requires-3 : tie.Need-renamed-requires-3
+renamed-requires-3 c κs = search needs
+
 returns : tie.Need-returns
-returns c = simp (c .renamed .ensures)
+returns c = simp (c .before .before .before .before .renamed .ensures, c .before .renamed2 .ensures, c .renamed3 .ensures)
 
 pub renamed-spec : {M : Type 1} → statement M
-renamed-spec = tie.close (tie.spec renamed-requires returns)
+renamed-spec = tie.close (tie.spec renamed-requires renamed-requires-2 renamed-requires-3 returns)

@@ -7,35 +7,35 @@ use Rattle.notation.proofs.said.Said.win.Tie as tie
 one-if-requires : tie.Need-one-if-requires
 one-if-requires c κs = search needs
 
-add-t5 : tie.Need-add-t5
-add-t5 c = search needs
-
 add-t7 : tie.Need-add-t7
 add-t7 c = search needs
 
-array-read-t10 : tie.Need-array-read-t10
-array-read-t10 c = search needs
+add-t9 : tie.Need-add-t9
+add-t9 c = search needs
 
-array-read-t13 : tie.Need-array-read-t13
-array-read-t13 c = search needs
+array-read-t12 : tie.Need-array-read-t12
+array-read-t12 c = search needs
 
-array-read-t16 : tie.Need-array-read-t16
-array-read-t16 c = search needs
+array-read-t15 : tie.Need-array-read-t15
+array-read-t15 c = search needs
 
-array-read-t19 : tie.Need-array-read-t19
-array-read-t19 c = search needs
+array-read-t18 : tie.Need-array-read-t18
+array-read-t18 c = search needs
 
-array-read-t22 : tie.Need-array-read-t22
-array-read-t22 c = search needs
+array-read-t21 : tie.Need-array-read-t21
+array-read-t21 c = search needs
 
-array-read-t25 : tie.Need-array-read-t25
-array-read-t25 c = search needs
+array-read-t24 : tie.Need-array-read-t24
+array-read-t24 c = search needs
 
-array-read-t28 : tie.Need-array-read-t28
-array-read-t28 c = search needs
+array-read-t27 : tie.Need-array-read-t27
+array-read-t27 c = search needs
 
-array-read-t31 : tie.Need-array-read-t31
-array-read-t31 c = search needs
+array-read-t30 : tie.Need-array-read-t30
+array-read-t30 c = search needs
+
+array-read-t33 : tie.Need-array-read-t33
+array-read-t33 c = search needs
 
 double-wind-fu-requires : tie.Need-double-wind-fu-requires
 double-wind-fu-requires c κs = search needs
@@ -44,22 +44,22 @@ returns : tie.Need-returns
 returns c =
     let e = c .before .before .before .one-if .ensures .0 in
     let d = c .double-wind-fu .ensures in
-    (simp (e, d), simp (e, d) (in-range (c .before .before .before .before .before .args .self)))
+    (simp (e, d), simp (e, d) (in-range (c .before .before .before .before .before .before .before .args .self)))
 
 pub win-spec : {M : Type 1} → statement M
 win-spec =
     tie.close
     (tie.spec
     one-if-requires
-    add-t5
     add-t7
-    array-read-t10
-    array-read-t13
-    array-read-t16
-    array-read-t19
-    array-read-t22
-    array-read-t25
-    array-read-t28
-    array-read-t31
+    add-t9
+    array-read-t12
+    array-read-t15
+    array-read-t18
+    array-read-t21
+    array-read-t24
+    array-read-t27
+    array-read-t30
+    array-read-t33
     double-wind-fu-requires
     returns)

@@ -28,14 +28,11 @@ returns-2 c = search needs
 add-tiles-requires : tie.Need-add-tiles-requires
 add-tiles-requires c κs = search needs
 
-more-reds-requires : tie.Need-more-reds-requires
-more-reds-requires c κs = search needs
-
 returns-3 : tie.Need-returns-3
 returns-3 c =
-    let n = c .before .before .before .before .before .before .named-in .ensures in
-    let t = c .before .before .before .before .before .more-tiles .ensures in
-    λ e. record { counted = c .before .add-tiles .ensures .1; all = omega arith; few = omega arith; red = c .more-reds .ensures }
+    let n = c .before .before .before .before .before .named-in .ensures in
+    let t = c .before .before .before .before .more-tiles .ensures in
+    λ e. record { counted = c .add-tiles .ensures .1; all = omega arith; few = omega arith }
 
 pub with-tiles-spec : {M : Type 1} → statement M
 with-tiles-spec =
@@ -49,5 +46,4 @@ with-tiles-spec =
     faulty-requires
     returns-2
     add-tiles-requires
-    more-reds-requires
     returns-3)

@@ -30,13 +30,10 @@ returns-2 c = λ e. let z = c .faulty .ensures in absurd (omega arith)
 tile-at-requires : tie.Need-tile-at-requires
 tile-at-requires c κs = search needs
 
-more-reds-requires : tie.Need-more-reds-requires
-more-reds-requires c κs = search needs
-
 returns-3 : tie.Need-returns-3
 returns-3 c =
-    let n = c .before .before .before .named-in .ensures in
-    λ e. record { isWon = refl; how = refl; single = omega (arith, c .before .before .if2 .left); tile = c .before .tile-at .ensures; red = c .more-reds .ensures }
+    let n = c .before .before .named-in .ensures in
+    λ e. record { isWon = refl; how = refl; single = omega (arith, c .before .if2 .left); tile = c .tile-at .ensures }
 
 pub won-on-spec : {M : Type 1} → statement M
 won-on-spec =
@@ -50,5 +47,4 @@ won-on-spec =
     faulty-requires
     returns-2
     tile-at-requires
-    more-reds-requires
     returns-3)

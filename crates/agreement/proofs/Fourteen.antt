@@ -1,0 +1,151 @@
+-- A win that is refused for its indicators, with 14, and the same win renamed, which is refused with 14 too, under every renaming. Assumes nothing.
+use mathlib.Core.Path.{_≡_, refl, sym, ap, subst, _∙_}
+use mathlib.Core.Logic.{_⊎_, inl, inr}
+use mathlib.Core.List.{List, [], _∷_}
+use Prim.Native.Nat.{ℕ, zero, suc}
+use native.Mathlib.Omega.{arith}
+use native.Mathlib.Decide.{ℕ-discrete}
+use lib.Dec.{T}
+use Rattle.tile.specs.declared.Renaming.{Renaming}
+use Rattle.context.specs.declared.Indicators.{Indicators}
+use Rattle.context.specs.declared.GameContext.{GameContext}
+use Rattle.context.specs.Context.{renWin, indicating}
+use Rattle.renamed.specs.Renamed.{renCounts}
+use Rattle.checks.specs.declared.Calls.{Calls}
+use Rattle.checks.specs.Checks.{handCheck}
+use Rattle.checks.specs.Refusals.{handChecks}
+use Rattle.checks.proofs.InOrder.{all-pass, pass-all, passed-on}
+use Rattle.checks.proofs.Refusals.{hand-refusals}
+use Rattle.unit.specs.Listing.{handReadings}
+use Rattle.records.specs.Pick.{pickAt}
+use Rattle.reading_score.specs.declared.ScoringResult.{ScoringResult}
+use Rattle.reading_score.specs.Score.{rank}
+use Rattle.choice.specs.declared.ScoreAnswer.{ScoreAnswer}
+use Rattle.choice.specs.Choice.{Choice, none, chosen, chooseBy, answerOf, refused, choice}
+use Rattle.win.specs.declared.WaitsAnswer.{WaitsAnswer}
+use Rattle.win.specs.Win.{winCheck, scores, scoreWin, scoreReading, refusedWaits, nameWaits}
+use Rattle.win.specs.Refusals.{InRange, BothIndicated, contextChecks}
+use Rattle.win.proofs.Answers.{win-refused, reading-refused, waits-refused, win-choice, reading-picked, waits-picked}
+use Rattle.win.proofs.Refusals.{in-range, range-test, both-indicated, indicators-test, win-refusals}
+use Rattle.agreement.specs.Agreement.{RenamedCalls, Refused14}
+use Rattle.agreement.proofs.Indicators.{BothRenamed, checked-alike}
+use Rattle.agreement.proofs.Twin.{hand-renamed}
+
+-- ---- where the checks answer 14, those of the hand and of type, winds and setting pass, and that of the indicators fails
+passed-by : {A R : Type 0} {n m : ℕ} → (n ≡ m → ⊥) → (A × R) ⊎ ((A → ⊥) × (n ≡ m)) → A × R
+passed-by f (inl a) = a
+passed-by f (inr b) = absurd (f (b .1))
+
+abbrev fourteen : ℕ
+fourteen = 14
+
+module _ (cs : List ℕ) (k : Calls) (w : GameContext) where
+  record ForIndicators : Type 0 where
+    hand : handCheck cs k ≡ 0
+    range : InRange w
+    fails : BothIndicated w → ⊥
+
+  for-indicators : winCheck cs k w ≡ 14 → ForIndicators
+  for-indicators e =
+      let a = passed-by (λ q. omega (arith, q)) (win-refusals cs k w 14 .0 e) in
+      let b = passed-by (λ q. omega (arith, q)) (a .1) in
+      let c = passed-by (λ q. omega (arith, q)) (b .1) in
+      let d = passed-by (λ q. omega (arith, q)) (c .1) in
+      let f = passed-by (λ q. omega (arith, q)) (d .1) in
+      let g = passed-by (λ q. omega (arith, q)) (f .1) in
+      let h = passed-by (λ q. omega (arith, q)) (g .1) in
+      record {
+        hand = hand-refusals cs k 0 .1 (pass-all (handChecks cs k) (a .0, (b .0, (c .0, (d .0, (f .0, (g .0, tt)))))));
+        range = h .0;
+        fails = refuted (h .1);
+      }
+    where
+      refuted : {B H : Type 0} → (B × ((H × (fourteen ≡ 0)) ⊎ ((H → ⊥) × (fourteen ≡ 9)))) ⊎ ((B → ⊥) × (fourteen ≡ 14)) → B → ⊥
+      refuted (inl a) b = let n = passed-by (λ q. omega (arith, q)) (a .1) in omega (arith, n .1)
+      refuted (inr a) b = a .0 b
+
+  answers-14 : ForIndicators → winCheck cs k w ≡ 14
+  answers-14 p =
+      win-refusals cs k w 14 .1
+      (passed-on (handChecks cs k) (contextChecks cs w) 14 (all-pass (handChecks cs k) tt (hand-refusals cs k 0 .0 (p .hand)))
+      (inl (p .range, inr (p .fails, refl))))
+
+  -- ---- the three operations answer 14 exactly where the checks do: no other of their numbers is 14
+  no-choice-14 : (c : Choice) → answerOf c .number ≡ 14 → ⊥
+  no-choice-14 none e = omega arith
+  no-choice-14 (chosen i x) e = omega arith
+
+  no-win-14 : (xs : List ScoringResult) → choice xs .number ≡ 14 → ⊥
+  unfolding choice
+  no-win-14 [] e = omega arith
+  no-win-14 (x ∷ xs) e = no-choice-14 (chooseBy rank (x ∷ xs)) e
+
+  no-pick-14 : {A B : Type 0} (number : B → ℕ) (z : B) (f : A → B) → number z ≡ 12 → ((a : A) → number (f a) ≡ 0) → (l : List A) (n : ℕ) → number (pickAt z f l n) ≡ 14 → ⊥
+  no-pick-14 number z f twelve accepted [] n e = omega (arith, twelve, e)
+  no-pick-14 number z f twelve accepted (a ∷ l) zero e = omega (arith, accepted a, e)
+  no-pick-14 number z f twelve accepted (a ∷ l) (suc n) e = no-pick-14 number z f twelve accepted l n e
+
+  win-14 : scoreWin cs k w .number ≡ 14 → winCheck cs k w ≡ 14
+  win-14 e = go (ℕ-discrete (winCheck cs k w) 0)
+    where
+      go : Dec (winCheck cs k w ≡ 0) → winCheck cs k w ≡ 14
+      go (yes z) = absurd (no-win-14 (scores cs k w) (sym (ap (λ (a : ScoreAnswer). a .number) (win-choice cs k w z)) ∙ e))
+      go (no f) = ap (λ (a : ScoreAnswer). a .number) (win-refused cs k w (winCheck cs k w) refl f) ∙ e
+
+  reading-14 : (n : ℕ) → scoreReading cs k w n .number ≡ 14 → winCheck cs k w ≡ 14
+  reading-14 n e = go (ℕ-discrete (winCheck cs k w) 0)
+    where
+      go : Dec (winCheck cs k w ≡ 0) → winCheck cs k w ≡ 14
+      go (yes z) =
+          absurd
+          (no-pick-14 (λ (a : ScoreAnswer). a .number) (refused 12) _ refl (λ r. refl) (handReadings cs k) n
+          (sym (ap (λ (a : ScoreAnswer). a .number) (reading-picked cs k w z n)) ∙ e))
+      go (no f) = ap (λ (a : ScoreAnswer). a .number) (reading-refused cs k w (winCheck cs k w) refl f n) ∙ e
+
+  waits-14 : (n : ℕ) → nameWaits cs k w n .number ≡ 14 → winCheck cs k w ≡ 14
+  waits-14 n e = go (ℕ-discrete (winCheck cs k w) 0)
+    where
+      go : Dec (winCheck cs k w ≡ 0) → winCheck cs k w ≡ 14
+      go (yes z) =
+          absurd
+          (no-pick-14 (λ (a : WaitsAnswer). a .number) (refusedWaits 12) _ refl (λ r. refl) (handReadings cs k) n
+          (sym (ap (λ (a : WaitsAnswer). a .number) (waits-picked cs k w z n)) ∙ e))
+      go (no f) = ap (λ (a : WaitsAnswer). a .number) (waits-refused cs k w (winCheck cs k w) refl f n) ∙ e
+
+  module _ (e : winCheck cs k w ≡ 14) where
+    not-zero : fourteen ≡ 0 → ⊥
+    not-zero q = omega (arith, q)
+
+    win-answers : scoreWin cs k w .number ≡ 14
+    win-answers = sym (ap (λ (a : ScoreAnswer). a .number) (win-refused cs k w 14 (sym e) not-zero))
+
+    reading-answers : (n : ℕ) → scoreReading cs k w n .number ≡ 14
+    reading-answers n = sym (ap (λ (a : ScoreAnswer). a .number) (reading-refused cs k w 14 (sym e) not-zero n))
+
+    waits-answers : (n : ℕ) → nameWaits cs k w n .number ≡ 14
+    waits-answers n = sym (ap (λ (a : WaitsAnswer). a .number) (waits-refused cs k w 14 (sym e) not-zero n))
+
+-- ---- a win and the same win renamed, with the indicators d and u
+module _
+    {ρ : Renaming} (cs : List ℕ) {k j : Calls} {w : GameContext} (c : RenamedCalls ρ k j) {d u : Indicators} (both : BothRenamed ρ w d u)
+  where
+    check-renamed : winCheck cs k w ≡ 14 → winCheck (renCounts ρ cs) j (indicating d u (renWin ρ w)) ≡ 14
+    check-renamed e =
+        let p = for-indicators cs k w e in
+        let v = indicating d u (renWin ρ w) in
+        answers-14 (renCounts ρ cs) j v
+        (record {
+          hand = hand-renamed cs c (p .hand);
+          range = in-range v (range-test w (p .range));
+          fails = λ b. p .fails (both-indicated w (subst T (checked-alike both) (indicators-test v b)));
+        })
+
+    pub refused-14 : Refused14 ρ cs k j w (indicating d u (renWin ρ w))
+    refused-14 =
+        let ds = renCounts ρ cs in
+        let v = indicating d u (renWin ρ w) in
+        record {
+          won = λ e. win-answers ds j v (check-renamed (win-14 cs k w e));
+          numbered = λ n m e. reading-answers ds j v (check-renamed (reading-14 cs k w n e)) m;
+          waits = λ n m e. waits-answers ds j v (check-renamed (waits-14 cs k w n e)) m;
+        }
