@@ -1,5 +1,5 @@
--- Two tables agree: a win and the same win renamed. Where the first passes the checks so does the second, and its readings are the first's renamed,
--- with the same waits, whatever indicators are shown. They score alike where neither hand is all green and, if an indicator is shown, suits
+-- Two tables agree: a win and the same win renamed. The second hand's readings are the first's renamed, whatever wins go with them; where the first win
+-- passes the checks so does the second, with the same waits, whatever indicators are shown. They score alike where neither hand is all green and, if an indicator is shown, suits
 -- alone are exchanged. Where the first is refused for its indicators, so is the second. Assumes nothing.
 use mathlib.Core.Path.{_≡_, sym, ap, subst, subst₂, _∙_}
 use mathlib.Core.List.{List, map}
@@ -18,7 +18,7 @@ use Rattle.renamed.specs.Renamed.{renReading, renCounts}
 use Rattle.renamed.proofs.Counts.{held-renamed}
 use Rattle.renamed.proofs.Records.{records-renamed}
 use Rattle.checks.specs.declared.Calls.{Calls}
-use Rattle.checks.specs.Checks.{called}
+use Rattle.checks.specs.Checks.{called, handCheck}
 use Rattle.unit.specs.Listing.{handReadings, handRecords}
 use Rattle.unit.proofs.Listed.{melds-called}
 use Rattle.promises.proofs.Listing.{once}
@@ -26,52 +26,59 @@ use Rattle.dora.specs.declared.DoraCount.{DoraCount}
 use Rattle.win.specs.Win.{doraTogether, scores, scoreWin}
 use Rattle.win.proofs.Answers.{win-choice}
 use Rattle.win.proofs.Passed.{Checked, checked, checks}
-use Rattle.agreement.specs.Agreement.{SameAnswer, NotGreen, Comparable, Listed, Scored, Alike, RenamedCalls, RenamedWin}
+use Rattle.agreement.specs.Agreement.{SameAnswer, NotGreen, Comparable, Listed, Wins, Scored, Alike, RenamedCalls, RenamedWin}
 use Rattle.agreement.proofs.Indicators.{BothRenamed}
-use Rattle.agreement.proofs.Twin.{checked-renamed}
+use Rattle.agreement.proofs.Twin.{hand-renamed, readings-renamed, checked-renamed}
 use Rattle.agreement.proofs.Listed.{same-listing, listing-writes}
-use Rattle.agreement.proofs.Scored.{readings-renamed, dora-stays, ranks-renamed}
+use Rattle.agreement.proofs.Scored.{dora-stays, ranks-renamed}
 use Rattle.agreement.proofs.Numbered.{same-reading, same-score}
 use Rattle.agreement.proofs.Chosen.{Valued, choice-agrees}
 use Rattle.agreement.proofs.Valued.{scores-valued}
 use Rattle.agreement.proofs.Fourteen.{refused-14}
 
-module _ {ρ : Renaming} {cs : List ℕ} {k j : Calls} {w : GameContext} (c : RenamedCalls ρ k j) (p : Checked cs k w) where
+-- ---- the two hands; the melds of the calls are four (an array of four in the code)
+module _ {ρ : Renaming} (cs : List ℕ) {k j : Calls} (c : RenamedCalls ρ k j) (hand : handCheck cs k ≡ 0) where
   -- as many readings, and as many bytes of records
   many-renamed : length (handReadings (renCounts ρ cs) j) ≡ length (handReadings cs k)
-  many-renamed = length-perm (readings-renamed c p) ∙ length-map (handReadings cs k) (renReading ρ)
+  many-renamed = length-perm (readings-renamed cs c hand) ∙ length-map (handReadings cs k) (renReading ρ)
 
   bytes-renamed : length (handRecords (renCounts ρ cs) j) ≡ length (handRecords cs k)
   unfolding handRecords handReadings
   bytes-renamed =
       ap (λ (l : List Meld). length (records (readings (held (renCounts ρ cs)) l))) (c .calls)
-      ∙ records-renamed ρ (held cs) (held (renCounts ρ cs)) (held-renamed ρ cs) (called k) (melds-called cs k (p .hand))
+      ∙ records-renamed ρ (held cs) (held (renCounts ρ cs)) (held-renamed ρ cs) (called k) (melds-called cs k hand)
 
-  -- the second win, with the indicators d and u; the melds of the calls are four (an array of four in the code)
-  module _
-      {d u : Indicators}
-      (both : BothRenamed ρ w d u)
-      (four : length (k .melds) ≡ 4)
-      (four′ : length (j .melds) ≡ 4)
-    where
-      abbrev v : GameContext
-      v = indicating d u (renWin ρ w)
+  listed-renamed : (w v : GameContext) → length (j .melds) ≡ 4 → Listed ρ cs k j w v
+  listed-renamed w v four′ =
+      let second = hand-renamed cs c hand in
+      let these = readings-renamed cs c hand in
+      record {
+        readings = these;
+        once = once (renCounts ρ cs) j four′ second;
+        listings = same-listing cs (renCounts ρ cs) k j (second ∙ sym hand) many-renamed bytes-renamed;
+        writes = λ buffer h.
+            listing-writes (renCounts ρ cs) j four′ second (map (renReading ρ) (handReadings cs k)) these buffer
+            (subst (λ (n : ℕ). n ≤ length buffer) (sym bytes-renamed) h);
+      }
 
-      listed-renamed : Listed ρ cs k j w v
-      listed-renamed =
-          let q = checked-renamed c both p in
-          record {
-            passes = checks (renCounts ρ cs) j v q;
-            readings = readings-renamed c p;
-            once = once (renCounts ρ cs) j four′ (q .hand);
-            listings = same-listing cs (renCounts ρ cs) k j (q .hand ∙ sym (p .hand)) many-renamed bytes-renamed;
-            writes = λ buffer h.
-                listing-writes (renCounts ρ cs) j four′ (q .hand) (map (renReading ρ) (handReadings cs k)) (readings-renamed c p) buffer
-                (subst (λ (n : ℕ). n ≤ length buffer) (sym bytes-renamed) h);
-            numbered = same-reading c p both;
-          }
+-- ---- the two wins, the second with the indicators d and u
+module _
+    {ρ : Renaming} {cs : List ℕ} {k j : Calls} {w : GameContext} (c : RenamedCalls ρ k j) (p : Checked cs k w) {d u : Indicators}
+    (both : BothRenamed ρ w d u)
+  where
+    abbrev v : GameContext
+    v = indicating d u (renWin ρ w)
 
-      module _ (plain : NotGreen cs k) (plain′ : NotGreen (renCounts ρ cs) j) (fair : Comparable ρ w) where
+    wins-renamed : Wins ρ cs k j w v
+    wins-renamed = record { passes = checks (renCounts ρ cs) j v (checked-renamed c both p); numbered = same-reading c p both }
+
+    module _
+        (four : length (k .melds) ≡ 4)
+        (four′ : length (j .melds) ≡ 4)
+        (plain : NotGreen cs k)
+        (plain′ : NotGreen (renCounts ρ cs) j)
+        (fair : Comparable ρ w)
+      where
         -- the two scored wins
         won-renamed : SameAnswer (scoreWin (renCounts ρ cs) j v) (scoreWin cs k w)
         won-renamed =
@@ -94,7 +101,8 @@ demand3 ρ cs k j w v four four′ c r =
     let both : BothRenamed ρ w (v .«dora_indicators») (v .«ura_dora_indicators») = record { dora = r .dora; ura = r .ura } in
     subst (Alike ρ cs k j w) (sym (r .rest))
     (record {
-      listed = λ passes. listed-renamed c (checked cs k w passes) both four four′;
+      listed = λ hand. listed-renamed cs c hand w _ four′;
+      wins = λ passes. wins-renamed c (checked cs k w passes) both;
       scored = λ passes plain plain′ fair. scored-renamed c (checked cs k w passes) both four four′ plain plain′ fair;
       refused = refused-14 cs c both;
     })

@@ -20,8 +20,8 @@ use Rattle.win.proofs.Answers.{scored-at, named-at}
 use Rattle.win.proofs.Passed.{Checked, checks}
 use Rattle.agreement.specs.Agreement.{SameAnswer, NotGreen, Comparable, SameReading, RenamedCalls}
 use Rattle.agreement.proofs.Indicators.{BothRenamed}
-use Rattle.agreement.proofs.Twin.{checked-renamed}
-use Rattle.agreement.proofs.Scored.{answers-alike, is-reading, readings-renamed, score-renamed}
+use Rattle.agreement.proofs.Twin.{checked-renamed, readings-renamed}
+use Rattle.agreement.proofs.Scored.{answers-alike, is-reading, score-renamed}
 
 module _
     {ρ : Renaming} {cs : List ℕ} {k j : Calls} {w : GameContext} (c : RenamedCalls ρ k j) (p : Checked cs k w)
@@ -34,7 +34,7 @@ module _
     pub same-reading : (n : ℕ) (r : Reading) → StandsAt r n (handReadings cs k) → SameReading ρ cs k j w v n r
     same-reading n r i =
         let m = stands-mem r n (handReadings cs k) i in
-        let q = mem-stands (perm-mem (Permᴰ·symm (readings-renamed c p)) (Memᴰ·map (renReading ρ) m)) in
+        let q = mem-stands (perm-mem (Permᴰ·symm (readings-renamed cs c (p .hand))) (Memᴰ·map (renReading ρ) m)) in
         let two = checks (renCounts ρ cs) j v (checked-renamed c both p) in
         record {
           number = q .0;

@@ -40,7 +40,7 @@ use Rattle.win.specs.Win.{isOpened, tilesTogether, doraTogether, scoreIn, score
 use Rattle.agreement.specs.Agreement.{NotGreen, Comparable, SameAnswer, RenamedCalls}
 use Rattle.win.proofs.Passed.{Checked}
 use Rattle.agreement.proofs.Indicators.{BothRenamed, same-dora}
-use Rattle.agreement.proofs.Twin.{renamed-twin, together-twin, readings-twin}
+use Rattle.agreement.proofs.Twin.{renamed-twin, together-twin, readings-renamed}
 
 -- two scores are alike
 pub record SameResult (x y : ScoringResult) : Type 0 where
@@ -110,10 +110,6 @@ module _ {ρ : Renaming} {cs : List ℕ} {k j : Calls} {w : GameContext} (c : Re
   opened-stays =
       ap (λ (l : List Meld). any isOpen l) (c .calls) ∙ ap some (map-map (renMeld ρ) isOpen (called k))
 
-  -- the second's readings are the first's renamed
-  pub readings-renamed : List·Permᴰ (handReadings (renCounts ρ cs) j) (map (renReading ρ) (handReadings cs k))
-  readings-renamed = readings-twin (keeps ρ) (renamed-twin ρ cs c) (p .hand)
-
   module _
       (plain : NotGreen cs k)
       (plain′ : NotGreen (renCounts ρ cs) j)
@@ -156,7 +152,7 @@ module _ {ρ : Renaming} {cs : List ℕ} {k j : Calls} {w : GameContext} (c : Re
       ranks-renamed =
           let f = scoreIn (renCounts ρ cs) j v in
           let l = handReadings cs k in
-          List·Permᴰ·trans (map-perm rank (map-perm f readings-renamed))
+          List·Permᴰ·trans (map-perm rank (map-perm f (readings-renamed cs c (p .hand))))
           (perm-eq
           (map-map f rank (map (renReading ρ) l)
           ∙ map-map (renReading ρ) (λ r. rank (f r)) l

@@ -20,7 +20,7 @@ use Rattle.context.specs.declared.GameContext.{GameContext}
 use Rattle.context.specs.Context.{inRange, indicatorsIn, renWin, indicating}
 use Rattle.hand.specs.Counts.{held}
 use Rattle.hand.specs.Readings.{readings}
-use Rattle.renamed.specs.Renamed.{changed, renCounts}
+use Rattle.renamed.specs.Renamed.{changed, renReading, renCounts}
 use Rattle.renamed.proofs.Keeps.{Keeps, SameCounts, uses-moved, counts-back, sum-stays, keeps}
 use Rattle.renamed.proofs.Readings.{readings-moved}
 use Rattle.renamed.proofs.Counts.{held-renamed, counts-length}
@@ -106,7 +106,13 @@ renamed-twin ρ cs c =
 pub hand-renamed : {ρ : Renaming} (cs : List ℕ) {k j : Calls} → RenamedCalls ρ k j → handCheck cs k ≡ 0 → handCheck (renCounts ρ cs) j ≡ 0
 hand-renamed {ρ} cs {j = j} c hand = passes (renCounts ρ cs) j (passed-twin (keeps ρ) (renamed-twin ρ cs c) hand)
 
--- and so does the same win renamed, with the indicators d and u
+-- and its readings are the first's renamed
+pub readings-renamed :
+    {ρ : Renaming} (cs : List ℕ) {k j : Calls} → RenamedCalls ρ k j → handCheck cs k ≡ 0
+    → List·Permᴰ (handReadings (renCounts ρ cs) j) (map (renReading ρ) (handReadings cs k))
+readings-renamed {ρ} cs c hand = readings-twin (keeps ρ) (renamed-twin ρ cs c) hand
+
+-- the same win renamed passes the same checks, with the indicators d and u
 pub checked-renamed :
     {ρ : Renaming} {cs : List ℕ} {k j : Calls} {w : GameContext} {d u : Indicators} → RenamedCalls ρ k j
     → BothRenamed ρ w d u → Checked cs k w → Checked (renCounts ρ cs) j (indicating d u (renWin ρ w))

@@ -17,7 +17,7 @@ use Rattle.hand.specs.Reading.{Reading}
 use Rattle.hand.specs.Records.{records, Before}
 use Rattle.renamed.specs.Renamed.{renReading, renCounts, allGreen}
 use Rattle.checks.specs.declared.Calls.{Calls}
-use Rattle.checks.specs.Checks.{called, together}
+use Rattle.checks.specs.Checks.{called, together, handCheck}
 use Rattle.unit.specs.Listing.{handReadings, handRecords, listing, written}
 use Rattle.choice.specs.declared.ScoreAnswer.{ScoreAnswer}
 use Rattle.choice.specs.Standing.{StandsAt}
@@ -83,11 +83,9 @@ module _ (ρ : Renaming) (cs : List ℕ) (k j : Calls) (w v : GameContext) where
     pub waits :
         (m : ℕ) → StandsAt (renReading ρ r) m (handReadings (renCounts ρ cs) j) → nameWaits (renCounts ρ cs) j v m ≡ nameWaits cs k w n
 
-  -- under every renaming, whatever is shown
+  -- the two hands, whatever wins go with them
   pub record Listed : Type 0 where
-    -- the second passes the same checks
-    pub passes : winCheck (renCounts ρ cs) j v ≡ 0
-    -- its readings are the first's renamed, each once
+    -- the second's readings are the first's renamed, each once
     pub readings : List·Permᴰ (handReadings (renCounts ρ cs) j) (map (renReading ρ) (handReadings cs k))
     pub once : Nodup (handReadings (renCounts ρ cs) j)
     -- with equally many bytes lent both listings answer the same number and the same counts; accepted, the second writes these readings' records
@@ -95,6 +93,11 @@ module _ (ρ : Renaming) (cs : List ℕ) (k j : Calls) (w v : GameContext) where
     pub writes :
         (buffer : List ℕ) → length (handRecords cs k) ≤ length buffer
         → Writes (map (renReading ρ) (handReadings cs k)) buffer (written (renCounts ρ cs) j buffer)
+
+  -- the two wins, under every renaming, whatever is shown
+  pub record Wins : Type 0 where
+    -- the second passes the same checks
+    pub passes : winCheck (renCounts ρ cs) j v ≡ 0
     -- reading n and its renamed one, by their numbers
     pub numbered : (n : ℕ) (r : Reading) → StandsAt r n (handReadings cs k) → SameReading n r
 
@@ -116,6 +119,7 @@ module _ (ρ : Renaming) (cs : List ℕ) (k j : Calls) (w v : GameContext) where
 
   -- the two agree
   pub record Alike : Type 0 where
-    pub listed : winCheck cs k w ≡ 0 → Listed
+    pub listed : handCheck cs k ≡ 0 → Listed
+    pub wins : winCheck cs k w ≡ 0 → Wins
     pub scored : winCheck cs k w ≡ 0 → NotGreen cs k → NotGreen (renCounts ρ cs) j → Comparable ρ w → Scored
     pub refused : Refused14
