@@ -85,32 +85,34 @@ module _ (cs : List ℕ) (k : Calls) (w : GameContext) where
   no-pick-14 number z f twelve accepted (a ∷ l) zero e = omega (arith, accepted a, e)
   no-pick-14 number z f twelve accepted (a ∷ l) (suc n) e = no-pick-14 number z f twelve accepted l n e
 
-  win-14 : scoreWin cs k w .number ≡ 14 → winCheck cs k w ≡ 14
-  win-14 e = go (ℕ-discrete (winCheck cs k w) 0)
+  -- the answer's number is that of the checks where one fails, and is never 14 where all pass
+  from-checks :
+      (number : ℕ) → ((winCheck cs k w ≡ 0 → ⊥) → winCheck cs k w ≡ number) → (winCheck cs k w ≡ 0 → number ≡ 14 → ⊥) → number ≡ 14
+      → winCheck cs k w ≡ 14
+  from-checks number fails passes e = go (ℕ-discrete (winCheck cs k w) 0)
     where
       go : Dec (winCheck cs k w ≡ 0) → winCheck cs k w ≡ 14
-      go (yes z) = absurd (no-win-14 (scores cs k w) (sym (ap (λ (a : ScoreAnswer). a .number) (win-choice cs k w z)) ∙ e))
-      go (no f) = ap (λ (a : ScoreAnswer). a .number) (win-refused cs k w (winCheck cs k w) refl f) ∙ e
+      go (yes z) = absurd (passes z e)
+      go (no f) = fails f ∙ e
+
+  win-14 : scoreWin cs k w .number ≡ 14 → winCheck cs k w ≡ 14
+  win-14 =
+      from-checks (scoreWin cs k w .number) (λ f. ap (λ (a : ScoreAnswer). a .number) (win-refused cs k w (winCheck cs k w) refl f))
+      (λ z e. no-win-14 (scores cs k w) (sym (ap (λ (a : ScoreAnswer). a .number) (win-choice cs k w z)) ∙ e))
 
   reading-14 : (n : ℕ) → scoreReading cs k w n .number ≡ 14 → winCheck cs k w ≡ 14
-  reading-14 n e = go (ℕ-discrete (winCheck cs k w) 0)
-    where
-      go : Dec (winCheck cs k w ≡ 0) → winCheck cs k w ≡ 14
-      go (yes z) =
-          absurd
-          (no-pick-14 (λ (a : ScoreAnswer). a .number) (refused 12) _ refl (λ r. refl) (handReadings cs k) n
-          (sym (ap (λ (a : ScoreAnswer). a .number) (reading-picked cs k w z n)) ∙ e))
-      go (no f) = ap (λ (a : ScoreAnswer). a .number) (reading-refused cs k w (winCheck cs k w) refl f n) ∙ e
+  reading-14 n =
+      from-checks (scoreReading cs k w n .number) (λ f. ap (λ (a : ScoreAnswer). a .number) (reading-refused cs k w (winCheck cs k w) refl f n))
+      (λ z e.
+      no-pick-14 (λ (a : ScoreAnswer). a .number) (refused 12) _ refl (λ r. refl) (handReadings cs k) n
+      (sym (ap (λ (a : ScoreAnswer). a .number) (reading-picked cs k w z n)) ∙ e))
 
   waits-14 : (n : ℕ) → nameWaits cs k w n .number ≡ 14 → winCheck cs k w ≡ 14
-  waits-14 n e = go (ℕ-discrete (winCheck cs k w) 0)
-    where
-      go : Dec (winCheck cs k w ≡ 0) → winCheck cs k w ≡ 14
-      go (yes z) =
-          absurd
-          (no-pick-14 (λ (a : WaitsAnswer). a .number) (refusedWaits 12) _ refl (λ r. refl) (handReadings cs k) n
-          (sym (ap (λ (a : WaitsAnswer). a .number) (waits-picked cs k w z n)) ∙ e))
-      go (no f) = ap (λ (a : WaitsAnswer). a .number) (waits-refused cs k w (winCheck cs k w) refl f n) ∙ e
+  waits-14 n =
+      from-checks (nameWaits cs k w n .number) (λ f. ap (λ (a : WaitsAnswer). a .number) (waits-refused cs k w (winCheck cs k w) refl f n))
+      (λ z e.
+      no-pick-14 (λ (a : WaitsAnswer). a .number) (refusedWaits 12) _ refl (λ r. refl) (handReadings cs k) n
+      (sym (ap (λ (a : WaitsAnswer). a .number) (waits-picked cs k w z n)) ∙ e))
 
   module _ (e : winCheck cs k w ≡ 14) where
     not-zero : fourteen ≡ 0 → ⊥
