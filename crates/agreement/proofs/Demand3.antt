@@ -2,6 +2,7 @@
 -- passes the checks so does the second, with the same waits, whatever indicators are shown. They score alike where neither hand is all green and, if an indicator is shown, suits
 -- alone are exchanged. Where the first is refused for its indicators, so is the second. Assumes nothing.
 use mathlib.Core.Path.{_≡_, sym, ap, subst, subst₂, _∙_}
+use mathlib.Core.Bool.{Bool}
 use mathlib.Core.List.{List, map}
 use Prim.Native.Nat.{ℕ, _≤_}
 use lib.ListN.{length, length-map}
@@ -11,6 +12,7 @@ use Rattle.meld.specs.declared.Meld.{Meld}
 use Rattle.context.specs.declared.Indicators.{Indicators}
 use Rattle.context.specs.declared.GameContext.{GameContext}
 use Rattle.context.specs.Context.{isDealer, isTsumo, renWin, indicating}
+use Rattle.context.proofs.Renamed.{dealer-renamed}
 use Rattle.hand.specs.Counts.{held}
 use Rattle.hand.specs.Records.{records}
 use Rattle.hand.specs.Readings.{readings}
@@ -88,7 +90,7 @@ module _
             (sym (win-choice cs k w (checks cs k w p)))
             (choice-agrees (isTsumo w) (isDealer w) (doraTogether cs k w) (scores (renCounts ρ cs) j v) (scores cs k w)
             (ranks-renamed c p plain plain′ both fair)
-            (λ x i. subst (λ (n : DoraCount). Valued (isTsumo w) (isDealer w) n x) dora (scores-valued (renCounts ρ cs) j four′ v q x i))
+            (λ x i. subst₂ (λ (b : Bool) (n : DoraCount). Valued (isTsumo w) b n x) (dealer-renamed ρ w) dora (scores-valued (renCounts ρ cs) j four′ v q x i))
             (scores-valued cs k four w p))
 
         scored-renamed : Scored ρ cs k j w v

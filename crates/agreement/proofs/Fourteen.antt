@@ -10,6 +10,7 @@ use Rattle.tile.specs.declared.Renaming.{Renaming}
 use Rattle.context.specs.declared.Indicators.{Indicators}
 use Rattle.context.specs.declared.GameContext.{GameContext}
 use Rattle.context.specs.Context.{renWin, indicating}
+use Rattle.context.proofs.Renamed.{range-renamed}
 use Rattle.renamed.specs.Renamed.{renCounts}
 use Rattle.checks.specs.declared.Calls.{Calls}
 use Rattle.checks.specs.Checks.{handCheck}
@@ -138,7 +139,7 @@ module _
         answers-14 (renCounts ρ cs) j v
         (record {
           hand = hand-renamed cs c (p .hand);
-          range = in-range v (range-test w (p .range));
+          range = in-range v (subst T (sym (range-renamed ρ w)) (range-test w (p .range)));
           fails = λ b. p .fails (both-indicated w (subst T (checked-alike both) (indicators-test v b)));
         })
 

@@ -12,8 +12,7 @@ use Rattle.lists.proofs.Finite.{and-left, and-right}
 use Rattle.lists.proofs.Members.{take-map}
 use Rattle.tile.specs.declared.Renaming.{Renaming}
 use Rattle.tile.specs.Renaming.{ren, suitsAlone}
-use Rattle.tile.proofs.Renamings.{ren-lt}
-use Rattle.tile.proofs.Described.{ren-above}
+use Rattle.tile.proofs.Renamings.{ren-lt, ren-above}
 use Rattle.context.specs.declared.Indicators.{Indicators}
 use Rattle.context.specs.declared.GameContext.{GameContext}
 use Rattle.context.specs.Context.{shown, areIndicators, indicatorsIn, renIndicators, renWin, indicating}

@@ -8,4 +8,4 @@ pub mod Valued
 pub mod Fourteen
 pub mod Demand3
 pub mod Lent
-pub mod Green
+pub mod Conditions

@@ -15,7 +15,8 @@ use Rattle.meld.specs.Meld.{isOpen}
 use Rattle.meld.specs.Renamed.{renMeld}
 use Rattle.context.specs.declared.Indicators.{Indicators}
 use Rattle.context.specs.declared.GameContext.{GameContext}
-use Rattle.context.specs.Context.{inRange, isDealer, isTsumo, renWin, indicating}
+use Rattle.context.specs.Context.{inRange, isTsumo, renWin, indicating}
+use Rattle.context.proofs.Renamed.{dealer-renamed}
 use Rattle.hand.specs.Counts.{held}
 use Rattle.hand.specs.Reading.{Reading}
 use Rattle.tile_yaku.specs.declared.TileYaku.{TileYaku}
@@ -95,7 +96,7 @@ scored-alike ρ w range h opened s n r v =
       same-fu = e .same-fu;
       same-level = λ i. level (han i) (e .same-fu i) (y i);
       same-basic = basic;
-      same-payment = ap (payment (isTsumo w) (isDealer w)) basic;
+      same-payment = ap₂ (payment (isTsumo w)) (dealer-renamed ρ w) basic;
     }
 
 -- what the hand lists is a reading

@@ -18,6 +18,7 @@ use Rattle.meld.proofs.Renamed.{ren-isMeld}
 use Rattle.context.specs.declared.Indicators.{Indicators}
 use Rattle.context.specs.declared.GameContext.{GameContext}
 use Rattle.context.specs.Context.{inRange, indicatorsIn, renWin, indicating}
+use Rattle.context.proofs.Renamed.{range-renamed}
 use Rattle.hand.specs.Counts.{held}
 use Rattle.hand.specs.Readings.{readings}
 use Rattle.renamed.specs.Renamed.{changed, renReading, renCounts}
@@ -90,7 +91,7 @@ checked-twin s {cs} {ds} {k} {j} q {w} {v} range indicators e p =
       there = subst (λ (n : ℕ). 0 < n) (sym (ap (held ds) e ∙ q .counts (w .«winning_tile») (p .tile))) (p .there);
     }
 
--- ---- the 24 renamings: a hand and its calls renamed are a twin
+-- ---- the renamings: a hand and its calls renamed are a twin
 pub renamed-twin :
     (ρ : Renaming) (cs : List ℕ) {k j : Calls} → RenamedCalls ρ k j → Twin (ren ρ) (renMeld ρ) cs k (renCounts ρ cs) j
 renamed-twin ρ cs c =
@@ -116,5 +117,5 @@ readings-renamed {ρ} cs c hand = readings-twin (keeps ρ) (renamed-twin ρ cs c
 pub checked-renamed :
     {ρ : Renaming} {cs : List ℕ} {k j : Calls} {w : GameContext} {d u : Indicators} → RenamedCalls ρ k j
     → BothRenamed ρ w d u → Checked cs k w → Checked (renCounts ρ cs) j (indicating d u (renWin ρ w))
-checked-renamed {ρ} {cs} c both p =
-    checked-twin (keeps ρ) (renamed-twin ρ cs c) (p .range) (subst T (sym (checked-alike both)) (p .indicators)) refl p
+checked-renamed {ρ} {cs} {w = w} c both p =
+    checked-twin (keeps ρ) (renamed-twin ρ cs c) (subst T (sym (range-renamed ρ w)) (p .range)) (subst T (sym (checked-alike both)) (p .indicators)) refl p

@@ -35,7 +35,7 @@ pub record RenamedIndicators (ρ : Renaming) (i j : Indicators) : Type 0 where
   pub many : j .count ≡ i .count
   pub tiles : shown j ≡ map (ren ρ) (shown i)
 
--- the win v is the win w renamed: the winning tile and the indicators of both sorts are renamed, and all else is the same
+-- the win v is the win w renamed: the winning tile, the round wind, the seat wind and the indicators of both sorts are renamed, and all else is the same
 pub record RenamedWin (ρ : Renaming) (w v : GameContext) : Type 0 where
   pub rest : v ≡ indicating (v .«dora_indicators») (v .«ura_dora_indicators») (renWin ρ w)
   pub dora : RenamedIndicators ρ (w .«dora_indicators») (v .«dora_indicators»)
@@ -50,7 +50,7 @@ NotGreen cs k = T (not (allGreen (together cs (called k))))
 abbrev pub NoIndicator : GameContext → Type 0
 NoIndicator w = (w .«dora_indicators» .count ≡ 0) × (w .«ura_dora_indicators» .count ≡ 0)
 
--- where no indicator is shown every renaming will do; where one is, it exchanges suits alone, numbers and dragons being as they are
+-- where no indicator is shown every renaming will do; where one is, it exchanges suits alone, numbers, dragons and winds being as they are
 pub data Comparable (ρ : Renaming) (w : GameContext) : Type 0 where
   no-indicator : NoIndicator w → Comparable ρ w
   suits-alone : T (suitsAlone ρ) → Comparable ρ w

@@ -1,15 +1,17 @@
 -- Wins by the names that players use: ron and tsumo, the dealer, what is out of range, which indicators there may be, and a win renamed or in another
 -- room. Assumes nothing.
 use mathlib.Core.Path.{_≡_, refl}
-use mathlib.Core.Bool.{_&&_, _||_, not}
+use mathlib.Core.Bool.{false, _&&_, _||_, not}
 use mathlib.Core.List.{List, [], _∷_}
 use Prim.Native.Nat.{ℕ}
 use lib.Dec.{T, eqb, ltb}
 use lib.ListN.{replicate}
 use Rattle.lists.specs.Fold.{all, allBelow}
 use Rattle.tile.specs.Named.{man, sou, East, South, West, North, White}
+use Rattle.tile.specs.declared.Order.the-variants.{Abc, Cba}
 use Rattle.tile.specs.declared.Renaming.{Renaming}
 use Rattle.tile.specs.Renaming.{ren}
+use Rattle.tile.proofs.Renamings.{renaming}
 use Rattle.context.specs.declared.Indicators.{Indicators}
 use Rattle.context.specs.declared.GameContext.{GameContext}
 use Rattle.context.specs.Context.{isTsumo, isDealer, inRange, areIndicators, indicatorsIn, renIndicators, renWin, inRoom, indicating}
@@ -95,11 +97,18 @@ behind-the-count = tt
 pub no-more-than-ten : T (allBelow 256 (λ n. ltb n 11 || not (areIndicators (record { count = n; tiles = replicate 10 0 }))))
 no-more-than-ten = tt
 
--- ---- A win renamed is the same win on the renamed tile, in the same room, with the renamed indicators
+-- ---- South and North change places: the seat South in the round North becomes the seat North in the round South; the dealer stays the dealer
+pub winds-exchanged : renWin (renaming Abc false false Cba) (win byRon West North South []) ≡ win byRon West South North []
+winds-exchanged = refl
+
+pub dealer-stays : renWin (renaming Abc false false Cba) (win byRon North South East []) ≡ win byRon South North East []
+dealer-stays = refl
+
+-- ---- A win renamed is the same win on the renamed tile, with the renamed winds, in the same room, with the renamed indicators
 pub renamed-win :
     (ρ : Renaming) (d u : Indicators) (winType t round seat : ℕ) (fs : List Flag)
     → renWin ρ (indicating d u (win winType t round seat fs))
-    ≡ indicating (renIndicators ρ d) (renIndicators ρ u) (win winType (ren ρ t) round seat fs)
+    ≡ indicating (renIndicators ρ d) (renIndicators ρ u) (win winType (ren ρ t) (ren ρ round) (ren ρ seat) fs)
 renamed-win ρ d u winType t round seat fs = refl
 
 pub renamed-room : (ρ : Renaming) (n : ℕ) (w : GameContext) → renWin ρ (inRoom n w) ≡ inRoom n (renWin ρ w)

@@ -1,3 +1,4 @@
 pub mod Range
+pub mod Renamed
 pub mod Shown
 pub mod Examples

@@ -50,14 +50,14 @@ abbrev pub renIndicators : Renaming → Indicators → Indicators
 renIndicators ρ i = record { count = i .count; tiles = map (ren ρ) (i .tiles) }
 
 -- ---- a win that differs in one respect
--- type, winds, flags and setting stay, the winning tile and the indicators are renamed
+-- type, flags and setting stay; the winning tile, both winds and the indicators are renamed
 abbrev pub renWin : Renaming → GameContext → GameContext
 renWin ρ w =
     record {
       «win_type» = w .«win_type»;
       «winning_tile» = ren ρ (w .«winning_tile»);
-      «round_wind» = w .«round_wind»;
-      «seat_wind» = w .«seat_wind»;
+      «round_wind» = ren ρ (w .«round_wind»);
+      «seat_wind» = ren ρ (w .«seat_wind»);
       «is_riichi» = w .«is_riichi»;
       «is_double_riichi» = w .«is_double_riichi»;
       «is_ippatsu» = w .«is_ippatsu»;

@@ -122,16 +122,22 @@ impl GameContext {
         dora.are_indicators() & ura.are_indicators()
     }
 
-    // The win under a renaming: the winning tile and the indicators are renamed.
+    // The win under a renaming: the winning tile, both winds and the indicators are renamed.
     pub fn renamed(self, by: tile::Renaming) -> GameContext
         ensures { λ r. ⌜ r ≡ renWin by self ⌝ }
     {
         let tile = tile::Tile(self.winning_tile);
-        let to = tile.renamed(by);
+        let tile_to = tile.renamed(by);
+        let round = tile::Tile(self.round_wind);
+        let round_to = round.renamed(by);
+        let seat = tile::Tile(self.seat_wind);
+        let seat_to = seat.renamed(by);
         let dora = self.dora_indicators;
         let ura = self.ura_dora_indicators;
         let mut win = self;
-        win.winning_tile = to.0;
+        win.winning_tile = tile_to.0;
+        win.round_wind = round_to.0;
+        win.seat_wind = seat_to.0;
         win.dora_indicators = dora.renamed(by);
         win.ura_dora_indicators = ura.renamed(by);
         win

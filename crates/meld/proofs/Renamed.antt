@@ -1,99 +1,195 @@
 -- Renamed melds: questions that no renaming changes, and how many of a tile they hold. Assumes nothing.
-use mathlib.Core.Path.{_≡_, refl, sym, subst, ap, _∙_}
+use mathlib.Core.Path.{_≡_, refl, sym, subst, ap, ap₂, _∙_}
 use mathlib.Core.Bool.{Bool, true, false, _&&_, _||_, not, cond, Bool·beq}
 use mathlib.Core.List.{List, map, List·Permᴰ}
-use Prim.Native.Nat.{ℕ, _-_, _<_}
-use lib.Dec.{T, eqb, leb, ltb, eqb→eq, leb→le}
-use borrow.Author.Tests.{le-ltb}
+use Prim.Native.Nat.{ℕ, _+_, _-_, _≤_, _<_, min}
+use native.Mathlib.Omega.{arith}
+use lib.Dec.{T, eqb, leb, ltb, eqb→eq, leb→le, ltb→lt}
+use borrow.Author.Tests.{le-ltb, ltb-true, ltb-false}
 use Rattle.lists.specs.Fold.{allBelow, one, all, any, sum, count, every, some, total}
-use Rattle.lists.proofs.Finite.{at, beq→eq, and-left, and-right, or-skip}
+use Rattle.lists.proofs.Finite.{at, beq→eq, and-left, and-right, or-skip, true→T}
 use Rattle.lists.proofs.Permuted.{every-perm, some-perm, total-perm, map-perm, map-moved}
-use Rattle.tile.specs.Tile.{valueOf}
+use Rattle.tile.specs.Tile.{isSuited, isStart, valueOf}
+use Rattle.tile.specs.declared.Numbers.{Numbers}
 use Rattle.tile.specs.declared.Renaming.{Renaming}
 use Rattle.tile.specs.Renaming.{ren, back}
-use Rattle.tile.proofs.Renamings.{allRen, ren-at, ren-eqb}
+use Rattle.tile.proofs.Renamings.{numbersAlone, honorsAlone, still, allNumbers, numbers-at, allRen, at-numbers, at-honors, by-numbers, by-honors, ren-lt, ren-parts, back-back, ren-eqb}
 use Rattle.meld.specs.declared.Meld.{Meld}
-use Rattle.meld.specs.Meld.{isSequence, isTripletOrKan, isKan, isMeld, isHandMeld, uses, setSize, eqMeld}
+use Rattle.meld.specs.Meld.{isSequence, isTripletOrKan, isKan, isMeld, isHandMeld, uses, setSize, eqMeld, meld}
 use Rattle.meld.specs.Renamed.{renMeld}
 use Rattle.meld.proofs.Melds.{allMelds, melds-at, meld-tile, eqMeld→eq}
+
+-- ---- which part renames a meld: a sequence is of a suit, and so is its third tile
+start-third : (t : ℕ) → T (isStart t) → t + 2 < 27
+start-third t s =
+    let h = ltb→lt t 27 (and-left (isSuited t) _ s) in
+    ltb→lt (t + 2) 27 (or-skip (isStart t) _ s (at 27 (λ t. not (isStart t) || ltb (t + 2) 27) tt t h))
+
+pub meld-by-numbers : (ρ : Renaming) (m : Meld) → m .tile < 27 → renMeld ρ m ≡ renMeld (numbersAlone (ρ .numbers)) m
+meld-by-numbers ρ m h = go (isSequence m && isStart (m .tile)) refl
+  where
+    go : (b : Bool) → (isSequence m && isStart (m .tile)) ≡ b → renMeld ρ m ≡ renMeld (numbersAlone (ρ .numbers)) m
+    go true e =
+        let first = by-numbers ρ (m .tile) h in
+        let third = by-numbers ρ (m .tile + 2) (start-third (m .tile) (and-right (isSequence m) _ (true→T _ e))) in
+        λ i. meld (cond (isSequence m && isStart (m .tile)) (min (first i) (third i)) (first i)) (m .kind)
+    go false e = rw e (ap (λ (t : ℕ). meld t (m .kind)) (by-numbers ρ (m .tile) h))
+
+meld-by-honors : (ρ : Renaming) (m : Meld) → 27 ≤ m .tile → renMeld ρ m ≡ renMeld (honorsAlone (ρ .honors)) m
+meld-by-honors ρ m h = go (isSequence m && isStart (m .tile)) refl
+  where
+    go : (b : Bool) → (isSequence m && isStart (m .tile)) ≡ b → renMeld ρ m ≡ renMeld (honorsAlone (ρ .honors)) m
+    go true e = let k = start-third (m .tile) (and-right (isSequence m) _ (true→T _ e)) in absurd (omega (arith, h, k))
+    go false e = rw e (ap (λ (t : ℕ). meld t (m .kind)) (by-honors ρ (m .tile) h))
+
+-- ---- laws of melds, each by a test that antt computes
+
+-- a test of each meld and the meld that it becomes
+renamed-at :
+    (q : Meld → Meld → Bool) → T (allRen (λ ρ. allMelds (λ m. q m (renMeld ρ m)))) → (ρ : Renaming) (m : Meld) → T (isMeld m) → T (q m (renMeld ρ m))
+renamed-at q ok ρ m v = go (isSuited (m .tile)) refl
+  where
+    go : (b : Bool) → isSuited (m .tile) ≡ b → T (q m (renMeld ρ m))
+    go true e =
+        subst (λ (r : Meld). T (q m r)) (sym (meld-by-numbers ρ m (ltb-true (m .tile) 27 e)))
+        (melds-at (λ m. q m (renMeld (numbersAlone (ρ .numbers)) m)) (at-numbers (λ ρ. allMelds (λ m. q m (renMeld ρ m))) ok (ρ .numbers)) m v)
+    go false e =
+        subst (λ (r : Meld). T (q m r)) (sym (meld-by-honors ρ m (ltb-false (m .tile) 27 e)))
+        (melds-at (λ m. q m (renMeld (honorsAlone (ρ .honors)) m)) (at-honors (λ ρ. allMelds (λ m. q m (renMeld ρ m))) ok (ρ .honors)) m v)
 
 -- a question of a meld that no renaming changes
 pub meld-law :
     (p : Meld → Bool) → T (allRen (λ ρ. allMelds (λ m. Bool·beq (p (renMeld ρ m)) (p m))))
     → (ρ : Renaming) (m : Meld) → T (isMeld m) → p (renMeld ρ m) ≡ p m
-meld-law p ok ρ m v =
-    beq→eq _ _
-    (melds-at (λ m. Bool·beq (p (renMeld ρ m)) (p m)) (ren-at (λ ρ. allMelds (λ m. Bool·beq (p (renMeld ρ m)) (p m))) ok ρ) m v)
-
--- a test of each renaming, meld and tile, for the melds that pass the question g
-abbrev pub onMelds : (Meld → Bool) → (Renaming → Meld → ℕ → Bool) → Bool
-onMelds g p = allRen (λ ρ. allMelds (λ m. not (g m) || allBelow 34 (p ρ m)))
-
-pub meld-tile-at :
-    (g : Meld → Bool) (p : Renaming → Meld → ℕ → Bool) → T (onMelds g p)
-    → (ρ : Renaming) (m : Meld) → T (isMeld m) → T (g m) → (t : ℕ) → t < 34 → T (p ρ m t)
-meld-tile-at g p ok ρ m v i t h =
-    at 34 (p ρ m)
-    (or-skip (g m) (allBelow 34 (p ρ m)) i
-    (melds-at (λ m. not (g m) || allBelow 34 (p ρ m)) (ren-at (λ ρ. allMelds (λ m. not (g m) || allBelow 34 (p ρ m))) ok ρ) m v))
-    t h
+meld-law p ok ρ m v = beq→eq _ _ (renamed-at (λ m r. Bool·beq (p r) (p m)) ok ρ m v)
 
 pub ren-isMeld : (ρ : Renaming) (m : Meld) → T (isMeld m) → T (isMeld (renMeld ρ m))
-ren-isMeld ρ = melds-at (λ m. isMeld (renMeld ρ m)) (ren-at (λ ρ. allMelds (λ m. isMeld (renMeld ρ m))) tt ρ)
+ren-isMeld = renamed-at (λ m r. isMeld r) tt
 
 hand-test : T (allRen (λ ρ. allMelds (λ m. not (isHandMeld m) || isHandMeld (renMeld ρ m))))
 hand-test = tt
 
 pub ren-isHandMeld : (ρ : Renaming) (m : Meld) → T (isHandMeld m) → T (isHandMeld (renMeld ρ m))
 ren-isHandMeld ρ m v =
-    or-skip (isHandMeld m) _ v
-    (melds-at (λ m. not (isHandMeld m) || isHandMeld (renMeld ρ m))
-    (ren-at (λ ρ. allMelds (λ m. not (isHandMeld m) || isHandMeld (renMeld ρ m))) hand-test ρ) m (and-left (isMeld m) _ v))
+    or-skip (isHandMeld m) _ v (renamed-at (λ m r. not (isHandMeld m) || isHandMeld r) hand-test ρ m (and-left (isMeld m) _ v))
+
+-- a meld of a suit becomes one of a suit, a meld of an honor one of an honor
+meld-suited : (ρ : Renaming) (m : Meld) → T (isMeld m) → isSuited (renMeld ρ m .tile) ≡ isSuited (m .tile)
+meld-suited = meld-law (λ m. isSuited (m .tile)) tt
 
 -- ---- the renaming that undoes it
-back-test : T (allRen (λ ρ. allMelds (λ m. eqMeld (renMeld (back ρ) (renMeld ρ m)) m && eqMeld (renMeld ρ (renMeld (back ρ) m)) m)))
+back-test : T (allRen (λ ρ. allMelds (λ m. eqMeld (renMeld (back ρ) (renMeld ρ m)) m)))
 back-test = tt
 
-back-both : (ρ : Renaming) (m : Meld) → T (isMeld m) → T (eqMeld (renMeld (back ρ) (renMeld ρ m)) m && eqMeld (renMeld ρ (renMeld (back ρ) m)) m)
-back-both ρ =
-    melds-at (λ m. eqMeld (renMeld (back ρ) (renMeld ρ m)) m && eqMeld (renMeld ρ (renMeld (back ρ) m)) m)
-    (ren-at (λ ρ. allMelds (λ m. eqMeld (renMeld (back ρ) (renMeld ρ m)) m && eqMeld (renMeld ρ (renMeld (back ρ) m)) m)) back-test ρ)
-
 pub back-ren-meld : (ρ : Renaming) (m : Meld) → T (isMeld m) → renMeld (back ρ) (renMeld ρ m) ≡ m
-back-ren-meld ρ m v = eqMeld→eq _ _ (and-left (eqMeld (renMeld (back ρ) (renMeld ρ m)) m) _ (back-both ρ m v))
+back-ren-meld ρ m v = go (isSuited (m .tile)) refl
+  where
+    undone : (τ : Renaming) → T (allMelds (λ m. eqMeld (renMeld (back τ) (renMeld τ m)) m)) → renMeld (back τ) (renMeld τ m) ≡ m
+    undone τ ok = eqMeld→eq _ _ (melds-at (λ m. eqMeld (renMeld (back τ) (renMeld τ m)) m) ok m v)
+
+    go : (b : Bool) → isSuited (m .tile) ≡ b → renMeld (back ρ) (renMeld ρ m) ≡ m
+    go true e =
+        let n = numbersAlone (ρ .numbers) in
+        ap (renMeld (back ρ)) (meld-by-numbers ρ m (ltb-true (m .tile) 27 e))
+        ∙ meld-by-numbers (back ρ) (renMeld n m) (ltb-true _ 27 (meld-suited n m v ∙ e))
+        ∙ undone n (at-numbers (λ ρ. allMelds (λ m. eqMeld (renMeld (back ρ) (renMeld ρ m)) m)) back-test (ρ .numbers))
+    go false e =
+        let n = honorsAlone (ρ .honors) in
+        ap (renMeld (back ρ)) (meld-by-honors ρ m (ltb-false (m .tile) 27 e))
+        ∙ meld-by-honors (back ρ) (renMeld n m) (ltb-false _ 27 (meld-suited n m v ∙ e))
+        ∙ undone n (at-honors (λ ρ. allMelds (λ m. eqMeld (renMeld (back ρ) (renMeld ρ m)) m)) back-test (ρ .honors))
 
 pub ren-back-meld : (ρ : Renaming) (m : Meld) → T (isMeld m) → renMeld ρ (renMeld (back ρ) m) ≡ m
-ren-back-meld ρ m v = eqMeld→eq _ _ (and-right (eqMeld (renMeld (back ρ) (renMeld ρ m)) m) _ (back-both ρ m v))
+ren-back-meld ρ m v = subst (λ (τ : Renaming). renMeld τ (renMeld (back ρ) m) ≡ m) (back-back ρ) (back-ren-meld (back ρ) m v)
+
+-- ---- a tile and a meld: the numbers first, and then the honors
+meld-still : (m : Meld) → T (isMeld m) → renMeld still m ≡ m
+meld-still m v = eqMeld→eq _ _ (melds-at (λ m. eqMeld (renMeld still m) m) tt m v)
+
+meld-parts :
+    (ρ : Renaming) (m : Meld) → T (isMeld m) → renMeld ρ m ≡ renMeld (honorsAlone (ρ .honors)) (renMeld (numbersAlone (ρ .numbers)) m)
+meld-parts ρ m v = go (isSuited (m .tile)) refl
+  where
+    go : (b : Bool) → isSuited (m .tile) ≡ b → renMeld ρ m ≡ renMeld (honorsAlone (ρ .honors)) (renMeld (numbersAlone (ρ .numbers)) m)
+    go true e =
+        let n = numbersAlone (ρ .numbers) in
+        meld-by-numbers ρ m (ltb-true (m .tile) 27 e)
+        ∙ sym
+        (meld-by-numbers (honorsAlone (ρ .honors)) (renMeld n m) (ltb-true _ 27 (meld-suited n m v ∙ e))
+        ∙ meld-still (renMeld n m) (ren-isMeld n m v))
+    go false e =
+        let k = ltb-false (m .tile) 27 e in
+        meld-by-honors ρ m k
+        ∙ ap (renMeld (honorsAlone (ρ .honors))) (sym (meld-by-honors (numbersAlone (ρ .numbers)) m k ∙ meld-still m v))
+
+-- a test of each meld whose kind passes the question g and each tile: the renaming does not change the answer to q; and of each renaming
+abbrev pub leaves : (ℕ → Bool) → (ℕ → Meld → Bool) → Renaming → Bool
+leaves g q ρ = allMelds (λ m. not (g (m .kind)) || allBelow 34 (λ t. Bool·beq (q (ren ρ t) (renMeld ρ m)) (q t m)))
+
+abbrev pub onMelds : (ℕ → Bool) → (ℕ → Meld → Bool) → Bool
+onMelds g q = allRen (leaves g q)
+
+-- a question of a tile and a meld that no renaming changes: the numbers do not, and then the honors do not
+pub meld-tile-law :
+    (g : ℕ → Bool) (q : ℕ → Meld → Bool) → T (onMelds g q)
+    → (ρ : Renaming) (m : Meld) → T (isMeld m) → T (g (m .kind)) → (t : ℕ) → t < 34 → q (ren ρ t) (renMeld ρ m) ≡ q t m
+meld-tile-law g q ok ρ m v i t h =
+    let n = numbersAlone (ρ .numbers) in
+    ap₂ q (ren-parts ρ t h) (meld-parts ρ m v)
+    ∙ law (honorsAlone (ρ .honors)) (at-honors (leaves g q) ok (ρ .honors)) (renMeld n m) (ren-isMeld n m v) i (ren n t) (ren-lt n t h)
+    ∙ law n (at-numbers (leaves g q) ok (ρ .numbers)) m v i t h
+  where
+    law : (τ : Renaming) → T (leaves g q τ) → (m : Meld) → T (isMeld m) → T (g (m .kind)) → (t : ℕ) → t < 34 → q (ren τ t) (renMeld τ m) ≡ q t m
+    law τ ok m v i t h =
+        beq→eq _ _
+        (at 34 (λ t. Bool·beq (q (ren τ t) (renMeld τ m)) (q t m))
+        (or-skip (g (m .kind)) (allBelow 34 (λ t. Bool·beq (q (ren τ t) (renMeld τ m)) (q t m))) i
+        (melds-at (λ m. not (g (m .kind)) || allBelow 34 (λ t. Bool·beq (q (ren τ t) (renMeld τ m)) (q t m))) ok m v))
+        t h)
 
 -- ---- how many of a tile: of sequences by a test, of triplets and kans as two tiles stay equal or different
 ren-uses-trip : (ρ : Renaming) (m : Meld) → T (isMeld m) → (t : ℕ) → t < 34 → isSequence m ≡ false → uses (renMeld ρ m) (ren ρ t) ≡ uses m t
 ren-uses-trip ρ m v t h e =
     rw e (ap (λ (b : Bool). cond b (setSize (isKan m)) 0) (ren-eqb ρ t (m .tile) h (meld-tile m v)))
 
-ren-uses-seq : (ρ : Renaming) (m : Meld) → T (isMeld m) → (t : ℕ) → t < 34 → T (isSequence m) → uses (renMeld ρ m) (ren ρ t) ≡ uses m t
-ren-uses-seq ρ m v t h i = eqb→eq _ _ (meld-tile-at isSequence (λ ρ m t. eqb (uses (renMeld ρ m) (ren ρ t)) (uses m t)) tt ρ m v i t h)
+-- the tile is one of the three of a sequence
+abbrev inRun : ℕ → Meld → Bool
+inRun t m = leb (m .tile) t && ltb t (m .tile + 3)
+
+run-uses : (m : Meld) (t : ℕ) → isSequence m ≡ true → uses m t ≡ one (inRun t m)
+run-uses m t e = ap (λ (b : Bool). cond b (one (inRun t m)) (cond (eqb t (m .tile)) (setSize (isKan m)) 0)) e
+
+ren-uses-seq : (ρ : Renaming) (m : Meld) → T (isMeld m) → (t : ℕ) → t < 34 → isSequence m ≡ true → uses (renMeld ρ m) (ren ρ t) ≡ uses m t
+ren-uses-seq ρ m v t h e =
+    run-uses (renMeld ρ m) (ren ρ t) e ∙ ap one (meld-tile-law (λ k. ltb k 2) inRun tt ρ m v (true→T _ e) t h) ∙ sym (run-uses m t e)
 
 pub ren-uses : (ρ : Renaming) (m : Meld) → T (isMeld m) → (t : ℕ) → t < 34 → uses (renMeld ρ m) (ren ρ t) ≡ uses m t
 ren-uses ρ m v t h = go (isSequence m) refl
   where
     go : (b : Bool) → isSequence m ≡ b → uses (renMeld ρ m) (ren ρ t) ≡ uses m t
-    go true e = ren-uses-seq ρ m v t h (subst T (sym e) tt)
+    go true e = ren-uses-seq ρ m v t h e
     go false e = ren-uses-trip ρ m v t h e
 
 -- ---- a renamed sequence starts at the same number, or, mirrored, one that starts at s starts at 8 - s
-abbrev startsSo : Renaming → Meld → Bool
-startsSo ρ m = eqb (valueOf (renMeld ρ m .tile)) (cond (ρ .numbers .mirror) (8 - valueOf (m .tile)) (valueOf (m .tile)))
+abbrev startsSo : Numbers → Meld → Meld → Bool
+startsSo ν m r = eqb (valueOf (r .tile)) (cond (ν .mirror) (8 - valueOf (m .tile)) (valueOf (m .tile)))
 
-start-test : T (allRen (λ ρ. allMelds (λ m. not (isSequence m) || startsSo ρ m)))
+start-test : T (allNumbers (λ ν. allMelds (λ m. not (isSequence m) || startsSo ν m (renMeld (numbersAlone ν) m))))
 start-test = tt
+
+pub sequence-lt : (m : Meld) → T (isMeld m) → T (isSequence m) → m .tile < 27
+sequence-lt m v i = ltb→lt _ _ (or-skip (isSequence m) _ i (melds-at (λ m. not (isSequence m) || isSuited (m .tile)) tt m v))
 
 pub sequence-start :
     (ρ : Renaming) (m : Meld) → T (isMeld m) → T (isSequence m)
     → valueOf (renMeld ρ m .tile) ≡ cond (ρ .numbers .mirror) (8 - valueOf (m .tile)) (valueOf (m .tile))
 sequence-start ρ m v i =
-    eqb→eq _ _
-    (or-skip (isSequence m) (startsSo ρ m) i
-    (melds-at (λ m. not (isSequence m) || startsSo ρ m) (ren-at (λ ρ. allMelds (λ m. not (isSequence m) || startsSo ρ m)) start-test ρ) m v))
+    let ν = ρ .numbers in
+    ap (λ (r : Meld). valueOf (r .tile)) (meld-by-numbers ρ m (sequence-lt m v i))
+    ∙ eqb→eq _ _
+    (or-skip (isSequence m) (startsSo ν m (renMeld (numbersAlone ν) m)) i
+    (melds-at (λ m. not (isSequence m) || startsSo ν m (renMeld (numbersAlone ν) m))
+    (numbers-at (λ ν. allMelds (λ m. not (isSequence m) || startsSo ν m (renMeld (numbersAlone ν) m))) start-test ν) m v))
 
 -- ---- the tile of a renamed triplet or kan
 pub not-sequence : (m : Meld) → T (isTripletOrKan m) → isSequence m ≡ false

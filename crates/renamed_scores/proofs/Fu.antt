@@ -17,6 +17,7 @@ use Rattle.meld.proofs.Melds.{meld-tile}
 use Rattle.meld.proofs.Renamed.{Moved, any-moved, sum-moved, set-tile}
 use Rattle.context.specs.declared.GameContext.{GameContext}
 use Rattle.context.specs.Context.{inRange, isTsumo, renWin}
+use Rattle.context.proofs.Renamed.{round-renamed, seat-renamed}
 use Rattle.hand.specs.Reading.{Reading, pairs, orphans, standard}
 use Rattle.renamed.specs.Renamed.{renReading}
 use Rattle.renamed.proofs.Records.{isReading}
@@ -24,7 +25,7 @@ use Rattle.wait.specs.Concealed.{spared}
 use Rattle.fu.specs.Fu.{meldFu, doubleWindFu, pairFu, waitFu, baseFu, roundUpTo10, atLeast30, standardFu, fu}
 use Rattle.renamed_scores.proofs.Moved.{sorted-moved}
 use Rattle.wait.proofs.Renamed.{ren-edge, ren-middle}
-use Rattle.renamed_scores.proofs.Waits.{round-eqb, seat-eqb, ren-weight, ren-spared, ren-concealed, pinfu-renamed}
+use Rattle.renamed_scores.proofs.Waits.{ren-weight, ren-spared, ren-concealed, pinfu-renamed}
 
 module _ (ρ : Renaming) (w : GameContext) (h : w .«winning_tile» < 34) where
   -- ---- one meld: a triplet or kan is of terminals or honors where the renamed one is
@@ -57,7 +58,7 @@ module _ (ρ : Renaming) (w : GameContext) (h : w .«winning_tile» < 34) where
 -- ---- the pair, in rooms of equal setting
 pair-fu : (ρ : Renaming) (w : GameContext) → T (inRange w) → (p : ℕ) → p < 34 → pairFu (renWin ρ w) (ren ρ p) ≡ pairFu w p
 pair-fu ρ w winds p k =
-    λ i. cond (round-eqb ρ w winds p k i && seat-eqb ρ w winds p k i) (doubleWindFu w) (2 * ren-weight ρ w winds p k i)
+    λ i. cond (round-renamed ρ w winds p k i && seat-renamed ρ w winds p k i) (doubleWindFu w) (2 * ren-weight ρ w winds p k i)
 
 -- ---- a reading
 pub fu-renamed :

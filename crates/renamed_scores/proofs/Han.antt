@@ -13,6 +13,7 @@ use Rattle.tile.proofs.Renamings.{ren-eqb}
 use Rattle.meld.specs.declared.Meld.{Meld}
 use Rattle.context.specs.declared.GameContext.{GameContext}
 use Rattle.context.specs.Context.{inRange, isTsumo, renWin}
+use Rattle.context.proofs.Renamed.{dealer-renamed}
 use Rattle.hand.specs.Reading.{Reading}
 use Rattle.renamed.specs.Renamed.{renReading}
 use Rattle.renamed.proofs.Records.{isReading}
@@ -26,7 +27,7 @@ use Rattle.yaku.specs.Tally.{unlessOrphans, riichi, rinshan, oneHan, moreHan, y
 use Rattle.yaku.specs.Names.{names}
 use Rattle.yaku.specs.Han.{hanOf, dot, han}
 use Rattle.renamed_scores.proofs.Asked.{Asked, ren-ofStandard, ren-isChiitoitsu, ren-unlessOrphans, ren-orphansWon}
-use Rattle.renamed_scores.proofs.Waits.{ren-isDealer, pinfu-renamed}
+use Rattle.renamed_scores.proofs.Waits.{pinfu-renamed}
 use Rattle.renamed_scores.proofs.Melds.{ren-toitoi, ren-kans, ren-suuKantsu, ren-daisangen, ren-daisuushii, ren-ittsu, ren-sanshokuDoujun, ren-sanshokuDoukou, ren-peikou, ren-sanAnkou, ren-suuankou, ren-chanta, ren-junchan, ren-shousangen, ren-shousuushii}
 use Rattle.renamed_scores.proofs.Yakuhai.{honors, yakuhai-renamed}
 
@@ -72,7 +73,7 @@ module _
 
     yakuman-stays : yakuman (renWin ρ w) opened s (renReading ρ r) ≡ yakuman w opened s r
     yakuman-stays =
-        let dealer = ren-isDealer ρ w winds in
+        let dealer = dealer-renamed ρ w in
         let tanki = four-concealed (λ b. b) in
         let suu = four-concealed not in
         let sangen = stays (λ p ms. daisangen ms) (λ p k ms ns mv. ren-daisangen ρ ms ns mv) in

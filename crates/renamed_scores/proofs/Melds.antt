@@ -120,4 +120,4 @@ module _ (ρ : Renaming) (ms ns : List Meld) (mv : Moved ρ ms ns) where
     unfolding shousuushii
     ren-shousuushii =
         ap₂ (λ (n : ℕ) (b : Bool). eqb n 3 && b) ren-winds
-        (ap₂ (λ (a b : Bool). a && not b) (ren-isWind ρ p h) (any-moved mv _ _ (ren-setOf ρ p h)))
+        (ap₂ (λ (a b : Bool). a && not b) (ren-isWind ρ p) (any-moved mv _ _ (ren-setOf ρ p h)))

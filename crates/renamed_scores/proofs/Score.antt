@@ -6,6 +6,7 @@ use lib.Dec.{T}
 use Rattle.tile.specs.declared.Renaming.{Renaming}
 use Rattle.context.specs.declared.GameContext.{GameContext}
 use Rattle.context.specs.Context.{inRange, isDealer, isTsumo, renWin}
+use Rattle.context.proofs.Renamed.{dealer-renamed}
 use Rattle.hand.specs.Reading.{Reading}
 use Rattle.renamed.specs.Renamed.{renReading}
 use Rattle.renamed.proofs.Records.{isReading}
@@ -18,7 +19,7 @@ use Rattle.scoring.specs.declared.Payment.{Payment}
 use Rattle.fu.specs.Fu.{fu}
 use Rattle.scoring.specs.Level.{level, basicPoints}
 use Rattle.scoring.specs.Payment.{payment}
-use Rattle.renamed_scores.proofs.Waits.{ren-isDealer, waits-renamed}
+use Rattle.renamed_scores.proofs.Waits.{waits-renamed}
 use Rattle.renamed_scores.proofs.Han.{isYakuman-renamed, han-renamed}
 use Rattle.renamed_scores.proofs.Fu.{fu-renamed}
 
@@ -55,6 +56,6 @@ module _ (ρ : Renaming) (w : GameContext) (winds : T (inRange w)) (h : w .«win
         same-fu = f;
         same-level = λ i. level (n i) (f i) (y i);
         same-basic = λ i. basicPoints (n i) (f i) (y i);
-        same-payment = λ i. payment (isTsumo w) (ren-isDealer ρ w winds i) (basicPoints (n i) (f i) (y i));
+        same-payment = λ i. payment (isTsumo w) (dealer-renamed ρ w i) (basicPoints (n i) (f i) (y i));
         same-waits = waits-renamed ρ (w .«winning_tile») h r v;
       }

@@ -1,17 +1,18 @@
 -- What all tiles together are stays when they are renamed: the tile yaku of two hands, one of which counts of each renamed tile
 -- what the other counts of the tile, where neither is all green. Assumes nothing.
-use mathlib.Core.Path.{_≡_, sym, ap, ap₂, _∙_}
-use mathlib.Core.Bool.{Bool, false, _&&_, _||_, not, cond, Bool·beq}
+use mathlib.Core.Path.{_≡_, refl, sym, ap, ap₂, _∙_}
+use mathlib.Core.Bool.{Bool, true, false, _&&_, _||_, not, cond, Bool·beq}
 use mathlib.Core.List.{map}
-use Prim.Native.Nat.{ℕ, _<_}
+use Prim.Native.Nat.{ℕ, _/_, _<_}
 use lib.Dec.{T, T-not, eqb, ltb, leb, ltb→lt}
+use borrow.Author.Tests.{ltb-true}
 use Rattle.lists.specs.Fold.{all, allBelow, one}
 use Rattle.lists.proofs.Finite.{at, beq→eq, ¬T→false}
 use Rattle.lists.proofs.Permuted.{isPerm, isPerm-perm, Shuffled, all-over, any-over, sum-over}
-use Rattle.tile.specs.Tile.{isGreen, isHonor, isSimple, isTerminal, isTerminalOrHonor, tiles}
+use Rattle.tile.specs.Tile.{isSuited, isGreen, isHonor, isSimple, isTerminal, isTerminalOrHonor, tiles}
 use Rattle.tile.specs.declared.Renaming.{Renaming}
-use Rattle.tile.specs.Renaming.{ren, suitTo}
-use Rattle.tile.proofs.Renamings.{allRen, ren-at, tiles-at, ren-isHonor, ren-isSimple, ren-isTerminal, ren-isTerminalOrHonor}
+use Rattle.tile.specs.Renaming.{ren, orderTo}
+use Rattle.tile.proofs.Renamings.{numbers-test, ren-isSuited, ren-isHonor, ren-isSimple, ren-isTerminal, ren-isTerminalOrHonor}
 use Rattle.tile_yaku.specs.Tiles.{only, some, tanyao, honroutou, tsuuiisou, chinroutou, ryuuiisou, suits, ofSuit, oneSuit, honitsu, chinitsu, gate, nineGates, pureWait, tileYaku}
 use Rattle.tile_yaku.proofs.Below.{all-tiles}
 use Rattle.renamed.specs.Renamed.{allGreen}
@@ -19,20 +20,26 @@ use Rattle.renamed.proofs.Keeps.{SameCounts, tiles-over, sum-stays, keeps}
 
 -- ---- the suits, in another order
 abbrev renSuit : Renaming → ℕ → ℕ
-renSuit ρ s = suitTo (ρ .numbers .suits) s
+renSuit ρ s = orderTo (ρ .numbers .suits) s
 
 suits-over : (ρ : Renaming) → Shuffled (renSuit ρ) (λ s. ltb s 3) suits
-suits-over ρ = record { each = tt; same = isPerm-perm _ _ (ren-at (λ ρ. isPerm (map (renSuit ρ) suits) suits) tt ρ) }
+suits-over ρ = record { each = tt; same = isPerm-perm _ _ (numbers-test (λ ρ. isPerm (map (renSuit ρ) suits) suits) ρ tt) }
 
-suit-test : T (allRen (λ ρ. allBelow 34 (λ t. allBelow 3 (λ s. Bool·beq (ofSuit (renSuit ρ s) (ren ρ t)) (ofSuit s t)))))
-suit-test = tt
+-- a tile of a suit; an honor is of none
+abbrev suitMoves : Renaming → ℕ → ℕ → Bool
+suitMoves ρ t s = Bool·beq (ofSuit (renSuit ρ s) (ren ρ t)) (ofSuit s t)
 
 ren-ofSuit : (ρ : Renaming) (s : ℕ) → T (ltb s 3) → (t : ℕ) → t < 34 → ofSuit (renSuit ρ s) (ren ρ t) ≡ ofSuit s t
-ren-ofSuit ρ s k t h =
-    beq→eq _ _
-    (at 3 (λ s. Bool·beq (ofSuit (renSuit ρ s) (ren ρ t)) (ofSuit s t))
-    (tiles-at (λ ρ t. allBelow 3 (λ s. Bool·beq (ofSuit (renSuit ρ s) (ren ρ t)) (ofSuit s t))) suit-test ρ t h)
-    s (ltb→lt s 3 k))
+ren-ofSuit ρ s k t h = go (isSuited t) refl
+  where
+    go : (b : Bool) → isSuited t ≡ b → ofSuit (renSuit ρ s) (ren ρ t) ≡ ofSuit s t
+    go true e =
+        beq→eq _ _
+        (at 3 (suitMoves ρ t)
+        (at 27 (λ t. allBelow 3 (suitMoves ρ t)) (numbers-test (λ ρ. allBelow 27 (λ t. allBelow 3 (suitMoves ρ t))) ρ tt) t (ltb-true t 27 e))
+        s (ltb→lt s 3 k))
+    go false e =
+        ap₂ (λ (b c : Bool). b && c) (ren-isSuited ρ t h ∙ e) refl ∙ sym (ap (λ (b : Bool). b && eqb (t / 9) s) e)
 
 -- ---- Ryuuiisou asks whether all are green
 pub ryuuiisou-green : (c : ℕ → ℕ) → ryuuiisou c ≡ allGreen c

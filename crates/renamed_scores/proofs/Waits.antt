@@ -1,25 +1,22 @@
 -- What the winning tile completed stays when it and the reading are renamed: waits, the pair's weight, Pinfu, and what is concealed.
 -- Assumes nothing.
-use mathlib.Core.Path.{_≡_, refl, sym, ap, ap₂, _∙_}
+use mathlib.Core.Path.{_≡_, refl, ap, ap₂}
 use mathlib.Core.Bool.{Bool, _&&_, _||_, not}
 use mathlib.Core.List.{List, [], _∷_}
 use Prim.Native.Nat.{ℕ, _+_, _<_}
-use native.Mathlib.Omega.{arith}
 use lib.Dec.{T, eqb, ltb, ltb→lt}
 use Rattle.lists.specs.Fold.{all, one}
 use Rattle.lists.proofs.Finite.{and-left, and-right, and-cong}
-use Rattle.tile.specs.Tile.{isWind}
 use Rattle.tile.specs.declared.Renaming.{Renaming}
 use Rattle.tile.specs.Renaming.{ren}
-use Rattle.tile.proofs.Tiles.{wind-below}
-use Rattle.tile.proofs.Renamings.{ren-eqb, ren-isDragon, wind-stays}
+use Rattle.tile.proofs.Renamings.{ren-eqb, ren-isDragon}
 use Rattle.meld.specs.declared.Meld.{Meld}
 use Rattle.meld.specs.Meld.{isMeld, isSequence}
 use Rattle.meld.specs.Renamed.{renMeld}
 use Rattle.meld.proofs.Renamed.{set-eqb, Moved, all-moved, any-moved, count-moved}
 use Rattle.context.specs.declared.GameContext.{GameContext}
-use Rattle.context.specs.Context.{inRange, isDealer, isTsumo, renWin}
-use Rattle.context.proofs.Range.{round-in, seat-in}
+use Rattle.context.specs.Context.{inRange, isTsumo, renWin}
+use Rattle.context.proofs.Renamed.{round-renamed, seat-renamed}
 use Rattle.hand.specs.Reading.{Reading, pairs, orphans, standard}
 use Rattle.renamed.specs.Renamed.{renReading}
 use Rattle.renamed.proofs.Records.{isReading}
@@ -28,25 +25,9 @@ use Rattle.wait.specs.Concealed.{spared, concealed}
 use Rattle.wait.proofs.Renamed.{closed-set, ren-within, ren-twoSided, ren-edge, ren-middle, ren-triplet}
 use Rattle.renamed_scores.proofs.Moved.{sorted-moved, pairs-any}
 
--- ---- how often an honor counts: a tile is the round wind or the seat wind where the renamed tile is the renamed win's
-wind-lt : (t : ℕ) → T (isWind t) → t < 34
-wind-lt t h = let k = wind-below t h in omega arith
-
-wind-eqb : (ρ : Renaming) (t u : ℕ) → t < 34 → T (isWind u) → eqb (ren ρ t) u ≡ eqb t u
-wind-eqb ρ t u h k = ap (eqb (ren ρ t)) (sym (wind-stays ρ u (wind-lt u k) k)) ∙ ren-eqb ρ t u h (wind-lt u k)
-
-module _ (ρ : Renaming) (w : GameContext) (winds : T (inRange w)) where
-  pub round-eqb : (t : ℕ) → t < 34 → eqb (ren ρ t) (renWin ρ w .«round_wind») ≡ eqb t (w .«round_wind»)
-  round-eqb t h = wind-eqb ρ t (w .«round_wind») h (round-in w winds)
-
-  pub seat-eqb : (t : ℕ) → t < 34 → eqb (ren ρ t) (renWin ρ w .«seat_wind») ≡ eqb t (w .«seat_wind»)
-  seat-eqb t h = wind-eqb ρ t (w .«seat_wind») h (seat-in w winds)
-
-  pub ren-isDealer : isDealer (renWin ρ w) ≡ isDealer w
-  ren-isDealer = refl
-
-  pub ren-weight : (t : ℕ) → t < 34 → weight (renWin ρ w) (ren ρ t) ≡ weight w t
-  ren-weight t h = λ i. one (ren-isDragon ρ t h i) + (one (round-eqb t h i) + one (seat-eqb t h i))
+-- ---- how often an honor counts: as often as the renamed one in the renamed win
+pub ren-weight : (ρ : Renaming) (w : GameContext) → T (inRange w) → (t : ℕ) → t < 34 → weight (renWin ρ w) (ren ρ t) ≡ weight w t
+ren-weight ρ w winds t h = λ i. one (ren-isDragon ρ t h i) + (one (round-renamed ρ w winds t h i) + one (seat-renamed ρ w winds t h i))
 
 -- ---- what is concealed
 module _ (ρ : Renaming) (w : GameContext) (h : w .«winning_tile» < 34) where

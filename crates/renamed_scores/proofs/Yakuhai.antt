@@ -8,7 +8,7 @@ use Rattle.lists.proofs.Finite.{and-right}
 use Rattle.lists.proofs.Permuted.{isPerm, isPerm-perm, Shuffled, sum-over}
 use Rattle.tile.specs.declared.Renaming.{Renaming}
 use Rattle.tile.specs.Renaming.{ren}
-use Rattle.tile.proofs.Renamings.{ren-at}
+use Rattle.tile.proofs.Renamings.{honors-test}
 use Rattle.meld.specs.declared.Meld.{Meld}
 use Rattle.meld.specs.Meld.{isMeld, sorted}
 use Rattle.meld.specs.Renamed.{renMeld}
@@ -29,7 +29,7 @@ abbrev pub honors : List ℕ
 honors = 27 ∷ 28 ∷ 29 ∷ 30 ∷ 31 ∷ 32 ∷ 33 ∷ []
 
 honors-over : (ρ : Renaming) → Shuffled (ren ρ) (λ t. ltb t 34) honors
-honors-over ρ = record { each = tt; same = isPerm-perm _ _ (ren-at (λ ρ. isPerm (map (ren ρ) honors) honors) tt ρ) }
+honors-over ρ = record { each = tt; same = isPerm-perm _ _ (honors-test (λ ρ. isPerm (map (ren ρ) honors) honors) ρ tt) }
 
 module _ (ρ : Renaming) (w : GameContext) (winds : T (inRange w)) where
   pub ren-yakuhai :

@@ -1,196 +1,194 @@
--- The renamings are those of the scope paper: one for each one-to-one choice of suits, mirrored or not, with White and Red exchanged or not.
--- Assumes nothing.
-use mathlib.Core.Path.{_≡_, refl, sym, ap, _∙_}
+-- The renamings are those of the scope paper: one for each one-to-one choice of suits and of South, West and North, mirrored or not, with White and
+-- Red exchanged or not. Assumes nothing.
+use mathlib.Core.Path.{_≡_, refl, sym, ap, subst, _∙_}
 use mathlib.Core.Bool.{Bool, true, false, _&&_, _||_, not, cond}
-use Prim.Native.Nat.{ℕ, zero, suc, _+_, _-_, _/_, _%_, _≤_, _<_}
+use Prim.Native.Nat.{ℕ, _+_, _-_, _/_, _%_, _≤_, _<_}
 use native.Mathlib.Omega.{arith}
 use native.Mathlib.Decide.{ℕ-discrete}
-use lib.Dec.{T, eqb, ltb, eqb→eq, ltb→lt}
-use borrow.Author.Tests.{ltb-false, le-ltb, ne-eqb}
+use lib.Dec.{T, eqb, ltb, leb, eqb→eq, ltb→lt, leb→le}
+use borrow.Author.Tests.{eq-eqb, ltb-false, le-leb, lt-ltb}
 use Rattle.lists.specs.Fold.{allBelow}
-use Rattle.lists.proofs.Finite.{at, or-skip, and-left, and-right, T→true, true→T}
-use Rattle.tile.specs.declared.Suits.{Suits}
-use Rattle.tile.specs.declared.Suits.the-variants.{ManPinSou, ManSouPin, PinManSou, PinSouMan, SouManPin, SouPinMan}
+use Rattle.lists.proofs.Finite.{at, or-skip, and-left, and-right, and-both, T→true, true→T}
+use Rattle.tile.specs.declared.Order.{Order}
+use Rattle.tile.specs.declared.Numbers.{Numbers}
+use Rattle.tile.specs.declared.Honors.{Honors}
 use Rattle.tile.specs.declared.Renaming.{Renaming}
-use Rattle.tile.specs.Renaming.{suitTo, suitsBack, ren}
-use Rattle.tile.specs.Tile.{isSuited, suitOf, valueOf}
+use Rattle.tile.specs.Renaming.{orderTo, windTo, honorsStay, ren, suitsAlone}
+use Rattle.tile.specs.Tile.{isSuited, isHonor, isAfterEast, suitOf, valueOf}
 use Rattle.tile.specs.Named.{man, pin, East, South, West, North, White, Green, Red}
-use Rattle.tile.specs.Described.{OneToOne, Does}
-use Rattle.tile.proofs.Renamings.{allSuits, suits-at, tiles-at, renaming, allRen, ren-at}
+use Rattle.tile.specs.Described.{isSuit, OneToOne, Does, SuitsOnly}
+use Rattle.tile.proofs.Orders.{order-small, order-one-to-one, order, order-sends, order-is}
+use Rattle.tile.proofs.Renamings.{renaming, allNumbers, numbers-test, allHonors, honors-test, ren-above}
 
 -- ---- every renaming is one of these
 
--- the suits of a renaming
-suit-at : (p : Suits → ℕ → Bool) → T (allSuits (λ o. allBelow 3 (p o))) → (o : Suits) (s : ℕ) → s < 3 → T (p o s)
-suit-at p ok o = at 3 (p o) (suits-at (λ o. allBelow 3 (p o)) ok o)
+-- the winds after East are the places of an order, from South on
+after-east : (t : ℕ) → T (isAfterEast t) → (28 ≤ t) × (t < 31)
+after-east t h = (leb→le 28 t (and-left (leb 28 t) (ltb t 31) h), ltb→lt t 31 (and-right (leb 28 t) (ltb t 31) h))
 
-suits-undone : (o : Suits) (s : ℕ) → s < 3 → suitTo (suitsBack o) (suitTo o s) ≡ s
-suits-undone o s h = eqb→eq _ _ (suit-at (λ o s. eqb (suitTo (suitsBack o) (suitTo o s)) s) tt o s h)
+is-after-east : (t : ℕ) → 28 ≤ t → t < 31 → T (isAfterEast t)
+is-after-east t h k = and-both (leb 28 t) (ltb t 31) (true→T _ (le-leb 28 t h)) (true→T _ (lt-ltb t 31 k))
 
--- they are sent to suits, no two to the same
-pub suits-one-to-one : (o : Suits) → OneToOne (suitTo o)
-suits-one-to-one o =
+is-suit : (s : ℕ) → s < 3 → T (isSuit s)
+is-suit s h = true→T _ (lt-ltb s 3 h)
+
+pub winds-one-to-one : (o : Order) → OneToOne isAfterEast (windTo o)
+winds-one-to-one o =
     record {
-      suit = λ s h. ltb→lt _ _ (suit-at (λ o s. ltb (suitTo o s) 3) tt o s h);
-      apart = λ s u h k e. sym (suits-undone o s h) ∙ ap (suitTo (suitsBack o)) e ∙ suits-undone o u k;
+      among = λ t h. let k = order-small o (t - 28) in is-after-east (windTo o t) (omega (arith, k)) (omega (arith, k));
+      apart = λ t u h k e.
+          let a = after-east t h in
+          let b = after-east u k in
+          let i = is-suit (t - 28) (omega (arith, a)) in
+          let j = is-suit (u - 28) (omega (arith, b)) in
+          let same = order-one-to-one o .apart (t - 28) (u - 28) i j (omega (arith, e)) in
+          omega (arith, a, b, same);
     }
 
-and-false : (b : Bool) → b && false ≡ false
-and-false true = refl
-and-false false = refl
-
--- a number above 33 stays
-pub ren-above : (ρ : Renaming) (t : ℕ) → 33 < t → ren ρ t ≡ t
-ren-above ρ t h =
-    simp (
-      le-ltb t 27 (omega arith),
-      ne-eqb t White (λ e. omega arith),
-      ne-eqb t Red (λ e. omega arith),
-      and-false (ρ .honors .dragons),
-    )
-
--- a test of the tiles that pass the question g
-asked : (g : ℕ → Bool) (p : Renaming → ℕ → Bool) → T (allRen (λ ρ. allBelow 34 (λ t. not (g t) || p ρ t))) → (ρ : Renaming) (t : ℕ) → t < 34 → T (g t) → T (p ρ t)
-asked g p ok ρ t h i = or-skip (g t) (p ρ t) i (tiles-at (λ ρ t. not (g t) || p ρ t) ok ρ t h)
-
-suited-lt : (t : ℕ) → T (isSuited t) → t < 34
-suited-lt t i = let h : t < 27 = ltb→lt t 27 i in omega arith
-
--- a test of one tile
-becomes : (t : ℕ) (to : Bool → ℕ) → T (allRen (λ ρ. eqb (ren ρ t) (to (ρ .honors .dragons)))) → (ρ : Renaming) → ren ρ t ≡ to (ρ .honors .dragons)
-becomes t to ok ρ = eqb→eq _ _ (ren-at (λ ρ. eqb (ren ρ t) (to (ρ .honors .dragons))) ok ρ)
+-- what becomes of a tile of a suit, whatever becomes of the honors
+becomes :
+    (q : Numbers → ℕ → ℕ → Bool) (ρ : Renaming)
+    → T (allNumbers (λ ν. allBelow 27 (λ t. q ν t (ren (record { numbers = ν; honors = ρ .honors }) t))))
+    → (t : ℕ) → T (isSuited t) → T (q (ρ .numbers) t (ren ρ t))
+becomes q ρ ok t i = at 27 (λ t. q (ρ .numbers) t (ren ρ t)) (numbers-test (λ ρ. allBelow 27 (λ t. q (ρ .numbers) t (ren ρ t))) ρ ok) t (ltb→lt t 27 i)
 
 -- what a renaming does, by its parts
-pub ren-does : (ρ : Renaming) → Does (ren ρ) (suitTo (ρ .numbers .suits)) (ρ .numbers .mirror) (ρ .honors .dragons)
+pub ren-does :
+    (ρ : Renaming) → Does (ren ρ) (orderTo (ρ .numbers .suits)) (windTo (ρ .honors .winds)) (ρ .numbers .mirror) (ρ .honors .dragons)
 ren-does ρ =
     record {
-      suit = λ t i. eqb→eq _ _ (asked isSuited (λ ρ t. eqb (suitOf (ren ρ t)) (suitTo (ρ .numbers .suits) (suitOf t))) tt ρ t (suited-lt t i) i);
-      number =
-          λ t i. eqb→eq _ _
-          (asked isSuited (λ ρ t. eqb (valueOf (ren ρ t)) (cond (ρ .numbers .mirror) (10 - valueOf t) (valueOf t))) tt ρ t (suited-lt t i) i);
-      east = becomes East (λ d. East) tt ρ;
-      south = becomes South (λ d. South) tt ρ;
-      west = becomes West (λ d. West) tt ρ;
-      north = becomes North (λ d. North) tt ρ;
-      white = becomes White (λ d. cond d Red White) tt ρ;
-      green = becomes Green (λ d. Green) tt ρ;
-      red = becomes Red (λ d. cond d White Red) tt ρ;
+      suit = λ t i. eqb→eq _ _ (becomes (λ ν t u. eqb (suitOf u) (orderTo (ν .suits) (suitOf t))) ρ tt t i);
+      number = λ t i. eqb→eq _ _ (becomes (λ ν t u. eqb (valueOf u) (cond (ν .mirror) (10 - valueOf t) (valueOf t))) ρ tt t i);
+      east = honor East (λ η. East) tt;
+      south = honor South (λ η. windTo (η .winds) South) tt;
+      west = honor West (λ η. windTo (η .winds) West) tt;
+      north = honor North (λ η. windTo (η .winds) North) tt;
+      white = honor White (λ η. cond (η .dragons) Red White) tt;
+      green = honor Green (λ η. Green) tt;
+      red = honor Red (λ η. cond (η .dragons) White Red) tt;
       above = ren-above ρ;
     }
+  where
+    -- a test of one honor
+    honor : (t : ℕ) (to : Honors → ℕ) → T (allHonors (λ η. eqb (ren (record { numbers = ρ .numbers; honors = η }) t) (to η))) → ren ρ t ≡ to (ρ .honors)
+    honor t to ok = eqb→eq _ _ (honors-test (λ ρ. eqb (ren ρ t) (to (ρ .honors))) ρ ok)
 
--- each renaming does this, for a one-to-one choice of suits
-pub renaming-is : (ρ : Renaming) → (σ : ℕ → ℕ) × OneToOne σ × Does (ren ρ) σ (ρ .numbers .mirror) (ρ .honors .dragons)
-renaming-is ρ = (suitTo (ρ .numbers .suits), suits-one-to-one (ρ .numbers .suits), ren-does ρ)
+-- each renaming does this, for a one-to-one choice of suits and of winds
+pub renaming-is :
+    (ρ : Renaming)
+    → (σ : ℕ → ℕ) × (τ : ℕ → ℕ) × OneToOne isSuit σ × OneToOne isAfterEast τ × Does (ren ρ) σ τ (ρ .numbers .mirror) (ρ .honors .dragons)
+renaming-is ρ = (
+  orderTo (ρ .numbers .suits),
+  windTo (ρ .honors .winds),
+  order-one-to-one (ρ .numbers .suits),
+  winds-one-to-one (ρ .honors .winds),
+  ren-does ρ,
+)
 
 -- ---- each of these is a renaming
 
--- the order in which man goes to the suit a and pin to b
-abbrev order : ℕ → ℕ → Suits
-order a b =
-    cond (eqb a 0) (cond (eqb b 1) ManPinSou ManSouPin)
-    (cond (eqb a 1) (cond (eqb b 0) PinManSou PinSouMan) (cond (eqb b 0) SouManPin SouPinMan))
-
--- it sends man to a, pin to b and sou to c
-abbrev sends : ℕ → ℕ → ℕ → Bool
-sends a b c = eqb (suitTo (order a b) 0) a && (eqb (suitTo (order a b) 1) b && eqb (suitTo (order a b) 2) c)
-
--- two of the suits are the same, or the order sends man, pin and sou there
-abbrev sameOrSends : ℕ → ℕ → ℕ → Bool
-sameOrSends a b c = eqb a b || (eqb a c || (eqb b c || sends a b c))
-
-orders-test : T (allBelow 3 (λ a. allBelow 3 (λ b. allBelow 3 (sameOrSends a b))))
-orders-test = tt
-
-or-not : (a b : Bool) → (T a → ⊥) → T (a || b) → T b
-or-not true b n t = absurd (n tt)
-or-not false b n t = t
-
-module _ (σ : ℕ → ℕ) (one : OneToOne σ) where
-  differ : (s u : ℕ) → s < 3 → u < 3 → (s ≡ u → ⊥) → T (eqb (σ s) (σ u)) → ⊥
-  differ s u h k n t = n (one .apart s u h k (eqb→eq (σ s) (σ u) t))
-
-  abbrev goes : ℕ → Bool
-  goes s = eqb (suitTo (order (σ 0) (σ 1)) s) (σ s)
-
-  sent : T (sends (σ 0) (σ 1) (σ 2))
-  sent =
-      or-not (eqb (σ 1) (σ 2)) _ (differ 1 2 (omega arith) (omega arith) (λ e. omega arith))
-      (or-not (eqb (σ 0) (σ 2)) _ (differ 0 2 (omega arith) (omega arith) (λ e. omega arith))
-      (or-not (eqb (σ 0) (σ 1)) _ (differ 0 1 (omega arith) (omega arith) (λ e. omega arith))
-      (at 3 (sameOrSends (σ 0) (σ 1))
-      (at 3 (λ b. allBelow 3 (sameOrSends (σ 0) b))
-      (at 3 (λ a. allBelow 3 (λ b. allBelow 3 (sameOrSends a b))) orders-test (σ 0) (one .suit 0 (omega arith)))
-      (σ 1) (one .suit 1 (omega arith)))
-      (σ 2) (one .suit 2 (omega arith)))))
-
-  order-suits : (s : ℕ) → s < 3 → suitTo (order (σ 0) (σ 1)) s ≡ σ s
-  order-suits zero h = eqb→eq _ _ (and-left (goes 0) _ sent)
-  order-suits (suc zero) h = eqb→eq _ _ (and-left (goes 1) _ (and-right (goes 0) _ sent))
-  order-suits (suc (suc zero)) h = eqb→eq _ _ (and-right (goes 1) _ (and-right (goes 0) _ sent))
-  order-suits (suc (suc (suc s))) h = absurd (omega arith)
-
--- only what becomes of the three suits matters
+-- only what becomes of the three suits and the three winds matters
 suit-lt : (t : ℕ) → T (isSuited t) → suitOf t < 3
-suit-lt t i = ltb→lt _ _ (or-skip (isSuited t) _ i (at 34 (λ t. not (isSuited t) || ltb (suitOf t) 3) tt t (suited-lt t i)))
+suit-lt t i = ltb→lt _ _ (at 27 (λ t. ltb (suitOf t) 3) tt t (ltb→lt t 27 i))
 
-does-suits :
-    {f σ τ : ℕ → ℕ} {m d : Bool} → ((s : ℕ) → s < 3 → σ s ≡ τ s) → Does f σ m d → Does f τ m d
-does-suits same w =
+does-alike :
+    {f σ σ′ τ τ′ : ℕ → ℕ} {m d : Bool} → ((s : ℕ) → s < 3 → σ s ≡ σ′ s) → ((t : ℕ) → T (isAfterEast t) → τ t ≡ τ′ t) → Does f σ τ m d
+    → Does f σ′ τ′ m d
+does-alike suits winds w =
     record {
-      suit = λ t i. w .suit t i ∙ same (suitOf t) (suit-lt t i);
+      suit = λ t i. w .suit t i ∙ suits (suitOf t) (suit-lt t i);
       number = w .number;
       east = w .east;
-      south = w .south;
-      west = w .west;
-      north = w .north;
+      south = w .south ∙ winds South tt;
+      west = w .west ∙ winds West tt;
+      north = w .north ∙ winds North tt;
       white = w .white;
       green = w .green;
       red = w .red;
       above = w .above;
     }
 
--- for each one-to-one choice of suits, mirrored or not, White and Red exchanged or not, there is a renaming that does this
-pub renaming-exists : (σ : ℕ → ℕ) → OneToOne σ → (m d : Bool) → (ρ : Renaming) × Does (ren ρ) σ m d
-renaming-exists σ one m d =
-    (renaming (order (σ 0) (σ 1)) m d, does-suits (order-suits σ one) (ren-does (renaming (order (σ 0) (σ 1)) m d)))
+-- the places of South, West and North
+abbrev places : (ℕ → ℕ) → ℕ → ℕ
+places τ s = τ (28 + s) - 28
+
+module _ (τ : ℕ → ℕ) (one : OneToOne isAfterEast τ) where
+  wind-at : (s : ℕ) → T (isSuit s) → T (isAfterEast (28 + s))
+  wind-at s h = let k = ltb→lt s 3 h in is-after-east (28 + s) (omega arith) (omega arith)
+
+  goes-to : (s : ℕ) → T (isSuit s) → (28 ≤ τ (28 + s)) × (τ (28 + s) < 31)
+  goes-to s h = after-east (τ (28 + s)) (one .among (28 + s) (wind-at s h))
+
+  places-one-to-one : OneToOne isSuit (places τ)
+  places-one-to-one =
+      record {
+        among = λ s h. let k = goes-to s h in is-suit (places τ s) (omega (arith, k));
+        apart = λ s u h k e.
+            let a = goes-to s h in
+            let b = goes-to u k in
+            let same = one .apart (28 + s) (28 + u) (wind-at s h) (wind-at u k) (omega (arith, a, b, e)) in
+            omega (arith, same);
+      }
+
+  winds-sent : (t : ℕ) → T (isAfterEast t) → windTo (order (places τ 0) (places τ 1)) t ≡ τ t
+  winds-sent t h =
+      let a = after-east t h in
+      let there = after-east (τ t) (one .among t h) in
+      let sent = order-sends (places τ) places-one-to-one (t - 28) (omega (arith, a)) in
+      let same : τ (28 + (t - 28)) ≡ τ t = ap τ (omega (arith, a)) in
+      omega (arith, sent, same, there)
+
+-- for each one-to-one choice of suits and of winds, mirrored or not, White and Red exchanged or not, there is a renaming that does this
+pub renaming-exists :
+    (σ τ : ℕ → ℕ) → OneToOne isSuit σ → OneToOne isAfterEast τ → (m d : Bool) → (ρ : Renaming) × Does (ren ρ) σ τ m d
+renaming-exists σ τ one two m d =
+    let ρ = renaming (order (σ 0) (σ 1)) m d (order (places τ 0) (places τ 1)) in
+    (ρ, does-alike (order-sends σ one) (winds-sent τ two) (ren-does ρ))
 
 -- ---- and one only
 
--- a renaming is told by what man 1, pin 1 and White become
-abbrev told : ℕ → ℕ → ℕ → Renaming
-told a b c = renaming (order (suitOf a) (suitOf b)) (eqb (valueOf a) 9) (eqb c Red)
+-- a renaming is told by what man 1, pin 1, White, South and West become
+abbrev told : ℕ → ℕ → ℕ → ℕ → ℕ → Renaming
+told a b c s w = renaming (order (suitOf a) (suitOf b)) (eqb (valueOf a) 9) (eqb c Red) (order (s - 28) (w - 28))
 
-told-both : (o : Suits) (m d : Bool) → renaming o (eqb (cond m 9 1) 9) (eqb (cond d Red White) Red) ≡ renaming o m d
-told-both o true true = refl
-told-both o true false = refl
-told-both o false true = refl
-told-both o false false = refl
+told-both : (o v : Order) (m d : Bool) → renaming o (eqb (cond m 9 1) 9) (eqb (cond d Red White) Red) v ≡ renaming o m d v
+told-both o v true true = refl
+told-both o v true false = refl
+told-both o v false true = refl
+told-both o v false false = refl
 
-told-does : {f σ : ℕ → ℕ} {m d : Bool} → Does f σ m d → told (f (man 1)) (f (pin 1)) (f White) ≡ renaming (order (σ 0) (σ 1)) m d
-told-does {f} {σ} {m} {d} w =
-    (λ i. renaming (order (w .suit (man 1) tt i) (w .suit (pin 1) tt i)) (eqb (w .number (man 1) tt i) 9) (eqb (w .white i) Red))
-    ∙ told-both (order (σ 0) (σ 1)) m d
+told-does :
+    {f σ τ : ℕ → ℕ} {m d : Bool} → Does f σ τ m d
+    → told (f (man 1)) (f (pin 1)) (f White) (f South) (f West) ≡ renaming (order (σ 0) (σ 1)) m d (order (τ South - 28) (τ West - 28))
+told-does {f} {σ} {τ} {m} {d} w =
+    (λ i.
+    renaming (order (w .suit (man 1) tt i) (w .suit (pin 1) tt i)) (eqb (w .number (man 1) tt i) 9) (eqb (w .white i) Red)
+    (order (w .south i - 28) (w .west i - 28)))
+    ∙ told-both (order (σ 0) (σ 1)) (order (τ South - 28) (τ West - 28)) m d
 
-order-is : (o : Suits) → order (suitTo o 0) (suitTo o 1) ≡ o
-order-is ManPinSou = refl
-order-is ManSouPin = refl
-order-is PinManSou = refl
-order-is PinSouMan = refl
-order-is SouManPin = refl
-order-is SouPinMan = refl
+place-back : (n : ℕ) → 28 + n - 28 ≡ n
+place-back n = omega arith
 
-told-ren : (ρ : Renaming) → told (ren ρ (man 1)) (ren ρ (pin 1)) (ren ρ White) ≡ ρ
-told-ren ρ = told-does (ren-does ρ) ∙ ap (λ o. renaming o (ρ .numbers .mirror) (ρ .honors .dragons)) (order-is (ρ .numbers .suits))
+told-ren : (ρ : Renaming) → told (ren ρ (man 1)) (ren ρ (pin 1)) (ren ρ White) (ren ρ South) (ren ρ West) ≡ ρ
+told-ren ρ =
+    let v = ρ .honors .winds in
+    told-does (ren-does ρ)
+    ∙ (λ i.
+    renaming (order-is (ρ .numbers .suits) i) (ρ .numbers .mirror) (ρ .honors .dragons)
+    (order (place-back (orderTo v 0) i) (place-back (orderTo v 1) i)))
+    ∙ ap (renaming (ρ .numbers .suits) (ρ .numbers .mirror) (ρ .honors .dragons)) (order-is v)
 
 -- two renamings that do this are one
-pub renaming-only : (σ : ℕ → ℕ) (m d : Bool) (ρ τ : Renaming) → Does (ren ρ) σ m d → Does (ren τ) σ m d → ρ ≡ τ
-renaming-only σ m d ρ τ v w = sym (told-ren ρ) ∙ told-does v ∙ sym (told-does w) ∙ told-ren τ
+pub renaming-only : (σ τ : ℕ → ℕ) (m d : Bool) (ρ ρ′ : Renaming) → Does (ren ρ) σ τ m d → Does (ren ρ′) σ τ m d → ρ ≡ ρ′
+renaming-only σ τ m d ρ ρ′ v w = sym (told-ren ρ) ∙ told-does v ∙ sym (told-does w) ∙ told-ren ρ′
 
 -- no two renamings do the same on the 34 tiles
 pub renaming-one : (ρ τ : Renaming) → ((t : ℕ) → t < 34 → ren ρ t ≡ ren τ t) → ρ ≡ τ
 renaming-one ρ τ same =
     sym (told-ren ρ)
-    ∙ (λ i. told (same (man 1) (omega arith) i) (same (pin 1) (omega arith) i) (same White (omega arith) i))
+    ∙ (λ i.
+    told (same (man 1) (omega arith) i) (same (pin 1) (omega arith) i) (same White (omega arith) i) (same South (omega arith) i)
+    (same West (omega arith) i))
     ∙ told-ren τ
 
 -- ---- nothing else does this
@@ -210,7 +208,7 @@ suited t h = go (isSuited t) h
     go false h = absurd (omega arith)
 
 -- what does this is determined at each number
-pub does-one : {f g σ : ℕ → ℕ} {m d : Bool} → OneToOne σ → Does f σ m d → Does g σ m d → (t : ℕ) → f t ≡ g t
+pub does-one : {f g σ τ : ℕ → ℕ} {m d : Bool} → OneToOne isSuit σ → Does f σ τ m d → Does g σ τ m d → (t : ℕ) → f t ≡ g t
 does-one {f} {g} {σ} one v w t = suit (ltb t 27) refl
   where
     from : (n : ℕ) → f n ≡ g n → (n < t → f t ≡ g t) → Dec (t ≡ n) → n ≤ t → f t ≡ g t
@@ -233,9 +231,49 @@ does-one {f} {g} {σ} one v w t = suit (ltb t 27) refl
     suit : (b : Bool) → isSuited t ≡ b → f t ≡ g t
     suit true e =
         let i = true→T _ e in
+        let there : σ (suitOf t) < 3 = ltb→lt (σ (suitOf t)) 3 (one .among (suitOf t) (is-suit (suitOf t) (suit-lt t i))) in
         same-tile (f t) (g t)
-        (suited (f t) (rw (v .suit t i) (one .suit (suitOf t) (suit-lt t i))))
-        (suited (g t) (rw (w .suit t i) (one .suit (suitOf t) (suit-lt t i))))
+        (suited (f t) (rw (v .suit t i) there))
+        (suited (g t) (rw (w .suit t i) there))
         (v .suit t i ∙ sym (w .suit t i))
         (v .number t i ∙ sym (w .number t i))
     suit false e = honors (ltb-false t 27 e)
+
+-- ---- an exchange of suits alone, and no other renaming, keeps all else
+pub suits-alone : (ρ : Renaming) → T (suitsAlone ρ) → SuitsOnly (ren ρ)
+suits-alone ρ h = record { number = number; honor = honor }
+  where
+    number : (t : ℕ) → T (isSuited t) → valueOf (ren ρ t) ≡ valueOf t
+    number t i =
+        eqb→eq _ _
+        (or-skip (not (ρ .numbers .mirror)) (eqb (valueOf (ren ρ t)) (valueOf t)) (and-left (not (ρ .numbers .mirror)) _ h)
+        (becomes (λ ν t u. not (not (ν .mirror)) || eqb (valueOf u) (valueOf t)) ρ tt t i))
+
+    honor : (t : ℕ) → T (isHonor t) → ren ρ t ≡ t
+    honor t i =
+        let low = leb→le 27 t (and-left (leb 27 t) (ltb t 34) i) in
+        let high = ltb→lt t 34 (and-right (leb 27 t) (ltb t 34) i) in
+        let e : 27 + (t - 27) ≡ t = omega (arith, low) in
+        subst (λ (t : ℕ). ren ρ t ≡ t) e
+        (eqb→eq _ _
+        (at 7 (λ n. eqb (ren ρ (27 + n)) (27 + n))
+        (or-skip (honorsStay (ρ .honors)) _ (and-right (not (ρ .numbers .mirror)) _ h)
+        (honors-test (λ ρ. not (honorsStay (ρ .honors)) || allBelow 7 (λ n. eqb (ren ρ (27 + n)) (27 + n))) ρ tt))
+        (t - 27) (omega (arith, low, high))))
+
+-- of two answers that differ the second was given
+not-chosen : (b : Bool) (x y : ℕ) → (x ≡ y → ⊥) → cond b x y ≡ y → T (not b)
+not-chosen true x y n e = absurd (n e)
+not-chosen false x y n e = tt
+
+pub suits-only : (ρ : Renaming) → SuitsOnly (ren ρ) → T (suitsAlone ρ)
+suits-only ρ k =
+    let does = ren-does ρ in
+    let v = ρ .honors .winds in
+    let south : 28 + orderTo v 0 ≡ 28 = sym (does .south) ∙ k .honor South tt in
+    let west : 28 + orderTo v 1 ≡ 29 = sym (does .west) ∙ k .honor West tt in
+    and-both (not (ρ .numbers .mirror)) _
+    (not-chosen (ρ .numbers .mirror) 9 1 (λ e. omega arith) (sym (does .number (man 1) tt) ∙ k .number (man 1) tt))
+    (and-both (not (ρ .honors .dragons)) _
+    (not-chosen (ρ .honors .dragons) Red White (λ e. omega arith) (sym (does .white) ∙ k .honor White tt))
+    (and-both (eqb (orderTo v 0) 0) _ (true→T _ (eq-eqb (orderTo v 0) 0 (omega (arith, south)))) (true→T _ (eq-eqb (orderTo v 1) 1 (omega (arith, west))))))

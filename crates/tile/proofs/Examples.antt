@@ -1,13 +1,13 @@
 -- Tiles by the names that players use: of which tiles each question is true, and examples of suits, numbers and renamings. Assumes nothing.
 use mathlib.Core.Path.{_≡_, refl}
 use mathlib.Core.Bool.{Bool, true, false, _&&_, Bool·beq}
-use mathlib.Core.List.{List, [], _∷_, _++_}
+use mathlib.Core.List.{List, [], _∷_, _++_, map}
 use Prim.Native.Nat.{ℕ, _+_, _<_}
 use lib.Dec.{T, eqb, eqb→eq}
 use Rattle.lists.specs.Fold.{allBelow, all, any, one, count, upFrom}
 use Rattle.lists.proofs.Finite.{at}
-use Rattle.tile.specs.declared.Suits.the-variants.{ManPinSou, ManSouPin, PinSouMan}
-use Rattle.tile.specs.Tile.{isSuited, isHonor, isWind, isDragon, isTerminal, isSimple, isTerminalOrHonor, isGreen, suitOf, valueOf, isStart, tiles}
+use Rattle.tile.specs.declared.Order.the-variants.{Abc, Acb, Bca, Cba}
+use Rattle.tile.specs.Tile.{isSuited, isHonor, isWind, isAfterEast, isDragon, isTerminal, isSimple, isTerminalOrHonor, isGreen, suitOf, valueOf, isStart, tiles}
 use Rattle.tile.specs.Named.{man, pin, sou, East, South, West, North, White, Green, Red, mans, pins, sous, orphanTiles}
 use Rattle.tile.specs.Renaming.{ren}
 use Rattle.tile.proofs.Renamings.{renaming}
@@ -63,6 +63,10 @@ honor-tiles = tt
 -- ---- Winds and dragons
 pub wind-tiles : T (areJust isWind (East ∷ South ∷ West ∷ North ∷ []))
 wind-tiles = tt
+
+-- the winds of the seats that are not the dealer's
+pub after-east-tiles : T (areJust isAfterEast (South ∷ West ∷ North ∷ []))
+after-east-tiles = tt
 
 pub dragon-tiles : T (areJust isDragon (White ∷ Green ∷ Red ∷ []))
 dragon-tiles = tt
@@ -125,25 +129,33 @@ one-sort t h = eqb→eq _ _ (at 34 (λ t. eqb (one (isSimple t) + (one (isTermin
 
 -- ---- Renamings
 -- man, pin and sou change places: man 3 becomes pin 3
-pub suits-move : ren (renaming PinSouMan false false) (man 3) ≡ pin 3
+pub suits-move : ren (renaming Bca false false Abc) (man 3) ≡ pin 3
 suits-move = refl
 
 -- mirrored, 3 becomes 7
-pub mirror-3 : ren (renaming ManPinSou true false) (sou 3) ≡ sou 7
+pub mirror-3 : ren (renaming Abc true false Abc) (sou 3) ≡ sou 7
 mirror-3 = refl
 
 -- 5 stays the middle
-pub mirror-5 : ren (renaming ManSouPin true false) (pin 5) ≡ sou 5
+pub mirror-5 : ren (renaming Acb true false Abc) (pin 5) ≡ sou 5
 mirror-5 = refl
 
 -- White becomes Red
-pub white-red : ren (renaming ManPinSou false true) White ≡ Red
+pub white-red : ren (renaming Abc false true Abc) White ≡ Red
 white-red = refl
 
 -- Green stays
-pub green-stays : ren (renaming PinSouMan true true) Green ≡ Green
+pub green-stays : ren (renaming Bca true true Bca) Green ≡ Green
 green-stays = refl
 
+-- South, West and North change places: South becomes West, West North, North South
+pub winds-move : map (ren (renaming Abc false false Bca)) (South ∷ West ∷ North ∷ []) ≡ West ∷ North ∷ South ∷ []
+winds-move = refl
+
+-- South and North change places, West stays
+pub two-winds : map (ren (renaming Abc false false Cba)) (South ∷ West ∷ North ∷ []) ≡ North ∷ West ∷ South ∷ []
+two-winds = refl
+
 -- East stays
-pub east-stays : ren (renaming PinSouMan true true) East ≡ East
+pub east-stays : ren (renaming Bca true true Bca) East ≡ East
 east-stays = refl

@@ -1,3 +1,4 @@
+pub mod Orders
 pub mod Renamings
 pub mod Described
 pub mod Tiles

@@ -18,6 +18,10 @@ isHonor t = leb 27 t && ltb t 34
 abbrev pub isWind : ℕ → Bool
 isWind t = leb 27 t && ltb t 31
 
+-- South, West, North: the winds of the seats that are not the dealer's
+abbrev pub isAfterEast : ℕ → Bool
+isAfterEast t = leb 28 t && ltb t 31
+
 -- White, Green, Red
 abbrev pub isDragon : ℕ → Bool
 isDragon t = leb 31 t && ltb t 34

@@ -3,7 +3,7 @@
 // And renamings of tiles, a term of the scope paper: one rule for all 34 tiles, under which a hand keeps its worth.
 ghost use mathlib.Core.Path.{_≡_};
 ghost use Rattle.tile.specs.Tile.{isSuited, isSimple, isTerminal, isTerminalOrHonor, isHonor, isDragon, isWind, isGreen, isStart, suitOf, valueOf};
-ghost use Rattle.tile.specs.Renaming.{three, suitTo, renNumber, renHonor, ren};
+ghost use Rattle.tile.specs.Renaming.{three, orderTo, windTo, renNumber, renHonor, ren};
 
 pub struct Tile(pub u8);
 
@@ -100,54 +100,55 @@ impl Tile {
     }
 }
 
-// The suits that man, pin and sou become, in this order.
-pub enum Suits {
-    ManPinSou,
-    ManSouPin,
-    PinManSou,
-    PinSouMan,
-    SouManPin,
-    SouPinMan,
+// How three change places: man, pin and sou, or South, West and North. A name says what the three, a, b and c, become.
+pub enum Order {
+    Abc,
+    Acb,
+    Bac,
+    Bca,
+    Cab,
+    Cba,
 }
 
-// One of three numbers, by a suit.
-fn one_of(suit: u8, man: u8, pin: u8, sou: u8) -> u8
-    ensures { λ r. ⌜ r ≡ three man pin sou suit ⌝ }
+// One of three numbers, by its place.
+fn one_of(place: u8, a: u8, b: u8, c: u8) -> u8
+    ensures { λ r. ⌜ r ≡ three a b c place ⌝ }
 {
-    if suit == 0 {
-        return man;
+    if place == 0 {
+        return a;
     }
-    if suit == 1 {
-        return pin;
+    if place == 1 {
+        return b;
     }
-    sou
+    c
 }
 
-impl Suits {
-    // The suit that a suit becomes.
-    pub fn of(self, suit: u8) -> u8
-        ensures { λ r. ⌜ r ≡ suitTo self suit ⌝ }
+impl Order {
+    // The place, 0 to 2, that a place becomes.
+    pub fn of(self, place: u8) -> u8
+        ensures { λ r. ⌜ r ≡ orderTo self place ⌝ }
     {
         match self {
-            Suits::ManPinSou => one_of(suit, 0, 1, 2),
-            Suits::ManSouPin => one_of(suit, 0, 2, 1),
-            Suits::PinManSou => one_of(suit, 1, 0, 2),
-            Suits::PinSouMan => one_of(suit, 1, 2, 0),
-            Suits::SouManPin => one_of(suit, 2, 0, 1),
-            Suits::SouPinMan => one_of(suit, 2, 1, 0),
+            Order::Abc => one_of(place, 0, 1, 2),
+            Order::Acb => one_of(place, 0, 2, 1),
+            Order::Bac => one_of(place, 1, 0, 2),
+            Order::Bca => one_of(place, 1, 2, 0),
+            Order::Cab => one_of(place, 2, 0, 1),
+            Order::Cba => one_of(place, 2, 1, 0),
         }
     }
 }
 
 // A renaming's part for the suits: each suit goes to a suit, and all numbers n stay or all become 10 - n.
 pub struct Numbers {
-    pub suits: Suits,
+    pub suits: Order,
     pub mirror: bool,
 }
 
-// A renaming's part for the honors: White and Red stay or change places.
+// A renaming's part for the honors: White and Red stay or change places, and South, West and North change places in any way.
 pub struct Honors {
     pub dragons: bool,
+    pub winds: Order,
 }
 
 // A renaming, in two parts that do not depend on each other.
@@ -177,6 +178,10 @@ impl Honors {
     {
         if self.dragons & ((t == 31) | (t == 33)) {
             return 64 - t;
+        }
+        if (28 <= t) & (t < 31) {
+            let winds = self.winds;
+            return 28 + winds.of(t - 28);
         }
         t
     }

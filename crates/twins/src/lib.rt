@@ -2,7 +2,7 @@
 ghost use mathlib.Core.Path.{_≡_};
 ghost use mathlib.Core.Bool.{true};
 ghost use Prim.Native.Nat.{_<_};
-ghost use Rattle.tile.specs.Renaming.{ren, suitsBack, back};
+ghost use Rattle.tile.specs.Renaming.{ren, orderBack, back};
 ghost use Rattle.context.specs.Context.{renWin};
 ghost use Rattle.hand.specs.Counts.{held};
 ghost use Rattle.renamed.specs.Renamed.{renCounts};
@@ -10,17 +10,17 @@ ghost use Rattle.win.specs.Win.{winCheck, scoreWin};
 ghost use Rattle.agreement.specs.Agreement.{NotGreen, Comparable};
 ghost use Rattle.twins.specs.Twins.{renCalls, levelNumber, kindOf, firstAmount, secondAmount, agrees};
 
-// The suits that undo a change of suits.
-fn suits_back(s: tile::Suits) -> tile::Suits
-    ensures { λ r. ⌜ r ≡ suitsBack s ⌝ }
+// The order that undoes a change of places.
+fn order_back(order: tile::Order) -> tile::Order
+    ensures { λ r. ⌜ r ≡ orderBack order ⌝ }
 {
-    match s {
-        tile::Suits::ManPinSou => tile::Suits::ManPinSou,
-        tile::Suits::ManSouPin => tile::Suits::ManSouPin,
-        tile::Suits::PinManSou => tile::Suits::PinManSou,
-        tile::Suits::PinSouMan => tile::Suits::SouManPin,
-        tile::Suits::SouManPin => tile::Suits::PinSouMan,
-        tile::Suits::SouPinMan => tile::Suits::SouPinMan,
+    match order {
+        tile::Order::Abc => tile::Order::Abc,
+        tile::Order::Acb => tile::Order::Acb,
+        tile::Order::Bac => tile::Order::Bac,
+        tile::Order::Bca => tile::Order::Cab,
+        tile::Order::Cab => tile::Order::Bca,
+        tile::Order::Cba => tile::Order::Cba,
     }
 }
 
@@ -31,12 +31,16 @@ fn back(by: tile::Renaming) -> tile::Renaming
     let numbers = by.numbers;
     let suits = numbers.suits;
     let honors = by.honors;
+    let winds = honors.winds;
     tile::Renaming {
         numbers: tile::Numbers {
-            suits: suits_back(suits),
+            suits: order_back(suits),
             mirror: numbers.mirror,
         },
-        honors: honors,
+        honors: tile::Honors {
+            dragons: honors.dragons,
+            winds: order_back(winds),
+        },
     }
 }
 

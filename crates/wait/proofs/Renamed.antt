@@ -1,25 +1,22 @@
 -- What a tile completes stays when it and the meld are renamed: a wait is the same from either side, in each suit. Assumes nothing.
 use mathlib.Core.Path.{_≡_, sym, subst}
-use mathlib.Core.Bool.{Bool, _&&_, Bool·beq}
+use mathlib.Core.Bool.{Bool, _&&_}
 use Prim.Native.Nat.{ℕ, _<_}
 use lib.Dec.{T, eqb, ltb, leb, eqb→eq}
-use Rattle.lists.proofs.Finite.{beq→eq, and-cong}
+use Rattle.lists.proofs.Finite.{and-cong}
 use Rattle.tile.specs.declared.Renaming.{Renaming}
 use Rattle.tile.specs.Renaming.{ren}
 use Rattle.meld.specs.declared.Meld.{Meld}
 use Rattle.meld.specs.Meld.{isMeld, isTripletOrKan}
 use Rattle.meld.specs.Renamed.{renMeld}
-use Rattle.meld.proofs.Renamed.{meld-tile-at, onMelds, set-eqb}
+use Rattle.meld.proofs.Renamed.{meld-tile-law, onMelds, set-eqb}
 use Rattle.wait.specs.Wait.{within, twoSided, edge, middle, closedRun, closedTriplet}
 
 -- ---- a tile and a closed sequence, each law by a test
 closed-law :
-    (p : ℕ → ℕ → Bool) → T (onMelds (λ m. eqb (m .kind) 0) (λ ρ m t. Bool·beq (p (ren ρ t) (renMeld ρ m .tile)) (p t (m .tile))))
+    (p : ℕ → ℕ → Bool) → T (onMelds (λ k. eqb k 0) (λ t m. p t (m .tile)))
     → (ρ : Renaming) (t : ℕ) → t < 34 → (m : Meld) → T (isMeld m) → closedRun p (ren ρ t) (renMeld ρ m) ≡ closedRun p t m
-closed-law p ok ρ t h m v =
-    and-cong (eqb (m .kind) 0)
-    (λ i. beq→eq _ _
-    (meld-tile-at (λ m. eqb (m .kind) 0) (λ ρ m t. Bool·beq (p (ren ρ t) (renMeld ρ m .tile)) (p t (m .tile))) ok ρ m v i t h))
+closed-law p ok ρ t h m v = and-cong (eqb (m .kind) 0) (λ i. meld-tile-law (λ k. eqb k 0) (λ t m. p t (m .tile)) ok ρ m v i t h)
 
 -- how a question of a tile and a meld moves
 abbrev TileStays : (ℕ → Meld → Bool) → Type 0

@@ -1,8 +1,8 @@
--- `Suits::of` meets its contract: at each variant, what `one_of` ensures.
+-- `Order::of` meets its contract: at each variant, what `one_of` ensures.
 -- Assumes nothing.
 use borrow.Author.Needs.{needs}
-use Rattle.tile.proofs.Suits.of.Statement.{statement}
-use Rattle.tile.proofs.Suits.of.Tie as tie
+use Rattle.tile.proofs.Order.of.Statement.{statement}
+use Rattle.tile.proofs.Order.of.Tie as tie
 
 enum-told : tie.Need-enum-told
 enum-told c = search needs
