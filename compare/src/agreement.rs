@@ -32,7 +32,7 @@ pub enum Class {
     Plain,
     /// Indicators, even ura indicators that do not count, and an exchange of suits: everything agrees.
     Suits,
-    /// Indicators and another renaming: listings and waits agree, scores need not.
+    /// Indicators and another renaming, of winds too: listings and waits agree, scores need not.
     Others,
     /// The first is refused with 14: so is the second, under every renaming, and the listings agree.
     Bad,
@@ -318,6 +318,11 @@ mod tests {
         assert_eq!(shown_differ(dragons, &[31], 20), ([false; 6], [false; 6]));
         assert_eq!(shown_differ(dragons, &[31], 1), (scores, [false; 6]));
         assert_eq!(shown_differ(dragons, &[], 1), ([false; 6], [false; 6]));
+        // South shows West. With South and West exchanged, West shows North, and there are three of South.
+        let winds = "123m55678s333z555z";
+        assert_eq!(shown_differ(winds, &[28], 20), ([false; 6], [false; 6]));
+        assert_eq!(shown_differ(winds, &[28], 24 * 2), (scores, [false; 6]));
+        assert_eq!(shown_differ(winds, &[], 24 * 2), ([false; 6], [false; 6]));
     }
 
     #[test]

@@ -38,4 +38,5 @@ pub mod win_checker;
 pub mod win_damage;
 pub mod win_oracle;
 pub mod win_tally;
+pub mod wind_corners;
 pub mod wins;

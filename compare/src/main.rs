@@ -9,7 +9,7 @@ const USAGE: &str = "usage: compare readings [--seed N] [--random N] [--suit] [-
        compare points
        compare scores [--seed N] [--wins N]
        compare wins [--seed N] [--random N] [--suit] [--orphans] [--double-winds [N]] [--dora [N]]
-       compare twins [--seed N] [--random N]";
+       compare twins [--seed N] [--random N] [--winds [N]]";
 const SEED: u64 = 1;
 const RANDOM_HANDS: u64 = 5_000_000;
 const MIXED_SECONDS: u64 = 600;
@@ -18,6 +18,7 @@ const RANDOM_WINS: u64 = 7_000_000;
 const DOUBLE_WINDS: u64 = 2_000_000;
 const DORA_WINS: u64 = 20_000_000;
 const RANDOM_TWINS: u64 = 1_000_000;
+const WIND_TWINS: u64 = 4_000_000;
 
 fn main() -> ExitCode {
     arguments::run(USAGE, |words| {
@@ -94,9 +95,18 @@ fn compare_wins(words: &[&str]) -> Option<u64> {
     Some(scored_wins::compare(&options))
 }
 
+/// Where no class is named, both are compared.
 fn compare_twins(words: &[&str]) -> Option<u64> {
-    let given = Options::read(words, &["--seed", "--random"], &[])?;
-    let seed = given.number("--seed").unwrap_or(SEED);
-    let wins = given.number("--random").unwrap_or(RANDOM_TWINS);
-    Some(twins::compare(seed, wins))
+    let usual = [("--winds", WIND_TWINS)];
+    let given = Options::read_with(words, &["--seed", "--random"], &[], &usual)?;
+    let mut options = twins::Options {
+        seed: given.number("--seed").unwrap_or(SEED),
+        random: given.number("--random"),
+        winds: given.number("--winds"),
+    };
+    if options.random.or(options.winds).is_none() {
+        options.random = Some(RANDOM_TWINS);
+        options.winds = Some(WIND_TWINS);
+    }
+    Some(twins::compare(&options))
 }

@@ -1,13 +1,17 @@
-//! Renamings of tiles, and with them of hands, wins and records, as the scope paper defines them.
+//! Renamings of tiles, and with them of hands, wins and records, as the scope paper and document 02 define
+//! them.
 
 use crate::agari::Record;
 use crate::hand::*;
 use crate::library::{Indicators, Meld, Win};
 use crate::probe::STANDARD;
 
+const SOUTH: u8 = 28;
+const WEST: u8 = 29;
+const NORTH: u8 = 30;
 const WHITE: u8 = 31;
 const RED: u8 = 33;
-/// What man, pin and sou become: no two the same.
+/// What each of three becomes, man, pin and sou or South, West and North: no two the same.
 const ORDERS: [[u8; 3]; 6] = [
     [0, 1, 2],
     [0, 2, 1],
@@ -26,43 +30,64 @@ pub struct Renaming {
     is_mirrored: bool,
     /// Whether White and Red change places.
     are_dragons_exchanged: bool,
+    /// What South, West and North become, as places among these three.
+    winds: [u8; 3],
 }
 
 impl Renaming {
     /// The number of renamings.
-    pub const ALL: usize = 4 * ORDERS.len();
+    pub const ALL: usize = Renaming::NO_WIND_MOVES * Renaming::ORDERS;
+    /// The number of those that leave the winds: they come first.
+    pub const NO_WIND_MOVES: usize = 4 * Renaming::ORDERS;
+    /// The number of orders of the suits, and of the winds.
+    pub const ORDERS: usize = ORDERS.len();
 
     /// The renaming with a number below that. The first leaves every tile as it is.
     pub fn numbered(number: usize) -> Renaming {
         Renaming {
-            suits: ORDERS[number / 4],
+            suits: ORDERS[number / 4 % Renaming::ORDERS],
             is_mirrored: number / 2 % 2 == 1,
             are_dragons_exchanged: number % 2 == 1,
+            winds: ORDERS[number / Renaming::NO_WIND_MOVES],
         }
     }
 
     /// The number of the renaming that does the same to the suits, and no more.
     pub fn suits_alone(number: usize) -> usize {
-        number / 4 * 4
+        number % Renaming::NO_WIND_MOVES / 4 * 4
     }
 
-    /// Whether it exchanges suits and no more: numbers and dragons stay as they are.
+    /// Whether it exchanges suits and no more: numbers, dragons and winds stay as they are.
     pub fn is_of_suits(&self) -> bool {
-        !self.is_mirrored && !self.are_dragons_exchanged
+        self.others() == [false; 3]
     }
 
-    /// Which of the other two it does: the mirror, and the exchange of dragons.
-    pub fn others(&self) -> [bool; 2] {
-        [self.is_mirrored, self.are_dragons_exchanged]
+    /// Which of the other three it does: the mirror, the exchange of dragons, and one of winds.
+    pub fn others(&self) -> [bool; 3] {
+        let do_winds_move = self.winds != ORDERS[0];
+        [self.is_mirrored, self.are_dragons_exchanged, do_winds_move]
+    }
+
+    /// Whether this wind becomes another.
+    pub fn moves_wind(&self, wind: u8) -> bool {
+        self.tile(wind) != wind
+    }
+
+    /// How many of South, West and North become another: none, two, or all three in a circle.
+    pub fn winds_moved(&self) -> usize {
+        (SOUTH..=NORTH)
+            .filter(|&wind| self.moves_wind(wind))
+            .count()
     }
 
     fn tile(&self, tile: u8) -> u8 {
         let (suit, place) = (tile / 9, tile % 9);
         match tile {
-            0..27 if self.is_mirrored => 9 * self.suits[usize::from(suit)] + 8 - place,
-            0..27 => 9 * self.suits[usize::from(suit)] + place,
+            0..=26 if self.is_mirrored => 9 * self.suits[usize::from(suit)] + 8 - place,
+            0..=26 => 9 * self.suits[usize::from(suit)] + place,
             WHITE if self.are_dragons_exchanged => RED,
             RED if self.are_dragons_exchanged => WHITE,
+            SOUTH | WEST | NORTH => SOUTH + self.winds[usize::from(tile - SOUTH)],
             _ => tile,
         }
     }
@@ -86,11 +111,13 @@ impl Renaming {
         renamed
     }
 
-    /// The same win by the renamed tile, in the same room, its indicators renamed too. One above 33 stays,
-    /// and so does what stands behind their counts.
+    /// The same win by the renamed tile with the renamed winds, in the same room, its indicators renamed
+    /// too. One above 33 stays, and so does what stands behind their counts.
     pub fn win(&self, win: &Win) -> Win {
         let renamed = Win {
             winning_tile: self.tile(win.winning_tile),
+            round_wind: self.tile(win.round_wind),
+            seat_wind: self.tile(win.seat_wind),
             ..*win
         };
         renamed.showing(win.indicators().map(|sort| self.indicators(sort)))
@@ -133,12 +160,13 @@ mod tests {
     }
 
     #[test]
-    fn renamings_are_24_and_no_two_tiles_become_the_same() {
+    fn renamings_are_144_and_no_two_tiles_become_the_same() {
         let all: HashSet<Vec<u8>> = (0..Renaming::ALL)
             .map(|number| renamed(&Renaming::numbered(number)))
             .collect();
-        assert_eq!(all.len(), 24);
+        assert_eq!(all.len(), 144);
         for mut tiles in all {
+            assert_eq!((tiles[27], tiles[32]), (27, 32));
             tiles.sort();
             assert!(tiles.into_iter().eq(0..KINDS as u8));
         }
@@ -165,6 +193,24 @@ mod tests {
             let renamed = renaming.win(&win.in_room(setting));
             assert_eq!((renamed.winning_tile, renamed.double_wind_fu), (9, setting));
         }
+    }
+
+    #[test]
+    fn winds_are_renamed_in_tiles_and_in_the_win() {
+        // South becomes West, West becomes North, North becomes South.
+        let renaming = Renaming::numbered(24 * 3);
+        assert_eq!(renaming.others(), [false, false, true]);
+        assert_eq!(renaming.winds_moved(), 3);
+        let winds = [27, 28, 29, 30].map(|wind| renaming.tile(wind));
+        assert_eq!(winds, [27, 29, 30, 28]);
+        for (round, seat) in [(27, 28), (29, 29), (30, 27)] {
+            let renamed = renaming.win(&Win::new(0, 30, round, seat));
+            assert_eq!(renamed.winning_tile, 28);
+            let winds = [round, seat].map(|wind| winds[usize::from(wind) - 27]);
+            assert_eq!([renamed.round_wind, renamed.seat_wind], winds);
+        }
+        // South and North change places.
+        assert_eq!(Renaming::numbered(24 * 5).winds_moved(), 2);
     }
 
     #[test]

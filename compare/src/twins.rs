@@ -10,6 +10,8 @@ use crate::rng::Rng;
 use crate::scored_wins::random_wins;
 use crate::win_oracle::ExpectedWin;
 use crate::win_tally::{SETTING_NAMES, count_each, counted, setting};
+use crate::wind_corners::WindCorners;
+use crate::wins;
 use std::fmt;
 use std::time::Instant;
 
@@ -23,26 +25,59 @@ const CLASSES: [&str; Class::ALL] = [
     "indicators, other renaming",
     "refused with 14",
 ];
-/// What another renaming than an exchange of suits does.
-const OTHERS: [&str; 3] = ["mirror", "dragons exchanged", "both"];
+/// What another renaming than an exchange of suits does: the place of a mixture is the sum of 1 for the
+/// mirror, 2 for the dragons and 4 for the winds, less 1.
+const OTHERS: [&str; 7] = [
+    "mirror",
+    "dragons",
+    "mirror and dragons",
+    "winds",
+    "mirror and winds",
+    "dragons and winds",
+    "all three",
+];
 
-/// Compares so many random wins, each with one of the renamings by turns, and answers the number of
-/// pairs that differ in what is promised.
-pub fn compare(seed: u64, wins: u64) -> u64 {
-    println!("random wins and the same wins renamed, seed {seed}");
+/// What to compare: so many wins of each class that is named.
+pub struct Options {
+    pub seed: u64,
+    pub random: Option<u64>,
+    pub winds: Option<u64>,
+}
+
+/// Compares the classes that are asked for, each win with one of the renamings by turns, and answers the
+/// number of pairs that differ in what is promised.
+pub fn compare(options: &Options) -> u64 {
+    let seed = options.seed;
+    let mut differ = 0;
+    if let Some(wins) = options.random {
+        println!("random wins and the same wins renamed, seed {seed}");
+        differ += compare_class(seed, wins, random_wins);
+    }
+    if let Some(wins) = options.winds {
+        println!("wins dealt for winds and the same wins renamed, seed {seed}");
+        differ += compare_class(seed, wins, |rng, _| {
+            let (hand, win) = wins::windy(rng);
+            (hand, vec![win])
+        });
+    }
+    differ
+}
+
+/// Compares so many wins that are dealt so, prints the tally, and answers how many pairs differ.
+fn compare_class(seed: u64, wins: u64, deal: impl Fn(&mut Rng, u64) -> (Hand, Vec<Win>)) -> u64 {
     let start = Instant::now();
     let mut rng = Rng::new(!seed);
     let mut checker = TwinChecker::new(seed);
     let mut left = wins;
     while left > 0 {
-        let (hand, wins) = random_wins(&mut rng, left);
+        let (hand, wins) = deal(&mut rng, left);
         for win in &wins {
             checker.check(&hand, win);
         }
         left -= wins.len() as u64;
     }
     let seconds = start.elapsed().as_secs_f64();
-    println!("{}  {seconds:.1} s", checker.tally);
+    println!("{}  {seconds:.1} s\n", checker.tally);
     checker.tally.differ
 }
 
@@ -123,9 +158,10 @@ struct TwinTally {
     green: [u64; 2],
     /// Those of them that differ.
     green_differ: [u64; 2],
-    /// The other pairs by class, by renaming, and by readings, five or more together.
+    /// The other pairs by class, by renaming, those of one order of the winds together, and by readings,
+    /// five or more together.
     classes: [u64; Class::ALL],
-    renamings: [u64; Renaming::ALL],
+    renamings: [[u64; Renaming::NO_WIND_MOVES]; Renaming::ORDERS],
     readings: [u64; 6],
     /// The same by setting, which both wins share, and by the answer to the first scored win.
     settings: [u64; SETTINGS.len()],
@@ -136,6 +172,8 @@ struct TwinTally {
     /// is not promised otherwise.
     others: [u64; OTHERS.len()],
     others_differ: [u64; OTHERS.len()],
+    /// What was seen of the winds where they move, no indicator is shown, and so everything has to agree.
+    winds: WindCorners,
     /// Those that differ in what is promised, all together and part by part.
     differ: u64,
     parts: [u64; PARTS.len()],
@@ -149,7 +187,8 @@ impl TwinTally {
 
     fn count(&mut self, renaming: usize, twins: &Twins, outcome: &Outcome) {
         self.classes[twins.class as usize] += 1;
-        self.renamings[renaming] += 1;
+        let no_wind_moves = Renaming::NO_WIND_MOVES;
+        self.renamings[renaming / no_wind_moves][renaming % no_wind_moves] += 1;
         self.settings[setting(&twins.wins[0])] += 1;
         self.readings[outcome.readings.min(5)] += 1;
         let number = outcome.scores[0].number as usize;
@@ -157,21 +196,26 @@ impl TwinTally {
             self.answers[place] += 1;
         }
         self.too_short += u64::from(outcome.is_too_short);
-        if twins.class == Class::Others {
-            self.count_other(twins, outcome);
+        match twins.class {
+            Class::Plain => self.count_winds(twins, outcome),
+            Class::Others => self.count_other(twins, outcome),
+            Class::Suits | Class::Bad => (),
         }
         let broken = outcome.broken(twins.class);
         self.differ += u64::from(broken.contains(&true));
         count_each(&mut self.parts, broken);
     }
 
+    /// Counts what stands for winds in a pair without indicators.
+    fn count_winds(&mut self, twins: &Twins, outcome: &Outcome) {
+        let (hand, win, score) = (&twins.hands[0], &twins.wins[0], &outcome.scores[0]);
+        self.winds.count(hand, win, score, &twins.renaming);
+    }
+
     /// Counts a pair with indicators whose renaming does more than exchange suits.
     fn count_other(&mut self, twins: &Twins, outcome: &Outcome) {
-        let place = match twins.renaming.others() {
-            [true, true] => 2,
-            [false, _] => 1,
-            [true, false] => 0,
-        };
+        let [mirror, dragons, winds] = twins.renaming.others().map(usize::from);
+        let place = mirror + 2 * dragons + 4 * winds - 1;
         self.others[place] += 1;
         self.others_differ[place] += u64::from(outcome.differ.contains(&true));
     }
@@ -179,7 +223,7 @@ impl TwinTally {
 
 impl fmt::Display for TwinTally {
     fn fmt(&self, f: &mut fmt::Formatter) -> fmt::Result {
-        let renamings = self.renamings.iter();
+        let renamings = self.renamings.iter().flatten();
         let occurred = renamings.clone().filter(|&&pairs| pairs > 0).count();
         let rarest = renamings.clone().min().unwrap_or(&0);
         let pairs: u64 = renamings.sum();
@@ -210,6 +254,7 @@ impl fmt::Display for TwinTally {
             f,
             "    of which scores differ, as they may: {others_differ}"
         )?;
+        write!(f, "{}", self.winds)?;
         writeln!(f, "  differ: {} ({parts})", self.differ)
     }
 }
@@ -222,7 +267,7 @@ mod tests {
     fn pairs_of_every_class_are_compared_and_none_differs() {
         let mut rng = Rng::new(3);
         let mut checker = TwinChecker::new(3);
-        for _ in 0..4000 {
+        for _ in 0..12_000 {
             let (hand, wins) = random_wins(&mut rng, 1);
             checker.check(&hand, &wins[0]);
         }
@@ -233,5 +278,19 @@ mod tests {
             tally.others_differ.iter().all(|&pairs| pairs > 2),
             "{tally}"
         );
+    }
+
+    #[test]
+    fn wins_dealt_for_winds_meet_every_corner_and_none_differs() {
+        let mut rng = Rng::new(5);
+        let mut checker = TwinChecker::new(5);
+        for _ in 0..12_000 {
+            let (hand, win) = wins::windy(&mut rng);
+            checker.check(&hand, &win);
+        }
+        let tally = checker.tally;
+        assert_eq!(tally.differ, 0, "{tally}");
+        assert!(tally.winds.are_all_above(100), "{tally}");
+        assert!(tally.others_differ[3] > 100, "{tally}");
     }
 }

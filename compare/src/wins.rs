@@ -3,7 +3,7 @@
 
 use crate::hand::*;
 use crate::indicators;
-use crate::library::{Meld, RON, SETTINGS, TSUMO, Win};
+use crate::library::{Indicators, Meld, RON, SETTINGS, TSUMO, Win};
 use crate::random::{self, ORPHANS, Pool, Style, add_meld, at_most_four};
 use crate::rng::Rng;
 
@@ -95,6 +95,11 @@ fn gates_shape(rng: &mut Rng, first: u8) -> Shape {
 
 /// A hand of a shape, some of its melds called.
 fn shaped(rng: &mut Rng) -> Hand {
+    shaped_as(rng, shape)
+}
+
+/// A hand of a shape that is drawn so, some of its melds called.
+fn shaped_as(rng: &mut Rng, shape: fn(&mut Rng) -> Shape) -> Hand {
     loop {
         let shape = shape(rng);
         let hand = laid_out(rng, &shape);
@@ -353,6 +358,60 @@ pub fn double_wind(rng: &mut Rng) -> (Hand, Win) {
         ..win(rng, &hand, tile)
     };
     (hand, win)
+}
+
+/// A win of a hand in which winds stand, most often as round or seat wind or both, and on a wind now and
+/// then; in any other circumstances, three of four without indicators.
+pub fn windy(rng: &mut Rng) -> (Hand, Win) {
+    let hand = hand_with_winds(rng);
+    let held = held_tiles(&hand);
+    let winds: Vec<u8> = held
+        .iter()
+        .copied()
+        .filter(|tile| WINDS.contains(tile))
+        .collect();
+    let tile = match winds.is_empty() || rng.percent(60) {
+        true => rng.pick(&held),
+        false => rng.pick(&winds),
+    };
+    let mut win = win(rng, &hand, tile);
+    if rng.percent(40) {
+        win.seat_wind = win.round_wind;
+    }
+    if rng.percent(50) {
+        win = win.showing([Indicators::default(); 2]);
+    }
+    (hand, win)
+}
+
+/// A hand with pairs, triplets or calls of winds, or with all of them single.
+fn hand_with_winds(rng: &mut Rng) -> Hand {
+    match rng.share(&[30, 45, 15, 7, 3]) {
+        0 => shaped_as(rng, winds),
+        1 => shaped_as(rng, some_winds),
+        2 => {
+            let wind = rng.pick(&WINDS);
+            hand_with_pair(rng, wind)
+        }
+        3 => {
+            let pool = rng.pick(&[Pool::of(&HONOURS), Pool::of(&ORPHANS)]);
+            random::distinct_pairs(rng, pool)
+        }
+        _ => random::orphans(rng),
+    }
+}
+
+/// A triplet of one or two winds, any melds beside them, and most often a pair of a wind.
+fn some_winds(rng: &mut Rng) -> Shape {
+    let number = 1 + rng.below(2);
+    let melds = (0..number).map(|_| triplet(rng.pick(&WINDS))).collect();
+    let suit = rng.below(3);
+    let pool = rng.pick(&[Pool::all(), Pool::suit(suit), Pool::suit_and_honours(suit)]);
+    let mut shape = completed(rng, melds, pool, 60);
+    if rng.percent(60) {
+        shape.pair = rng.pick(&WINDS);
+    }
+    shape
 }
 
 /// A wind: in half the cases one that hand or calls hold, where they hold any.
