@@ -228,7 +228,7 @@ winds-condition-needed = (
   differ windsChanged withWest southShown 3 1 refl (winds-han .0) (winds-han .1) (λ e. omega arith),
 )
 
--- ---- East could not join: were East and South to change places, a dealer's win would be worth no more than another's
+-- ---- East could not join: with East and South exchanged a dealer's win becomes another's, which pays less
 abbrev eastSouth : ℕ → ℕ
 eastSouth t = cond (eqb t East) South (cond (eqb t South) East t)
 

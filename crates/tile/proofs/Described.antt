@@ -1,4 +1,4 @@
--- The renamings are those of the scope paper: one for each one-to-one choice of suits and of South, West and North, mirrored or not, with White and
+-- The renamings are those of the papers: one for each one-to-one choice of suits and of South, West and North, mirrored or not, with White and
 -- Red exchanged or not. Assumes nothing.
 use mathlib.Core.Path.{_≡_, refl, sym, ap, subst, _∙_}
 use mathlib.Core.Bool.{Bool, true, false, _&&_, _||_, not, cond}

@@ -172,7 +172,7 @@ impl Numbers {
 }
 
 impl Honors {
-    // The tile number that an honor becomes.
+    // The tile number that an honor becomes: White (31) and Red (33), or South to North (28 to 30); any other stays.
     pub fn of(self, t: u8) -> u8
         ensures { λ r. ⌜ r ≡ renHonor self t ⌝ }
     {
