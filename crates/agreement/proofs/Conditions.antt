@@ -2,22 +2,22 @@
 -- dragons and an exchange of winds turn it to another tile than the dora. And why East stays: its seat is the dealer's. Computed. Assumes nothing.
 use mathlib.Core.Path.{_≡_, refl, sym, _∙_}
 use mathlib.Core.Bool.{true, false, cond}
-use mathlib.Core.List.{List, [], _∷_, _++_}
-use Prim.Native.Nat.{ℕ, _<_}
+use mathlib.Core.List.{List, [], _∷_, map}
+use Prim.Native.Nat.{ℕ}
 use native.Mathlib.Omega.{arith}
-use lib.Dec.{T, eqb, eqb→eq}
-use lib.ListN.{length, replicate}
-use Rattle.lists.proofs.Finite.{at}
-use Rattle.tile.specs.Named.{man, pin, mans, pins, sous, East, South, West, White, Green}
+use lib.Dec.{T, eqb}
+use lib.ListN.{length}
+use Rattle.tile.specs.Named.{man, pin, sou, sous, East, South, West, White, Green}
 use Rattle.tile.specs.declared.Order.the-variants.{Abc, Bac, Cba}
 use Rattle.tile.specs.declared.Renaming.{Renaming}
 use Rattle.tile.specs.Renaming.{allStay}
 use Rattle.tile.proofs.Renamings.{renaming}
-use Rattle.meld.specs.Meld.{meld}
+use Rattle.meld.specs.declared.Meld.{Meld}
+use Rattle.meld.specs.Named.{chi, pon}
+use Rattle.meld.specs.Renamed.{renMeld}
 use Rattle.context.specs.declared.GameContext.{GameContext}
 use Rattle.context.specs.Context.{renWin}
 use Rattle.context.specs.Named.{byRon, win, plain, showing}
-use Rattle.hand.specs.Counts.{held}
 use Rattle.hand.specs.Named.{hand}
 use Rattle.hand.specs.Readings.{meldLists, standardsAt, sevenPairs, thirteenOrphans, readings}
 use Rattle.wait.specs.Wait.{pinfu}
@@ -35,7 +35,8 @@ use Rattle.scoring.specs.Level.{level, basicPoints}
 use Rattle.scoring.specs.Payment.{payment, totalAt}
 use Rattle.renamed.specs.Renamed.{renCounts}
 use Rattle.checks.specs.declared.Calls.{Calls}
-use Rattle.checks.specs.Checks.{check, handCheck}
+use Rattle.checks.specs.Checks.{called, together, check, handCheck}
+use Rattle.lent.specs.Lent.{callsOf}
 use Rattle.unit.specs.Listing.{handReadings}
 use Rattle.reading_score.specs.Score.{result, scoreOf, rank}
 use Rattle.choice.specs.declared.ScoreAnswer.{ScoreAnswer}
@@ -43,6 +44,7 @@ use Rattle.choice.specs.Choice.{chooseBy, choice}
 use Rattle.win.specs.Win.{orThen, winCheck, scoreIn, scores, scoreWin}
 use Rattle.agreement.specs.Agreement.{RenamedCalls, RenamedWin, NotGreen, Comparable, no-indicator}
 use Rattle.agreement.proofs.Indicators.{renamed-win}
+use Rattle.agreement.proofs.Lent.{lent-renamed}
 
 -- man and sou change places
 abbrev swap : Renaming
@@ -52,8 +54,12 @@ swap = renaming Cba false false Abc
 abbrev green : List ℕ
 green = 0 ∷ 0 ∷ 0 ∷ 0 ∷ 0 ∷ 0 ∷ 0 ∷ 0 ∷ 0 ∷ 0 ∷ 0 ∷ 0 ∷ 0 ∷ 0 ∷ 0 ∷ 0 ∷ 0 ∷ 0 ∷ 0 ∷ 2 ∷ 2 ∷ 2 ∷ 0 ∷ 3 ∷ 0 ∷ 3 ∷ 0 ∷ 0 ∷ 0 ∷ 0 ∷ 0 ∷ 0 ∷ 2 ∷ 0 ∷ []
 
+-- a hand with the calls ms, and the same calls renamed
 abbrev none : Calls
-none = record { count = 0; melds = replicate 4 (meld 0 0) }
+none = callsOf []
+
+abbrev renamedBy : Renaming → List Meld → Calls
+renamedBy ρ ms = callsOf (map (renMeld ρ) ms)
 
 -- ron on sou 2, round East, seat South
 abbrev ron : GameContext
@@ -81,16 +87,16 @@ pub record Differ (ρ : Renaming) (cs : List ℕ) (k j : Calls) (w v : GameConte
   pub passes : winCheck cs k w ≡ 0
   pub han : scoreWin (renCounts ρ cs) j v .score .han ≡ scoreWin cs k w .score .han → ⊥
 
--- so it is of a hand without calls whose han, n and m, differ
+-- so it is of a hand whose han, n and m, differ
 differ :
-    (ρ : Renaming) (cs : List ℕ) (w : GameContext) (n m : ℕ) → winCheck cs none w ≡ 0 → hanOfWin cs none w ≡ n
-    → hanOfWin (renCounts ρ cs) none (renWin ρ w) ≡ m → (m ≡ n → ⊥) → Differ ρ cs none none w (renWin ρ w)
+    (ρ : Renaming) (cs : List ℕ) (ms : List Meld) (w : GameContext) (n m : ℕ) → winCheck cs (callsOf ms) w ≡ 0 → hanOfWin cs (callsOf ms) w ≡ n
+    → hanOfWin (renCounts ρ cs) (renamedBy ρ ms) (renWin ρ w) ≡ m → (m ≡ n → ⊥) → Differ ρ cs (callsOf ms) (renamedBy ρ ms) w (renWin ρ w)
 unfolding scoredWin
-differ ρ cs w n m passes first second apart =
+differ ρ cs ms w n m passes first second apart =
     record {
       four = refl;
       four′ = refl;
-      renamed = record { many = refl; calls = refl };
+      renamed = lent-renamed ρ ms;
       win = renamed-win ρ w;
       passes = passes;
       han = λ e. apart (sym second ∙ e ∙ first);
@@ -110,7 +116,7 @@ green-condition-needed = (
   renWin swap ron,
   tt,
   no-indicator (refl, refl),
-  differ swap green ron 13 4 refl (two-han .0) (two-han .1) (λ e. omega arith),
+  differ swap green [] ron 13 4 refl (two-han .0) (two-han .1) (λ e. omega arith),
 )
 
 -- and the other way round: the first hand is not all green, the second is
@@ -127,15 +133,18 @@ second-condition-needed = (
   renWin swap (renWin swap ron),
   tt,
   no-indicator (refl, refl),
-  differ swap (renCounts swap green) (renWin swap ron) 4 13 refl (two-han .1) (two-han .0) (λ e. omega arith),
+  differ swap (renCounts swap green) [] (renWin swap ron) 4 13 refl (two-han .1) (two-han .0) (λ e. omega arith),
 )
 
--- ---- an indicator is shown: 345 567 of man, 345 of pin, three Green and a pair of sou 8 or of West, won on pin 5 by ron
-abbrev withGreen : List ℕ
-withGreen = hand (mans 345567 ++ (pins 345 ++ (sous 88 ++ (Green ∷ Green ∷ Green ∷ []))))
+-- ---- an indicator is shown: 345 567 of man, 345 of pin and three Green are called, and a pair of sou 8 or of West is won by ron
+abbrev withGreen : List Meld
+withGreen = chi (man 3) ∷ chi (man 5) ∷ chi (pin 3) ∷ pon Green ∷ []
 
-abbrev withWest : List ℕ
-withWest = hand (mans 345567 ++ (pins 345 ++ (West ∷ West ∷ Green ∷ Green ∷ Green ∷ [])))
+abbrev souPair : List ℕ
+souPair = hand (sous 88)
+
+abbrev westPair : List ℕ
+westPair = hand (West ∷ West ∷ [])
 
 -- all numbers n become 10 - n; White and Red change places; South and West change places
 abbrev mirrored : Renaming
@@ -149,25 +158,29 @@ windsChanged = renaming Abc false false Bac
 
 -- man 2 makes man 3 dora, of which there is one; mirrored, man 8 makes man 9 dora, and the hand's man 3 is its man 7
 abbrev manShown : GameContext
-manShown = showing (man 2 ∷ []) [] (plain 0 (pin 5))
+manShown = showing (man 2 ∷ []) [] (plain 0 (sou 8))
 
 -- White makes Green dora, of which there are three; exchanged, Red makes White dora, and Green stays Green
 abbrev whiteShown : GameContext
-whiteShown = showing (White ∷ []) [] (plain 0 (pin 5))
+whiteShown = showing (White ∷ []) [] (plain 0 (sou 8))
 
 -- South makes West dora, of which there are two; exchanged, West makes North dora, and the pair is South's
 abbrev southShown : GameContext
-southShown = showing (South ∷ []) [] (plain 0 (pin 5))
+southShown = showing (South ∷ []) [] (plain 0 West)
 
-mirror-han : (hanOfWin withGreen none manShown ≡ 2) × (hanOfWin (renCounts mirrored withGreen) none (renWin mirrored manShown) ≡ 1)
+-- the han of the win with these calls, and of the win renamed
+abbrev bothHan : Renaming → List ℕ → GameContext → ℕ → ℕ → Type 0
+bothHan ρ cs w n m = (hanOfWin cs (callsOf withGreen) w ≡ n) × (hanOfWin (renCounts ρ cs) (renamedBy ρ withGreen) (renWin ρ w) ≡ m)
+
+mirror-han : bothHan mirrored souPair manShown 2 1
 unfolding scoredWin
 mirror-han = (refl, refl)
 
-dragons-han : (hanOfWin withGreen none whiteShown ≡ 4) × (hanOfWin (renCounts dragonsChanged withGreen) none (renWin dragonsChanged whiteShown) ≡ 1)
+dragons-han : bothHan dragonsChanged souPair whiteShown 4 1
 unfolding scoredWin
 dragons-han = (refl, refl)
 
-winds-han : (hanOfWin withWest none southShown ≡ 3) × (hanOfWin (renCounts windsChanged withWest) none (renWin windsChanged southShown) ≡ 1)
+winds-han : bothHan windsChanged westPair southShown 3 1
 unfolding scoredWin
 winds-han = (refl, refl)
 
@@ -178,16 +191,16 @@ pub mirror-condition-needed :
 unfolding winCheck orThen check handCheck
 mirror-condition-needed = (
   mirrored,
-  withGreen,
-  none,
-  none,
+  souPair,
+  callsOf withGreen,
+  renamedBy mirrored withGreen,
   manShown,
   renWin mirrored manShown,
   tt,
   tt,
   refl,
   tt,
-  differ mirrored withGreen manShown 2 1 refl (mirror-han .0) (mirror-han .1) (λ e. omega arith),
+  differ mirrored souPair withGreen manShown 2 1 refl (mirror-han .0) (mirror-han .1) (λ e. omega arith),
 )
 
 -- nor without the second
@@ -197,16 +210,16 @@ pub dragons-condition-needed :
 unfolding winCheck orThen check handCheck
 dragons-condition-needed = (
   dragonsChanged,
-  withGreen,
-  none,
-  none,
+  souPair,
+  callsOf withGreen,
+  renamedBy dragonsChanged withGreen,
   whiteShown,
   renWin dragonsChanged whiteShown,
   tt,
   tt,
   refl,
   tt,
-  differ dragonsChanged withGreen whiteShown 4 1 refl (dragons-han .0) (dragons-han .1) (λ e. omega arith),
+  differ dragonsChanged souPair withGreen whiteShown 4 1 refl (dragons-han .0) (dragons-han .1) (λ e. omega arith),
 )
 
 -- nor without the third
@@ -216,16 +229,16 @@ pub winds-condition-needed :
 unfolding winCheck orThen check handCheck
 winds-condition-needed = (
   windsChanged,
-  withWest,
-  none,
-  none,
+  westPair,
+  callsOf withGreen,
+  renamedBy windsChanged withGreen,
   southShown,
   renWin windsChanged southShown,
   tt,
   tt,
   refl,
   refl,
-  differ windsChanged withWest southShown 3 1 refl (winds-han .0) (winds-han .1) (λ e. omega arith),
+  differ windsChanged westPair withGreen southShown 3 1 refl (winds-han .0) (winds-han .1) (λ e. omega arith),
 )
 
 -- ---- East could not join: with East and South exchanged a dealer's win becomes another's, which pays less
@@ -237,25 +250,30 @@ abbrev totalOfWin : List ℕ → Calls → GameContext → ℕ
 totalOfWin cs k w = totalAt 4 (scoreWin cs k w .score .payment)
 
 -- the seat East in the round East, and the seat South in the round South
-east-total : (totalOfWin withGreen none (win byRon (pin 5) East East []) ≡ 2000) × (totalOfWin withGreen none (win byRon (pin 5) South South []) ≡ 1300)
+east-total :
+    (totalOfWin souPair (callsOf withGreen) (win byRon (sou 8) East East []) ≡ 1500)
+    × (totalOfWin souPair (callsOf withGreen) (win byRon (sou 8) South South []) ≡ 1000)
 unfolding scoredWin
 east-total = (refl, refl)
 
--- a hand that holds neither wind is the same hand after the exchange, and the two wins, which both pass, are paid differently
+-- a hand that with its calls holds neither wind is the same hand after the exchange, and the two wins, which both pass, are paid differently
 pub east-could-not-join :
-    (cs : List ℕ) × (t : ℕ) × (round : ℕ) × (seat : ℕ)
-    × ((u : ℕ) → u < 34 → held cs (eastSouth u) ≡ held cs u)
-    × NotGreen cs none
-    × (winCheck cs none (win byRon t round seat []) ≡ 0)
-    × (winCheck cs none (win byRon (eastSouth t) (eastSouth round) (eastSouth seat) []) ≡ 0)
-    × (totalOfWin cs none (win byRon (eastSouth t) (eastSouth round) (eastSouth seat) []) ≡ totalOfWin cs none (win byRon t round seat []) → ⊥)
+    (cs : List ℕ) × (k : Calls) × (t : ℕ) × (round : ℕ) × (seat : ℕ)
+    × (together cs (called k) East ≡ 0)
+    × (together cs (called k) South ≡ 0)
+    × NotGreen cs k
+    × (winCheck cs k (win byRon t round seat []) ≡ 0)
+    × (winCheck cs k (win byRon (eastSouth t) (eastSouth round) (eastSouth seat) []) ≡ 0)
+    × (totalOfWin cs k (win byRon (eastSouth t) (eastSouth round) (eastSouth seat) []) ≡ totalOfWin cs k (win byRon t round seat []) → ⊥)
 unfolding winCheck orThen check handCheck
 east-could-not-join = (
-  withGreen,
-  pin 5,
+  souPair,
+  callsOf withGreen,
+  sou 8,
   East,
   East,
-  λ u h. eqb→eq _ _ (at 34 (λ u. eqb (held withGreen (eastSouth u)) (held withGreen u)) tt u h),
+  refl,
+  refl,
   tt,
   refl,
   refl,

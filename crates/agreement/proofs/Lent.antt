@@ -14,7 +14,7 @@ use Rattle.agreement.specs.Agreement.{Alike, RenamedCalls, RenamedWin}
 use Rattle.agreement.proofs.Demand3.{demand3}
 
 -- the calls of the melds renamed are the calls renamed; of more than four, which are refused, the first four
-lent-renamed : (ρ : Renaming) (ms : List Meld) → RenamedCalls ρ (callsOf ms) (callsOf (map (renMeld ρ) ms))
+pub lent-renamed : (ρ : Renaming) (ms : List Meld) → RenamedCalls ρ (callsOf ms) (callsOf (map (renMeld ρ) ms))
 lent-renamed ρ ms = record { many = length-map ms (renMeld ρ); calls = first-four ms }
   where
     first-four : (ms : List Meld) → called (callsOf (map (renMeld ρ) ms)) ≡ map (renMeld ρ) (called (callsOf ms))
