@@ -1,4 +1,4 @@
--- What the laws of renamed hands ask of a renaming, and that the 24 renamings have it. Assumes nothing.
+-- What the laws of renamed hands ask of a renaming, and that every renaming has it. Assumes nothing.
 use mathlib.Core.Path.{_≡_, sym, ap, _∙_, subst}
 use mathlib.Core.Bool.{Bool}
 use mathlib.Core.List.{List, map, Memᴰ·cast, Memᴰ·map, Memᴰ·of-map, List·Permᴰ}
@@ -91,7 +91,7 @@ module _ {f f′ : ℕ → ℕ} {g g′ : Meld → Meld} (k : Keeps f f′ g g�
   pub sum-stays : (c d : ℕ → ℕ) → SameCounts f c d → sum d tiles ≡ sum c tiles
   sum-stays c d e = sum-over tiles-over c d (λ t h. e t (ltb→lt t 34 h))
 
--- ---- the 24 renamings
+-- ---- the renamings
 pub in-step : (ρ : Renaming) → InStep (ren ρ) (renMeld ρ)
 in-step ρ =
     record {

@@ -137,7 +137,7 @@ module _ {f f′ : ℕ → ℕ} {g g′ : Meld → Meld} (s : Keeps f f′ g g�
           standards-moved)
           (perm-eq (sym (map-append (changed f g) (uncalled k (sevenPairs c ++ thirteenOrphans c)) (flat (standardsAt c k) tiles))))
 
--- ---- the 24 renamings
+-- ---- the renamings
 pub readings-renamed :
     (ρ : Renaming) (c d : ℕ → ℕ) → ((t : ℕ) → t < 34 → d (ren ρ t) ≡ c t) → (k : List Meld) → T (all isMeld k)
     → List·Permᴰ (readings d (map (renMeld ρ) k)) (map (renReading ρ) (readings c k))
