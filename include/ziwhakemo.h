@@ -65,8 +65,13 @@ extern "C" {
  *       `regular_dora` and `ura_dora` behind `yakuman_count`, and its han are with dora. It is as
  *       long as it was, but `basic_points` to `from_discarder` stand four bytes further on. A caller
  *       that shows no indicator gets the answers of version 4.
+ *   6   Who a called tile came from. ziwhakemo_meld has the byte `source` behind `kind`, and is 3
+ *       bytes long instead of 2. A record of a pair and four melds has it in each meld, and is 17
+ *       bytes long instead of 13, so that ZIWHAKEMO_ALWAYS_ENOUGH is 1,915 instead of 1,467. Every
+ *       caller has to be compiled again, and one with calls has to set it: an open meld with 0 is
+ *       refused with 3. A caller that sets it gets the scores and waits of version 5.
  */
-#define ZIWHAKEMO_VERSION 5
+#define ZIWHAKEMO_VERSION 6
 
 /* The version of the archive. An archive of version 1 does not have this function. */
 uint32_t ziwhakemo_version(void);
@@ -107,10 +112,27 @@ enum {
     ZIWHAKEMO_MELD_ADDED_KAN = 6       /* shouminkan */
 };
 
+/* The sources of melds: who the called tile came from, in seats onward from the player who called it.
+ * With seats from 0 to 3 in the order of play that is (from + 4 - caller) % 4. A closed meld, of kind
+ * 0, 2 or 4, has the source 0. An open sequence has 3, as it is called from the left alone. Any other
+ * open meld has 1, 2 or 3; an added kan keeps that of its triplet. A call with another source than
+ * these is refused with 3.
+ *
+ * Two lists of calls that differ in sources alone, and both pass, have as many readings in as many
+ * bytes; reading n of the one is reading n of the other but for the sources; and scores and waits are
+ * alike in every field, the number of the reading too. */
+enum {
+    ZIWHAKEMO_FROM_NOBODY = 0, /* no tile was called */
+    ZIWHAKEMO_FROM_RIGHT = 1,  /* the next player, on the right: shimocha */
+    ZIWHAKEMO_FROM_ACROSS = 2, /* the player across: toimen */
+    ZIWHAKEMO_FROM_LEFT = 3    /* the player before, on the left: kamicha */
+};
+
 /* A meld. A sequence starts at 1 to 7 of a suit. */
 typedef struct ziwhakemo_meld {
-    uint8_t tile; /* the number of its lowest tile */
-    uint8_t kind; /* one of the kinds above */
+    uint8_t tile;   /* the number of its lowest tile */
+    uint8_t kind;   /* one of the kinds above */
+    uint8_t source; /* one of the sources above */
 } ziwhakemo_meld;
 
 /* ---- The win --------------------------------------------------------------------------------- */
@@ -179,7 +201,7 @@ enum {
     ZIWHAKEMO_ACCEPTED = 0,
     ZIWHAKEMO_REFUSED_COUNTS_LENGTH = 1,    /* the counts are not 34 long */
     ZIWHAKEMO_REFUSED_TOO_MANY_CALLS = 2,   /* more than four calls */
-    ZIWHAKEMO_REFUSED_NOT_A_CALL = 3,       /* a call's kind or tile is not that of a call */
+    ZIWHAKEMO_REFUSED_NOT_A_CALL = 3,       /* a call's kind, tile or source is not that of a call */
     ZIWHAKEMO_REFUSED_COUNT_ABOVE_FOUR = 4, /* a count above 4 */
     ZIWHAKEMO_REFUSED_FIVE_OF_A_KIND = 5,   /* hand and calls hold more than four of a kind */
     ZIWHAKEMO_REFUSED_NUMBER_OF_TILES = 6,  /* the hand's tiles are not 14 - 3 * calls */
@@ -201,10 +223,10 @@ enum {
  *
  *   bytes 0 and 1   the length of the whole record, the low byte first
  *   bytes 2 and 3   the kind of the record, the low byte first
- *   then, by kind   1 (length 11): seven tiles, ascending
- *                   2 (length 5): the tile that is there twice
- *                   3 (length 13): the pair's tile, then four melds of two bytes, tile and kind,
- *                   ascending by tile, then by kind
+ *   then, by kind   1: seven tiles, ascending
+ *                   2: the tile that is there twice
+ *                   3: the pair's tile, then four melds of three bytes, tile, kind and source as in
+ *                   ziwhakemo_meld, ascending by tile, then by kind, then by source
  *
  * Records ascend by kind, then by the bytes after the kind. Readings are numbered from 0 in this
  * order.
@@ -218,10 +240,10 @@ enum {
 /* The lengths of the records. */
 #define ZIWHAKEMO_SEVEN_PAIRS_LENGTH 11
 #define ZIWHAKEMO_ORPHANS_LENGTH 5
-#define ZIWHAKEMO_STANDARD_LENGTH 13
+#define ZIWHAKEMO_STANDARD_LENGTH 17
 
 /* A buffer of so many bytes holds the records of any hand. */
-#define ZIWHAKEMO_ALWAYS_ENOUGH 1467
+#define ZIWHAKEMO_ALWAYS_ENOUGH 1915
 
 typedef struct ziwhakemo_listing_answer {
     uint32_t number; /* 0, or the refusal */
@@ -424,7 +446,8 @@ ziwhakemo_waits_answer ziwhakemo_name_waits(const uint8_t *counts, size_t counts
 #define ZIWHAKEMO_FITS(type, size) typedef char type##_fits[sizeof(type) == (size) ? 1 : -1]
 #define ZIWHAKEMO_STANDS(type, field, place) \
     typedef char type##_##field##_stands[offsetof(type, field) == (place) ? 1 : -1]
-ZIWHAKEMO_FITS(ziwhakemo_meld, 2);
+ZIWHAKEMO_FITS(ziwhakemo_meld, 3);
+ZIWHAKEMO_STANDS(ziwhakemo_meld, source, 2);
 ZIWHAKEMO_FITS(ziwhakemo_indicators, 11);
 ZIWHAKEMO_STANDS(ziwhakemo_indicators, tiles, 1);
 ZIWHAKEMO_FITS(ziwhakemo_game_context, 35);

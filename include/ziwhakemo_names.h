@@ -110,7 +110,7 @@ static inline const char *ziwhakemo_number_meaning(uint32_t number) {
         "accepted",
         "the counts are not 34 long",
         "more than four calls",
-        "a call's kind or tile is not that of a call",
+        "a call's kind, tile or source is not that of a call",
         "a count above 4",
         "hand and calls together hold more than four of a kind",
         "hand tiles are not 14 - 3 x calls",

@@ -2,6 +2,7 @@
 
 use crate::hand::*;
 use crate::library;
+use crate::probe;
 use agari_core::hand::{HandStructure, KanType, Meld};
 use agari_core::parse::TileCounts;
 use agari_core::tile::{Honor, Suit, Tile};
@@ -65,7 +66,7 @@ fn called_meld(call: library::Meld) -> Meld {
     }
 }
 
-/// The table's meld of agari's.
+/// The table's meld of agari's, which has no source: it comes from nobody.
 fn meld(meld: &Meld) -> library::Meld {
     let kind = match meld {
         Meld::Shuntsu(_, false) => CLOSED_SEQUENCE,
@@ -76,18 +77,57 @@ fn meld(meld: &Meld) -> library::Meld {
         Meld::Kan(_, KanType::Open) => OPEN_KAN,
         Meld::Kan(_, KanType::Added) => ADDED_KAN,
     };
-    library::Meld::new(number(meld.tile()), kind)
+    library::Meld::new(number(meld.tile()), kind).with_source(NOBODY)
 }
 
 /// A record: its kind, and the bytes that follow the kind. Records ascend by the one and then by
 /// the other, which is the order derived here.
-#[derive(PartialEq, Eq, PartialOrd, Ord)]
+#[derive(Clone, PartialEq, Eq, PartialOrd, Ord)]
 pub struct Record {
     pub kind: u16,
     pub content: Vec<u8>,
 }
 
-/// The record of a reading.
+impl Record {
+    /// The record of four melds, which are put in order, and a pair.
+    pub fn standard(pair: u8, mut melds: Vec<library::Meld>) -> Record {
+        melds.sort();
+        let melds = melds.into_iter().flat_map(library::Meld::bytes);
+        Record {
+            kind: probe::STANDARD.into(),
+            content: [pair].into_iter().chain(melds).collect(),
+        }
+    }
+
+    /// The pair and the melds of a standard reading.
+    pub fn parts(&self) -> Option<(u8, Vec<library::Meld>)> {
+        let is_standard = self.kind == u16::from(probe::STANDARD);
+        let (&pair, melds) = self.content.split_first()?;
+        is_standard.then(|| (pair, library::Meld::all_of(melds).collect()))
+    }
+
+    /// The same record with the sources of these calls: a meld has that of the call of its tile and kind,
+    /// and one that is not called comes from nobody. Calls of equal tile and kind are open sequences, and
+    /// have equal sources.
+    pub fn with_sources(self, calls: &[library::Meld]) -> Record {
+        let Some((pair, mut melds)) = self.parts() else {
+            return self;
+        };
+        for meld in &mut melds {
+            let is_same = |call: &&library::Meld| (call.tile, call.kind) == (meld.tile, meld.kind);
+            let call = calls.iter().find(is_same);
+            meld.source = call.map_or(NOBODY, |call| call.source);
+        }
+        Record::standard(pair, melds)
+    }
+
+    /// The same record, of which each meld comes from nobody.
+    pub fn without_sources(self) -> Record {
+        self.with_sources(&[])
+    }
+}
+
+/// The record of a reading, without sources, as agari has none.
 pub fn record(reading: &HandStructure) -> Record {
     match reading {
         HandStructure::Chiitoitsu { pairs } => {
@@ -100,12 +140,7 @@ pub fn record(reading: &HandStructure) -> Record {
             content: vec![number(*pair)],
         },
         HandStructure::Standard { melds, pair } => {
-            let mut melds: Vec<library::Meld> = melds.iter().map(meld).collect();
-            melds.sort();
-            let mut content = Vec::with_capacity(9);
-            content.push(number(*pair));
-            content.extend(melds.iter().flat_map(|meld| [meld.tile, meld.kind]));
-            Record { kind: 3, content }
+            Record::standard(number(*pair), melds.iter().map(meld).collect())
         }
     }
 }

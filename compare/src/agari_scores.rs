@@ -5,6 +5,7 @@ use crate::answers;
 use crate::differences::payment_refusal;
 use crate::hand::*;
 use crate::library::{Indicators, Level, PaymentAnswer, RON, Score, WAITS, Win, YAKU};
+use crate::oracle;
 use crate::probe::{Reading, ReadingScore};
 use agari_core::context::{GameContext, WinType};
 use agari_core::hand::HandStructure;
@@ -172,9 +173,7 @@ fn waits(reading: &HandStructure, win: &Win) -> [u8; WAITS] {
 }
 
 fn readings(hand: &Hand) -> Vec<(Reading, HandStructure)> {
-    let counts = agari::tile_counts(hand.counts());
-    let readings = answers::readings(&counts, &agari::called_melds(hand.called()));
-    readings
+    oracle::readings(hand)
         .into_iter()
         .map(|(record, reading)| (Reading::of(&record), reading))
         .collect()

@@ -259,7 +259,7 @@ fn list(hand: &Hand, old: &[u8]) -> (Listing, Vec<u8>) {
 }
 
 /// Records that stand one behind the other.
-fn records(mut bytes: &[u8]) -> Vec<Record> {
+pub fn records(mut bytes: &[u8]) -> Vec<Record> {
     let mut found = Vec::new();
     while !bytes.is_empty() {
         let length = u16::from_le_bytes([bytes[0], bytes[1]]);
@@ -276,7 +276,8 @@ fn records(mut bytes: &[u8]) -> Vec<Record> {
 #[cfg(test)]
 mod tests {
     use super::*;
-    use crate::library::{Indicators, RON};
+    use crate::hand::{ACROSS, LEFT, OPEN_TRIPLET};
+    use crate::library::{Indicators, Meld, RON};
 
     /// What differs where an all-green hand is won by ron of sou 2, and renamed.
     fn green_differ(renaming: usize) -> [bool; PARTS.len()] {
@@ -334,6 +335,20 @@ mod tests {
                 assert_eq!((differ, broken), ([false; 6], [false; 6]));
             }
         }
+    }
+
+    #[test]
+    fn a_source_that_is_not_carried_along_differs_in_the_listing() {
+        let mut rng = Rng::new(1);
+        let mut hand = Hand::written("12355m456p234s");
+        hand.call(Meld::new(33, OPEN_TRIPLET).with_source(ACROSS));
+        let win = Win::new(RON, 4, 27, 28);
+        // Man and sou exchanged, White and Red too.
+        let mut twins = Twins::new(&mut rng, &hand, &win, Renaming::numbered(21));
+        assert_eq!(twins.outcome(&mut rng, &[0; 100]).differ, [false; 6]);
+        twins.hands[1].calls.melds[0].source = LEFT;
+        let listing = PARTS.map(|part| part == "listing");
+        assert_eq!(twins.outcome(&mut rng, &[0; 100]).differ, listing);
     }
 
     #[test]

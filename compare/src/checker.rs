@@ -1,15 +1,13 @@
 //! One hand on both sides.
 
 use crate::hand::Hand;
-use crate::library;
+use crate::library::{self, ALWAYS_ENOUGH};
 use crate::oracle::Expected;
 use crate::rng::Rng;
 use crate::tally::Tally;
 
-/// A buffer that always suffices.
-pub const SUFFICES: usize = 1467;
 /// The longest buffer that is lent.
-const MOST_LENT: usize = 1500;
+const MOST_LENT: usize = ALWAYS_ENOUGH + 33;
 /// Bytes before and behind the lent buffer, which have to stay as they were too.
 const MARGIN: usize = 64;
 const WHOLE: usize = MARGIN + MOST_LENT + MARGIN;
@@ -58,7 +56,7 @@ impl Checker {
     /// A length of at least the need.
     fn enough(&mut self, need: usize) -> usize {
         let any = need + self.rng.below(MOST_LENT - need + 1);
-        self.rng.pick(&[need, need + 1, SUFFICES, any])
+        self.rng.pick(&[need, need + 1, ALWAYS_ENOUGH, any])
     }
 
     /// Any length, most often next to the need or below it.

@@ -1,6 +1,8 @@
 //! agari's types as those of the crate `ziwhakemo`, and back, for a table that has both for a while.
 //!
-//! All but the win have the same shapes on both sides, so that the one macro below makes both directions.
+//! All but the win and melds have the same shapes on both sides, so that the one macro below makes both
+//! directions. Melds are the same but for their sources, which agari has not: a call is turned with who it
+//! came from, and a meld of agari's that does not say it with the left, from whom every open meld may come.
 //! What the library leaves out is told: a local yaku, and a win with red fives, pulled Norths or other
 //! rules. So is what agari has not, a room that gives two fu for a pair that is both round and seat wind,
 //! and what the crate does not keep, the eleventh indicator and those behind it.
@@ -77,20 +79,6 @@ macro_rules! conversions {
             counts.iter().map(|(&of, &count)| (tile(of), count)).collect()
         }
 
-        /// A kind of kan.
-        pub fn kan_type(kan_type: $from::KanType) -> $to::KanType {
-            same_name!(kan_type, $from, $to, KanType: Closed Open Added)
-        }
-
-        /// A meld.
-        pub fn meld(meld: &$from::Meld) -> $to::Meld {
-            match *meld {
-                $from::Meld::Shuntsu(of, is_open) => $to::Meld::Shuntsu(tile(of), is_open),
-                $from::Meld::Koutsu(of, is_open) => $to::Meld::Koutsu(tile(of), is_open),
-                $from::Meld::Kan(of, kind) => $to::Meld::Kan(tile(of), kan_type(kind)),
-            }
-        }
-
         /// Melds in the order in which they stand.
         pub fn melds(melds: &[$from::Meld]) -> Vec<$to::Meld> {
             melds.iter().map(meld).collect()
@@ -152,6 +140,40 @@ pub mod to_ziwhakemo {
     use super::{ours, theirs};
 
     conversions!(theirs, ours);
+
+    /// A meld, an open one from this player.
+    pub fn meld_from(meld: &theirs::Meld, source: ours::Source) -> ours::Meld {
+        use theirs::KanType::{Added, Closed, Open};
+        match *meld {
+            theirs::Meld::Shuntsu(of, is_open) => {
+                ours::Meld::Shuntsu(tile(of), is_open.then_some(source))
+            }
+            theirs::Meld::Koutsu(of, is_open) => {
+                ours::Meld::Koutsu(tile(of), is_open.then_some(source))
+            }
+            theirs::Meld::Kan(of, Closed) => ours::Meld::Kan(tile(of), ours::KanType::Closed),
+            theirs::Meld::Kan(of, Open) => ours::Meld::Kan(tile(of), ours::KanType::Open(source)),
+            theirs::Meld::Kan(of, Added) => ours::Meld::Kan(tile(of), ours::KanType::Added(source)),
+        }
+    }
+
+    /// A meld, an open one from the left.
+    pub fn meld(meld: &theirs::Meld) -> ours::Meld {
+        meld_from(meld, ours::Source::Left)
+    }
+
+    /// The source with a number, or the left for the number of a closed meld.
+    pub fn source(number: u8) -> ours::Source {
+        ours::Source::from_number(number).unwrap_or(ours::Source::Left)
+    }
+
+    /// Calls, each open one from the player beside it.
+    pub fn calls(melds: &[theirs::Meld], sources: &[ours::Source]) -> Vec<ours::Meld> {
+        let melds = melds.iter().zip(sources);
+        melds
+            .map(|(meld, &source)| meld_from(meld, source))
+            .collect()
+    }
 
     /// A yaku, or nothing for agari's local ones.
     pub fn yaku(yaku: theirs::Yaku) -> Option<ours::Yaku> {
@@ -219,6 +241,18 @@ pub mod to_agari {
     use super::{ours, theirs};
 
     conversions!(ours, theirs);
+
+    /// A meld, without its source.
+    pub fn meld(meld: &ours::Meld) -> theirs::Meld {
+        use ours::KanType::{Added, Closed, Open};
+        match *meld {
+            ours::Meld::Shuntsu(of, source) => theirs::Meld::Shuntsu(tile(of), source.is_some()),
+            ours::Meld::Koutsu(of, source) => theirs::Meld::Koutsu(tile(of), source.is_some()),
+            ours::Meld::Kan(of, Closed) => theirs::Meld::Kan(tile(of), theirs::KanType::Closed),
+            ours::Meld::Kan(of, Open(_)) => theirs::Meld::Kan(tile(of), theirs::KanType::Open),
+            ours::Meld::Kan(of, Added(_)) => theirs::Meld::Kan(tile(of), theirs::KanType::Added),
+        }
+    }
 
     /// A yaku.
     pub fn yaku(yaku: ours::Yaku) -> theirs::Yaku {
@@ -320,12 +354,15 @@ mod tests {
             assert_eq!(to_agari::tile_counts(&turned), counts);
 
             let calls = agari::called_melds(hand.called());
-            let turned_calls = to_ziwhakemo::melds(&calls);
+            let sources = hand.called().iter().map(|call| call.source);
+            let from: Vec<_> = sources.clone().map(to_ziwhakemo::source).collect();
+            let turned_calls = to_ziwhakemo::calls(&calls, &from);
             assert_eq!(to_agari::melds(&turned_calls), calls);
+            let turned_sources = turned_calls.iter().map(ours::Meld::source);
+            assert!(turned_sources.eq(sources.map(ours::Source::from_number)));
             for reading in answers::found(&counts, &calls) {
                 let turned = to_ziwhakemo::hand_structure(&reading);
                 assert_eq!(to_agari::hand_structure(&turned), reading);
-                assert_eq!(text(turned), text(reading));
             }
 
             let tile = random::held_tile(&mut rng, &hand) as u8;

@@ -63,18 +63,31 @@ fn too_many_calls(rng: &mut Rng, hand: &mut Hand) {
     hand.calls.count = rng.pick(&[5, 6, 200, 256, usize::MAX, overflowing, any]);
 }
 
-/// A call with a kind or a tile that no call has.
+/// A call with a kind, a tile or a source that no call has.
 fn no_call(rng: &mut Rng, hand: &mut Hand) {
     let place = rng.below(hand.called().len());
     let meld = &mut hand.calls.melds[place];
     let honour = 27 + rng.below(7) as u8;
     let no_tile = 34 + rng.below(222) as u8;
     let no_kind = 7 + rng.below(249) as u8;
-    match rng.below(4) {
-        0 => meld.kind = rng.pick(&[CLOSED_SEQUENCE, CLOSED_TRIPLET]),
+    match rng.below(6) {
+        0 => *meld = Meld::new(meld.tile, rng.pick(&[CLOSED_SEQUENCE, CLOSED_TRIPLET])),
         1 => meld.kind = rng.pick(&[7, 8, 255, no_kind]),
         2 => meld.tile = rng.pick(&[34, 255, no_tile]),
-        _ => *meld = Meld::new(rng.pick(&[7, 8, 16, 17, 25, 26, honour]), OPEN_SEQUENCE),
+        3 => *meld = Meld::new(rng.pick(&[7, 8, 16, 17, 25, 26, honour]), OPEN_SEQUENCE),
+        _ => meld.source = wrong_source(rng, meld.kind),
+    }
+}
+
+/// A source that no meld of this kind has: one of another kind, one near, one with a bit more, or any.
+fn wrong_source(rng: &mut Rng, kind: u8) -> u8 {
+    loop {
+        let any = rng.byte();
+        let with_a_bit = rng.pick(&[4, 8, 64, 128]) + rng.below(4) as u8;
+        let source = rng.pick(&[0, 1, 2, 3, 4, 255, with_a_bit, any, any]);
+        if !sources(kind).contains(&source) {
+            return source;
+        }
     }
 }
 
@@ -100,9 +113,10 @@ fn fifth_tile(rng: &mut Rng, hand: &mut Hand) {
     let place = rng.below(called);
     let meld = hand.calls.melds[place];
     if called > 1 && rng.percent(50) {
-        let kind = rng.pick(&[OPEN_TRIPLET, CLOSED_KAN, OPEN_KAN, ADDED_KAN]);
-        hand.calls.melds[(place + 1) % called] = Meld::new(meld.tile, kind);
-        hand.calls.melds[place].kind = rng.pick(&[OPEN_TRIPLET, CLOSED_KAN, OPEN_KAN, ADDED_KAN]);
+        for place in [place, (place + 1) % called] {
+            let kind = rng.pick(&[OPEN_TRIPLET, CLOSED_KAN, OPEN_KAN, ADDED_KAN]);
+            hand.calls.melds[place] = Meld::new(meld.tile, kind).from_anyone(rng);
+        }
     } else {
         let tile = usize::from(meld.tile);
         let in_calls = hand.with_calls()[tile] as u8 - hand.counts[tile];
@@ -151,5 +165,49 @@ fn add_tile(rng: &mut Rng, hand: &mut Hand) {
             hand.counts[tile] += 1;
             return;
         }
+    }
+}
+
+#[cfg(test)]
+mod tests {
+    use super::*;
+    use crate::differences::hand_faults;
+
+    const CALLS: [u8; 5] = [OPEN_SEQUENCE, OPEN_TRIPLET, CLOSED_KAN, OPEN_KAN, ADDED_KAN];
+
+    #[test]
+    fn every_wrong_source_is_drawn_and_no_other() {
+        let mut rng = Rng::new(7);
+        for kind in CALLS {
+            let mut drawn = [false; 256];
+            for _ in 0..20_000 {
+                drawn[usize::from(wrong_source(&mut rng, kind))] = true;
+            }
+            for source in 0..=u8::MAX {
+                let is_wrong = !sources(kind).contains(&source);
+                assert_eq!(drawn[usize::from(source)], is_wrong, "{kind} {source}");
+            }
+        }
+    }
+
+    #[test]
+    fn a_source_alone_is_wrong_in_each_kind_of_call() {
+        let mut rng = Rng::new(7);
+        let mut alone = [0; CALLS.len()];
+        for _ in 0..5000 {
+            let hand = with_faults(&mut rng, 3, 3);
+            assert!(hand_faults(&hand)[2], "{hand}");
+            let mut sound = hand;
+            for meld in &mut sound.calls.melds[..hand.calls.count] {
+                *meld = Meld::new(meld.tile, meld.kind);
+            }
+            if !hand_faults(&sound).contains(&true) {
+                let is_wrong = |meld: &&Meld| !sources(meld.kind).contains(&meld.source);
+                let meld = hand.called().iter().find(is_wrong);
+                let kind = meld.map(|meld| meld.kind).expect("a wrong source");
+                alone[CALLS.iter().position(|&call| call == kind).unwrap()] += 1;
+            }
+        }
+        assert!(alone.iter().all(|&hands| hands > 50), "{alone:?}");
     }
 }

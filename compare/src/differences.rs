@@ -10,7 +10,8 @@
 //! `answers.rs`; a test there reads the sources for it.
 //!
 //! Three rows lie in how agari is asked: row 'Keys with count 0' in `agari::tile_counts`, rows 'Whether
-//! the hand is open' and 'No winning tile' in `agari_scores::context`.
+//! the hand is open' and 'No winning tile' in `agari_scores::context`. One lies in the records of its
+//! readings: row 'Who the tile came from' in `oracle::readings`.
 
 use crate::agari::{self, Record};
 use crate::hand::*;
@@ -173,12 +174,14 @@ pub fn hand_faults(hand: &Hand) -> [bool; FAULTS] {
     ]
 }
 
+/// Whether tile, kind and source are those of a call.
 fn is_call(meld: Meld) -> bool {
-    match meld.kind {
+    let is_of_its_kind = match meld.kind {
         OPEN_SEQUENCE => starts_sequence(meld.tile),
         OPEN_TRIPLET | CLOSED_KAN | OPEN_KAN | ADDED_KAN => usize::from(meld.tile) < KINDS,
         _ => false,
-    }
+    };
+    is_of_its_kind && sources(meld.kind).contains(&meld.source)
 }
 
 /// What is out of range in a win: its type, the round wind, the seat wind, the setting. Rows 'Win type',

@@ -69,19 +69,19 @@ pub fn hand_of(suit: usize, numbers: &SuitCounts, honours: &HonourCounts) -> Han
     hand
 }
 
-/// Lists of so many calls outside a suit: of every kind, below and above the suit's tiles, in
-/// ascending and in descending order.
+/// Lists of so many calls outside a suit: of every kind, from each player, below and above the suit's tiles,
+/// in ascending and in descending order.
 pub fn calls_outside(suit: usize, calls: usize) -> Vec<Vec<Meld>> {
     let lower = 9 * ((suit + 1) % 3).min((suit + 2) % 3) as u8;
     let upper = 9 * ((suit + 1) % 3).max((suit + 2) % 3) as u8;
     let ascending = [
         Meld::new(lower, OPEN_SEQUENCE),
-        Meld::new(lower, OPEN_TRIPLET),
+        Meld::new(lower, OPEN_TRIPLET).with_source(ACROSS),
         Meld::new(upper + 6, OPEN_SEQUENCE),
-        Meld::new(33, ADDED_KAN),
+        Meld::new(33, ADDED_KAN).with_source(RIGHT),
     ];
     let descending = [
-        Meld::new(27, OPEN_KAN),
+        Meld::new(27, OPEN_KAN).with_source(RIGHT),
         Meld::new(upper + 4, CLOSED_KAN),
         Meld::new(upper + 1, OPEN_SEQUENCE),
         Meld::new(lower + 8, OPEN_TRIPLET),

@@ -18,9 +18,45 @@ pub const CLOSED_KAN: u8 = 4;
 pub const OPEN_KAN: u8 = 5;
 pub const ADDED_KAN: u8 = 6;
 
+// The sources of melds: who the called tile came from, in seats onward from the player who called.
+pub const NOBODY: u8 = 0;
+pub const RIGHT: u8 = 1;
+pub const ACROSS: u8 = 2;
+pub const LEFT: u8 = 3;
+
+/// The sources that a meld of a kind may have: none for an unknown kind.
+pub fn sources(kind: u8) -> &'static [u8] {
+    match kind {
+        CLOSED_SEQUENCE | CLOSED_TRIPLET | CLOSED_KAN => &[NOBODY],
+        OPEN_SEQUENCE => &[LEFT],
+        OPEN_TRIPLET | OPEN_KAN | ADDED_KAN => &[RIGHT, ACROSS, LEFT],
+        _ => &[],
+    }
+}
+
 impl Meld {
+    /// A meld of this tile and kind, an open one from the player before.
     pub fn new(tile: u8, kind: u8) -> Meld {
-        Meld { tile, kind }
+        let source = *sources(kind).last().unwrap_or(&NOBODY);
+        Meld { tile, kind, source }
+    }
+
+    /// The same meld from this source.
+    pub fn with_source(self, source: u8) -> Meld {
+        Meld { source, ..self }
+    }
+
+    /// The same meld from any source that its kind may have.
+    pub fn from_anyone(self, rng: &mut Rng) -> Meld {
+        match sources(self.kind) {
+            [] => self,
+            sources => self.with_source(rng.pick(sources)),
+        }
+    }
+
+    /// Whether it has one of several sources: an open triplet or kan.
+    pub fn has_choice_of_source(self) -> bool {
+        sources(self.kind).len() > 1
     }
 
     /// The tiles of the meld, each as often as it is there: none for an unknown kind.
@@ -84,7 +120,8 @@ impl Hand {
     /// so that the hand is whole for whoever overlooks the length.
     pub fn with_noise(mut self, rng: &mut Rng) -> Hand {
         for meld in self.calls.melds.iter_mut().skip(self.calls.count) {
-            *meld = Meld::new(rng.byte(), rng.byte());
+            let [tile, kind, source] = [(); Meld::BYTES].map(|_| rng.byte());
+            *meld = Meld { tile, kind, source };
         }
         for count in self.counts.iter_mut().skip(self.length.max(KINDS)) {
             *count = rng.byte();
@@ -111,9 +148,16 @@ impl fmt::Display for Hand {
     fn fmt(&self, f: &mut fmt::Formatter) -> fmt::Result {
         write!(f, "counts {:?}, {} calls", self.counts(), self.calls.count)?;
         for meld in self.called() {
-            write!(f, " (tile {} kind {})", meld.tile, meld.kind)?;
+            write!(f, " {meld}")?;
         }
         Ok(())
+    }
+}
+
+impl fmt::Display for Meld {
+    fn fmt(&self, f: &mut fmt::Formatter) -> fmt::Result {
+        let Meld { tile, kind, source } = self;
+        write!(f, "(tile {tile} kind {kind} source {source})")
     }
 }
 

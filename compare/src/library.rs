@@ -4,7 +4,7 @@ use crate::hand::KINDS;
 use crate::rng::Rng;
 
 /// The version of the interface that is declared here.
-pub const VERSION: u32 = 5;
+pub const VERSION: u32 = 6;
 
 /// The number of yaku tallies: one for each entry of `Yaku`, Yakuhai apart for each honour, without
 /// the three local entries.
@@ -24,15 +24,38 @@ pub const SETTINGS: [u8; 2] = [FOUR, TWO];
 /// The most indicators of either sort.
 pub const MOST_INDICATORS: usize = 10;
 
+/// A buffer of so many bytes always suffices for the records of a hand.
+pub const ALWAYS_ENOUGH: usize = 1915;
+
 /// The number of mixtures of win type, winds and flags.
 pub const MIXTURES: usize = 2 * 4 * 4 * 256;
 
-/// A meld: the number of its lowest tile, and its kind.
+/// A meld: the number of its lowest tile, its kind, and who the called tile came from, in seats onward from
+/// the player who called. Melds ascend in this order.
 #[repr(C)]
 #[derive(Clone, Copy, Debug, Default, PartialEq, Eq, PartialOrd, Ord)]
 pub struct Meld {
     pub tile: u8,
     pub kind: u8,
+    pub source: u8,
+}
+
+impl Meld {
+    /// The number of its bytes, as they are lent, written into records and stored.
+    pub const BYTES: usize = size_of::<Meld>();
+
+    pub fn bytes(self) -> [u8; Meld::BYTES] {
+        [self.tile, self.kind, self.source]
+    }
+
+    /// The melds of bytes that stand one behind the other.
+    pub fn all_of(bytes: &[u8]) -> impl Iterator<Item = Meld> {
+        bytes.chunks_exact(Meld::BYTES).map(|meld| Meld {
+            tile: meld[0],
+            kind: meld[1],
+            source: meld[2],
+        })
+    }
 }
 
 /// The calls: the first `count` of the melds. A count above four is refused.
@@ -360,6 +383,23 @@ pub fn name_waits(counts: &[u8], calls: Calls, win: Win, number: usize) -> Waits
     })
 }
 
+/// The operations on a hand, so that a test may put others in their place.
+#[derive(Clone, Copy)]
+pub struct Operations {
+    pub list_readings: fn(&[u8], Calls, &mut [u8]) -> Listing,
+    pub score_win: fn(&[u8], Calls, Win) -> Score,
+    pub score_reading: fn(&[u8], Calls, Win, usize) -> Score,
+    pub name_waits: fn(&[u8], Calls, Win, usize) -> Waits,
+}
+
+/// The library's.
+pub const OPERATIONS: Operations = Operations {
+    list_readings,
+    score_win,
+    score_reading,
+    name_waits,
+};
+
 pub fn level(han: u8, fu: u8, is_yakuman: bool) -> Level {
     unsafe { ziwhakemo_score_level(han, fu, is_yakuman) }
 }
@@ -382,6 +422,17 @@ mod tests {
         for number in 0..MIXTURES {
             assert_eq!(Win::in_mixture(number, 0).mixture(), number);
         }
+    }
+
+    #[test]
+    fn a_meld_is_three_bytes_and_the_source_is_the_last() {
+        assert_eq!((size_of::<Meld>(), align_of::<Meld>()), (3, 1));
+        assert_eq!(offset_of!(Meld, kind), 1);
+        assert_eq!(offset_of!(Meld, source), 2);
+        let melds = [[7, 1, 3], [33, 6, 2]];
+        let read: Vec<Meld> = Meld::all_of(melds.as_flattened()).collect();
+        assert_eq!(read.len(), melds.len());
+        assert!(read.iter().map(|meld| meld.bytes()).eq(melds));
     }
 
     #[test]

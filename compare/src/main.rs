@@ -1,7 +1,7 @@
 //! Compares the proved library with agari-core.
 
 use compare::arguments::{self, Options};
-use compare::{points, readings, scored_wins, scores, twins};
+use compare::{points, readings, scored_wins, scores, sources, twins};
 use std::process::ExitCode;
 use std::time::Duration;
 
@@ -9,7 +9,8 @@ const USAGE: &str = "usage: compare readings [--seed N] [--random N] [--suit] [-
        compare points
        compare scores [--seed N] [--wins N]
        compare wins [--seed N] [--random N] [--suit] [--orphans] [--double-winds [N]] [--dora [N]]
-       compare twins [--seed N] [--random N] [--winds [N]]";
+       compare twins [--seed N] [--random N] [--winds [N]]
+       compare sources [--seed N] [--pairs N]";
 const SEED: u64 = 1;
 const RANDOM_HANDS: u64 = 5_000_000;
 const MIXED_SECONDS: u64 = 600;
@@ -19,6 +20,7 @@ const DOUBLE_WINDS: u64 = 2_000_000;
 const DORA_WINS: u64 = 20_000_000;
 const RANDOM_TWINS: u64 = 1_000_000;
 const WIND_TWINS: u64 = 4_000_000;
+const SOURCE_PAIRS: u64 = 2_000_000;
 
 fn main() -> ExitCode {
     arguments::run(USAGE, |words| {
@@ -40,6 +42,7 @@ fn compare(words: &[&str]) -> Option<u64> {
         "scores" => compare_scores(words),
         "wins" => compare_wins(words),
         "twins" => compare_twins(words),
+        "sources" => compare_sources(words),
         _ => None,
     }
 }
@@ -109,4 +112,12 @@ fn compare_twins(words: &[&str]) -> Option<u64> {
         options.winds = Some(WIND_TWINS);
     }
     Some(twins::compare(&options))
+}
+
+fn compare_sources(words: &[&str]) -> Option<u64> {
+    let given = Options::read(words, &["--seed", "--pairs"], &[])?;
+    Some(sources::compare(&sources::Options {
+        seed: given.number("--seed").unwrap_or(SEED),
+        pairs: given.number("--pairs").unwrap_or(SOURCE_PAIRS),
+    }))
 }

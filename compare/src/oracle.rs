@@ -5,6 +5,7 @@ use crate::answers;
 use crate::differences::{FAULTS, hand_faults};
 use crate::hand::Hand;
 use crate::library::Listing;
+use agari_core::hand::HandStructure;
 
 /// The refusal of a buffer that is too short.
 pub const TOO_SHORT: u32 = 7;
@@ -66,9 +67,19 @@ impl Expected {
 
 /// The records of agari's readings, ascending, each once.
 fn records(hand: &Hand) -> Vec<Record> {
+    let readings = readings(hand).into_iter();
+    readings.map(|(record, _)| record).collect()
+}
+
+/// agari's readings with their records, ascending, each once. agari has no sources: those of the calls are
+/// put back, which leaves the order.
+pub fn readings(hand: &Hand) -> Vec<(Record, HandStructure)> {
     let counts = agari::tile_counts(hand.counts());
     let readings = answers::readings(&counts, &agari::called_melds(hand.called()));
-    readings.into_iter().map(|(record, _)| record).collect()
+    readings
+        .into_iter()
+        .map(|(record, reading)| (record.with_sources(hand.called()), reading))
+        .collect()
 }
 
 /// The record as it is written: its length, its kind, its content.
@@ -86,10 +97,12 @@ pub fn bytes(record: &Record) -> Vec<u8> {
 mod tests {
     use super::*;
     use crate::hand::*;
-    use crate::library::Meld;
+    use crate::library::{ALWAYS_ENOUGH, Meld};
+    use crate::random;
+    use crate::rng::Rng;
 
     fn answer(hand: &Hand) -> (u32, usize) {
-        let listing = Expected::of(hand).listing(1467);
+        let listing = Expected::of(hand).listing(ALWAYS_ENOUGH);
         (listing.number, listing.readings)
     }
 
@@ -126,9 +139,37 @@ mod tests {
     fn records_ascend_by_kind_and_then_content() {
         let expected = Expected::of(&Hand::written("223344m667788p55s"));
         let seven_pairs = [11, 0, 1, 0, 1, 2, 3, 14, 15, 16, 22];
-        let standard = [13, 0, 3, 0, 22, 1, 0, 1, 0, 14, 0, 14, 0];
-        assert_eq!(expected.records, [&seven_pairs[..], &standard[..]].concat());
-        assert_eq!(expected.listing(24).number, 0);
-        assert_eq!(expected.listing(23).number, 7);
+        let melds = [[1, 0, 0], [1, 0, 0], [14, 0, 0], [14, 0, 0]].concat();
+        let standard = [&[17, 0, 3, 0, 22][..], &melds].concat();
+        assert_eq!(expected.records, [&seven_pairs[..], &standard].concat());
+        assert_eq!(expected.listing(28).number, 0);
+        assert_eq!(expected.listing(27).number, 7);
+    }
+
+    #[test]
+    fn a_record_has_the_sources_of_the_calls() {
+        let mut hand = Hand::written("66m234s");
+        hand.call(Meld::new(33, OPEN_KAN).with_source(RIGHT));
+        hand.call(Meld::new(0, OPEN_SEQUENCE));
+        hand.call(Meld::new(4, OPEN_TRIPLET).with_source(ACROSS));
+        let melds = [[0, 1, 3], [4, 3, 2], [19, 0, 0], [33, 5, 1]].concat();
+        let standard = [&[17, 0, 3, 0, 5][..], &melds].concat();
+        assert_eq!(Expected::of(&hand).records, standard);
+        hand.calls.melds[1].source = RIGHT;
+        assert_eq!(answer(&hand), (3, 0));
+    }
+
+    #[test]
+    fn sources_leave_the_order_of_records() {
+        let mut rng = Rng::new(10);
+        let mut several = 0;
+        for _ in 0..5000 {
+            let calls = 1 + rng.below(3);
+            let hand = random::winning_with_calls(&mut rng, calls);
+            let records = records(&hand);
+            assert!(records.is_sorted_by(|one, other| one < other), "{hand}");
+            several += usize::from(records.len() > 1);
+        }
+        assert!(several > 100, "{several}");
     }
 }

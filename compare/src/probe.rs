@@ -30,9 +30,8 @@ impl Reading {
             _ => reading.pair = record.content[0],
         }
         if reading.kind == STANDARD {
-            let melds = record.content[1..].chunks(2);
-            for (place, meld) in melds.enumerate() {
-                reading.melds[place] = Meld::new(meld[0], meld[1]);
+            for (place, meld) in Meld::all_of(&record.content[1..]).enumerate() {
+                reading.melds[place] = meld;
             }
         }
         reading

@@ -82,15 +82,17 @@ impl Style {
         }
     }
 
+    /// A call from any player that it may come from.
     fn call(self, rng: &mut Rng) -> Meld {
-        if rng.percent(self.sequences) {
+        let call = if rng.percent(self.sequences) {
             Meld::new(self.pool.start(rng), OPEN_SEQUENCE)
         } else if rng.percent(self.kans) {
             let kind = rng.pick(&[CLOSED_KAN, OPEN_KAN, ADDED_KAN]);
             Meld::new(self.pool.tile(rng), kind)
         } else {
             Meld::new(self.pool.tile(rng), OPEN_TRIPLET)
-        }
+        };
+        call.from_anyone(rng)
     }
 
     /// A winning hand with so many calls.

@@ -4,7 +4,6 @@
 use crate::agari::Record;
 use crate::hand::*;
 use crate::library::{Indicators, Meld, Win};
-use crate::probe::STANDARD;
 
 const SOUTH: u8 = 28;
 const WEST: u8 = 29;
@@ -92,14 +91,17 @@ impl Renaming {
         }
     }
 
-    /// A meld of its renamed tiles, of which the lowest names it.
+    /// A meld of its renamed tiles, of which the lowest names it. Kind and source stay.
     fn meld(&self, meld: Meld) -> Meld {
         let tiles = meld.tiles().map(|tile| self.tile(tile as u8));
-        Meld::new(tiles.min().expect("a meld has tiles"), meld.kind)
+        Meld {
+            tile: tiles.min().expect("a meld has tiles"),
+            ..meld
+        }
     }
 
     /// A hand that passes the checks: each count becomes that of the renamed tile, and calls keep
-    /// their order and kinds.
+    /// their order, kinds and sources.
     pub fn hand(&self, hand: &Hand) -> Hand {
         let mut renamed = Hand::empty();
         for (tile, &count) in hand.counts().iter().enumerate() {
@@ -134,18 +136,15 @@ impl Renaming {
     /// The record of a reading that is renamed in its pair or pairs and its melds, which are put in
     /// order again.
     pub fn record(&self, record: &Record) -> Record {
-        let is_standard = record.kind == u16::from(STANDARD);
-        let tiles = if is_standard { 1 } else { record.content.len() };
-        let (tiles, melds) = record.content.split_at(tiles);
-        let mut tiles: Vec<u8> = tiles.iter().map(|&tile| self.tile(tile)).collect();
-        tiles.sort();
-        let melds = melds.chunks(2).map(|meld| Meld::new(meld[0], meld[1]));
-        let mut melds: Vec<Meld> = melds.map(|meld| self.meld(meld)).collect();
-        melds.sort();
-        let melds = melds.iter().flat_map(|meld| [meld.tile, meld.kind]);
+        if let Some((pair, melds)) = record.parts() {
+            let melds = melds.into_iter().map(|meld| self.meld(meld));
+            return Record::standard(self.tile(pair), melds.collect());
+        }
+        let mut content: Vec<u8> = record.content.iter().map(|&tile| self.tile(tile)).collect();
+        content.sort();
         Record {
             kind: record.kind,
-            content: tiles.into_iter().chain(melds).collect(),
+            content,
         }
     }
 }
@@ -182,6 +181,18 @@ mod tests {
             assert_eq!(renaming.meld(meld), mirrored);
         }
         assert_eq!(renaming.meld(Meld::new(33, ADDED_KAN)).tile, 33);
+    }
+
+    #[test]
+    fn a_renamed_meld_keeps_its_source() {
+        for number in 0..Renaming::ALL {
+            let renaming = Renaming::numbered(number);
+            for (kind, source) in (0..=ADDED_KAN).flat_map(|kind| [0, 1, 2, 3].map(|of| (kind, of)))
+            {
+                let meld = renaming.meld(Meld::new(2, kind).with_source(source));
+                assert_eq!((meld.kind, meld.source), (kind, source));
+            }
+        }
     }
 
     #[test]
@@ -244,14 +255,13 @@ mod tests {
     fn a_renamed_record_is_in_order_again() {
         // Sou becomes man, man becomes sou, White and Red change places.
         let renaming = Renaming::numbered(4 * 5 + 1);
-        let standard = Record {
+        let standard = |pair: u8, melds: [[u8; 3]; 4]| Record {
             kind: 3,
-            content: vec![31, 0, 0, 4, 2, 18, 1, 33, 6],
+            content: [&[pair][..], melds.as_flattened()].concat(),
         };
-        assert_eq!(
-            renaming.record(&standard).content,
-            [33, 0, 1, 18, 0, 22, 2, 31, 6]
-        );
+        let record = standard(31, [[0, 0, 0], [4, 2, 0], [18, 1, 3], [33, 6, 2]]);
+        let renamed = standard(33, [[0, 1, 3], [18, 0, 0], [22, 2, 0], [31, 6, 2]]);
+        assert!(renaming.record(&record) == renamed);
         let pairs = Record {
             kind: 1,
             content: vec![0, 1, 9, 18, 31, 32, 33],

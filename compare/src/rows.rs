@@ -172,18 +172,22 @@ impl Term {
         hand
     }
 
-    /// A call: `chi (man 1)` and the like.
+    /// A call: `chi (man 1)` and the like, an open one from the player before, or from whom it is said,
+    /// `fromAcross (pon Red)`.
     fn call(&self) -> Meld {
         let (name, arguments) = self.parts();
-        let kind = match name {
-            "chi" => OPEN_SEQUENCE,
-            "pon" => OPEN_TRIPLET,
-            "closedKan" => CLOSED_KAN,
-            "openKan" => OPEN_KAN,
-            "addedKan" => ADDED_KAN,
+        let of = &arguments[0];
+        match name {
+            "chi" => Meld::new(of.tile(), OPEN_SEQUENCE),
+            "pon" => Meld::new(of.tile(), OPEN_TRIPLET),
+            "closedKan" => Meld::new(of.tile(), CLOSED_KAN),
+            "openKan" => Meld::new(of.tile(), OPEN_KAN),
+            "addedKan" => Meld::new(of.tile(), ADDED_KAN),
+            "fromRight" => of.call().with_source(RIGHT),
+            "fromAcross" => of.call().with_source(ACROSS),
+            "fromLeft" => of.call().with_source(LEFT),
             _ => panic!("no call: {name}"),
-        };
-        Meld::new(arguments[0].tile(), kind)
+        }
     }
 
     /// A win: `ron (sou 8)`, `southWins byRon (sou 8) (riichi ∷ [])` and the like, or such a win in a
@@ -357,6 +361,24 @@ mod tests {
         assert!(win.is_riichi && win.is_ippatsu && !win.is_rinshan);
         assert_eq!(refuses.to_string(), "refuses 11");
         assert_eq!(Term::of(&rows[0].term.to_string()), rows[0].term);
+    }
+
+    #[test]
+    fn a_call_may_say_from_whom() {
+        let call = |text| Term::of(text).call().bytes();
+        assert_eq!(call("chi (man 2)"), [1, 1, 3]);
+        assert_eq!(call("pon East"), [27, 3, 3]);
+        assert_eq!(call("closedKan East"), [27, 4, 0]);
+        assert_eq!(call("openKan (sou 9)"), [26, 5, 3]);
+        assert_eq!(call("addedKan Red"), [33, 6, 3]);
+        assert_eq!(call("fromRight (pon East)"), [27, 3, 1]);
+        assert_eq!(call("fromAcross (addedKan (pin 1))"), [9, 6, 2]);
+        assert_eq!(call("fromLeft (closedKan East)"), [27, 4, 3]);
+        let calls = Term::of("fromAcross (pon Red) ∷ chi (man 1) ∷ []");
+        let hand = Term::of("hand (mans 55)").hand(&calls);
+        let pon = Meld::new(33, OPEN_TRIPLET).with_source(ACROSS);
+        assert_eq!(hand.called(), [pon, Meld::new(0, OPEN_SEQUENCE)]);
+        assert_eq!(Term::of(&calls.to_string()), calls);
     }
 
     #[test]

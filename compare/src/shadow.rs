@@ -11,7 +11,7 @@ use crate::rng::Rng;
 use crate::scored_wins::sound_hand;
 use crate::wins;
 use std::fmt;
-use ziwhakemo::{Payment, Refusal, ScoreLevel, Yaku};
+use ziwhakemo::{Payment, Refusal, ScoreLevel, Source, Yaku};
 
 /// How many differences are printed.
 const PRINTED: u64 = 5;
@@ -21,6 +21,8 @@ pub struct TableWin {
     /// The tiles that are not called, the winning tile included.
     pub counts: TileCounts,
     pub calls: Vec<Meld>,
+    /// Who each open call came from, which agari has not.
+    pub sources: Vec<Source>,
     /// The tiles of hand and calls together.
     pub all_counts: TileCounts,
     pub context: GameContext,
@@ -34,9 +36,11 @@ impl TableWin {
         let hand = sound_hand(rng);
         let tile = random::held_tile(rng, &hand) as u8;
         let win = wins::win(rng, &hand, tile);
+        let sources = hand.called().iter().map(|call| call.source);
         TableWin {
             counts: agari::tile_counts(hand.counts()),
             calls: agari::called_melds(hand.called()),
+            sources: sources.map(to_ziwhakemo::source).collect(),
             all_counts: agari::tile_counts(&hand.with_calls().map(|count| count as u8)),
             context: context(&win, hand.is_open()),
             setting: win.double_wind_fu,
@@ -52,7 +56,8 @@ impl fmt::Display for TableWin {
             let text = to_ziwhakemo::tile(tile).to_string();
             write!(f, "{}", text.repeat(count.into()))?;
         }
-        write!(f, ", calls {:?}, {:?}", self.calls, self.context)?;
+        let calls = to_ziwhakemo::calls(&self.calls, &self.sources);
+        write!(f, ", calls {calls:?}, {:?}", self.context)?;
         write!(f, ", setting {}", self.setting)
     }
 }

@@ -2,7 +2,7 @@
 
 use crate::arguments;
 use crate::hand::Hand;
-use crate::library::Win;
+use crate::library::{Meld, Win};
 use crate::rng::Rng;
 use std::collections::HashSet;
 use std::fmt::Display;
@@ -98,16 +98,19 @@ pub fn write<const RECORD: usize, D, X, T: Display>(
 /// The greatest number of calls that a record can hold.
 pub const MOST_CALLS: usize = u16::MAX as usize;
 
-/// Writes a hand into 51 bytes: the length of the counts, room for 40 counts, the number of calls in
-/// two bytes, and four melds, each its tile and its kind.
+/// Writes a hand into 55 bytes: the length of the counts, room for 40 counts, the number of calls in
+/// two bytes, and four melds.
 pub fn put_hand(record: &mut [u8], hand: &Hand) {
     record[0] = hand.length as u8;
     record[1..][..hand.length].copy_from_slice(hand.counts());
     put_u16(record, 41, hand.calls.count);
-    for (place, meld) in hand.calls.melds.iter().enumerate() {
-        record[43 + 2 * place] = meld.tile;
-        record[44 + 2 * place] = meld.kind;
-    }
+    put_melds(&mut record[43..55], &hand.calls.melds);
+}
+
+/// Writes four melds into 12 bytes, of each its tile, its kind and its source.
+pub fn put_melds(record: &mut [u8], melds: &[Meld; 4]) {
+    let bytes = melds.map(Meld::bytes);
+    record.copy_from_slice(bytes.as_flattened());
 }
 
 /// Writes a win into 35 bytes: its type, the winning tile, the winds, the flags, the setting, and of each
@@ -135,7 +138,19 @@ pub fn put_u16(record: &mut [u8], at: usize, value: usize) {
 #[cfg(test)]
 mod tests {
     use super::*;
+    use crate::hand::{ACROSS, ADDED_KAN, OPEN_SEQUENCE};
     use crate::library::{Indicators, TSUMO};
+
+    #[test]
+    fn a_hand_is_written_with_the_sources_of_its_calls() {
+        let mut hand = Hand::written("55m456p678s");
+        hand.call(Meld::new(0, OPEN_SEQUENCE));
+        hand.call(Meld::new(33, ADDED_KAN).with_source(ACROSS));
+        let mut record = [0; 56];
+        put_hand(&mut record, &hand);
+        assert_eq!((record[0], record[5]), (34, 2));
+        assert_eq!(record[41..], [2, 0, 0, 1, 3, 33, 6, 2, 0, 0, 0, 0, 0, 0, 0]);
+    }
 
     #[test]
     fn a_win_is_written_field_by_field() {

@@ -1,10 +1,9 @@
 //! The comparison of random wins with the same wins renamed.
 
 use crate::agreement::{ANSWERS, BAD, Class, Outcome, PARTS, Twins};
-use crate::checker::SUFFICES;
 use crate::faults::{listed, listed_from};
 use crate::hand::Hand;
-use crate::library::{SETTINGS, Win};
+use crate::library::{ALWAYS_ENOUGH, SETTINGS, Win};
 use crate::renaming::Renaming;
 use crate::rng::Rng;
 use crate::scored_wins::random_wins;
@@ -92,7 +91,7 @@ struct TwinChecker {
 impl TwinChecker {
     fn new(seed: u64) -> TwinChecker {
         let mut rng = Rng::new(seed);
-        let old = (0..SUFFICES).map(|_| rng.byte()).collect();
+        let old = (0..ALWAYS_ENOUGH).map(|_| rng.byte()).collect();
         TwinChecker {
             rng,
             old,

@@ -10,9 +10,9 @@ use crate::library::{Score, WAITS, Waits, Win, YAKU};
 pub const CHECKS: [usize; FAULTS + 3] = [1, 2, 3, 4, 5, 6, 8, 14, 9];
 
 // The refusals that do.
-const NO_READING: u32 = 10;
-const NO_YAKU: u32 = 11;
-const NO_SUCH_READING: u32 = 12;
+pub const NO_READING: u32 = 10;
+pub const NO_YAKU: u32 = 11;
+pub const NO_SUCH_READING: u32 = 12;
 
 /// A hand with agari's readings, whatever the win.
 pub struct ExpectedHand {
@@ -126,7 +126,7 @@ fn worth(score: &Score) -> Option<Worth> {
 }
 
 /// A refusal's number alone.
-fn refused(number: u32) -> Score {
+pub fn refused(number: u32) -> Score {
     Score {
         number,
         settlement: 0,

@@ -297,13 +297,13 @@ fn laid_out(rng: &mut Rng, shape: &Shape) -> Hand {
     hand
 }
 
-/// A call of the tiles of a closed meld, or with a fourth tile.
+/// A call of the tiles of a closed meld, or with a fourth tile, from any player that it may come from.
 fn called(rng: &mut Rng, meld: Meld) -> Meld {
     let kind = match meld.kind {
         CLOSED_SEQUENCE => OPEN_SEQUENCE,
         _ => rng.pick(&[OPEN_TRIPLET, CLOSED_KAN, OPEN_KAN, ADDED_KAN]),
     };
-    Meld::new(meld.tile, kind)
+    Meld::new(meld.tile, kind).from_anyone(rng)
 }
 
 /// The winning tiles to try: each kind that the hand holds in turn, or one of them.

@@ -7,25 +7,56 @@ use agari_core::parse::{to_counts, validate_hand};
 use agari_core::tile::Tile;
 use compare::agari::{self, Record};
 use compare::convert::{to_agari, to_ziwhakemo};
-use compare::hand::{Hand, KINDS};
+use compare::hand::{Hand, KINDS, NOBODY};
 use compare::rng::Rng;
 use compare::scored_wins::sound_hand;
 use compare::{answers, differences, random, wins};
-use ziwhakemo::WaitType;
 use ziwhakemo::agari as ours;
+use ziwhakemo::{Source, WaitType};
 
 const HANDS: usize = 5000;
 
 /// The records of readings in the order in which the crate answers them.
 fn records(readings: &[ziwhakemo::HandStructure]) -> Vec<Record> {
-    let theirs = readings.iter().map(to_agari::hand_structure);
-    theirs.map(|reading| agari::record(&reading)).collect()
+    readings.iter().map(record).collect()
 }
 
-/// The records of agari's readings, each once, in their order.
-fn ordered(readings: Vec<HandStructure>) -> Vec<Record> {
-    let readings = differences::in_order(readings);
-    readings.into_iter().map(|(record, _)| record).collect()
+/// The record of a reading with the sources of its melds, which stand in the order of the record.
+fn record(reading: &ziwhakemo::HandStructure) -> Record {
+    let bare = agari::record(&to_agari::hand_structure(reading));
+    let (ziwhakemo::HandStructure::Standard { melds, .. }, Some((pair, bare_melds))) =
+        (reading, bare.parts())
+    else {
+        return bare;
+    };
+    let sources = melds
+        .iter()
+        .map(|meld| meld.source().map_or(NOBODY, Source::number));
+    let melds = bare_melds.into_iter().zip(sources);
+    Record::standard(
+        pair,
+        melds
+            .map(|(meld, source)| meld.with_source(source))
+            .collect(),
+    )
+}
+
+/// The records of agari's readings, each once, in their order, with the sources of the hand's calls.
+fn ordered(readings: Vec<HandStructure>, hand: &Hand) -> Vec<Record> {
+    let readings = differences::in_order(readings).into_iter();
+    readings
+        .map(|(record, _)| record.with_sources(hand.called()))
+        .collect()
+}
+
+/// The hand's calls in the crate's types.
+fn turned_calls(hand: &Hand) -> Vec<ziwhakemo::Meld> {
+    let sources = hand
+        .called()
+        .iter()
+        .map(|call| to_ziwhakemo::source(call.source));
+    let sources: Vec<Source> = sources.collect();
+    to_ziwhakemo::calls(&agari::called_melds(hand.called()), &sources)
 }
 
 #[test]
@@ -36,14 +67,14 @@ fn readings() {
         let calls = agari::called_melds(hand.called());
         let theirs = agari::tile_counts(hand.counts());
         let counts = to_ziwhakemo::tile_counts(&theirs);
-        let called = to_ziwhakemo::melds(&calls);
+        let called = turned_calls(&hand);
 
         let found = ours::decompose_hand_with_melds(&counts, &called);
-        let want = ordered(decompose_hand_with_melds(&theirs, &calls));
+        let want = ordered(decompose_hand_with_melds(&theirs, &calls), &hand);
         assert!(records(&found) == want, "{hand}");
         if calls.is_empty() {
             let found = ours::decompose_hand(&counts);
-            let want = ordered(answers::found(&theirs, &[]));
+            let want = ordered(answers::found(&theirs, &[]), &hand);
             assert!(records(&found) == want, "{hand}");
         }
     }

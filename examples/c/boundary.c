@@ -1,8 +1,9 @@
 /* Calls every function of the library on random inputs, damaged ones among them, and holds each
-   answer to what can be said of it without scoring: the refusals, the bytes, the dora, the choice
-   among the readings, what the room's setting and the indicators change. Whatever is lent is
-   allocated at exactly its size, so that valgrind sees every read or write outside of it. Before
-   them, single hands: one under every setting, and some with dora. In the root:
+   answer to what can be said of it without scoring: the refusals, the bytes, the calls among the
+   melds, the dora, the choice among the readings, what the room's setting and the indicators change,
+   and that the sources of the calls change nothing else. Whatever is lent is allocated at exactly its
+   size, so that valgrind sees every read or write outside of it. Before them, single hands: one under
+   every setting, some with dora, and one with a call of every kind and source. In the root:
 
      cc -std=c99 -O1 -g -Iinclude examples/c/boundary.c target/staticlib/libziwhakemo.a \
          -o target/boundary
@@ -20,6 +21,7 @@
 
 enum { MOST_COUNTS = 40, MOST_CALLS = 6, MOST_BYTES = 120, GUARD = 64 };
 enum { NUMBERS = 15, MANY = 5, ENOUGH = 10000 };
+enum { FIRST_MELD = 5 }; /* where the melds of a standard record begin */
 
 /* ---- Random numbers (splitmix64) ---- */
 
@@ -66,13 +68,21 @@ static bool starts_sequence(uint8_t tile) {
     return tile < 27 && tile % 9 < 7;
 }
 
+/* Can a tile have been called from there? */
+static bool is_from_another(uint8_t source) {
+    return source == ZIWHAKEMO_FROM_RIGHT || source == ZIWHAKEMO_FROM_ACROSS ||
+           source == ZIWHAKEMO_FROM_LEFT;
+}
+
 static bool is_call(ziwhakemo_meld meld) {
+    bool is_tile = meld.tile < ZIWHAKEMO_TILES;
     switch (meld.kind) {
-    case ZIWHAKEMO_MELD_OPEN_SEQUENCE: return starts_sequence(meld.tile);
+    case ZIWHAKEMO_MELD_OPEN_SEQUENCE:
+        return starts_sequence(meld.tile) && meld.source == ZIWHAKEMO_FROM_LEFT;
+    case ZIWHAKEMO_MELD_CLOSED_KAN: return is_tile && meld.source == ZIWHAKEMO_FROM_NOBODY;
     case ZIWHAKEMO_MELD_OPEN_TRIPLET:
-    case ZIWHAKEMO_MELD_CLOSED_KAN:
     case ZIWHAKEMO_MELD_OPEN_KAN:
-    case ZIWHAKEMO_MELD_ADDED_KAN: return meld.tile < ZIWHAKEMO_TILES;
+    case ZIWHAKEMO_MELD_ADDED_KAN: return is_tile && is_from_another(meld.source);
     default: return false;
     }
 }
@@ -173,6 +183,13 @@ static uint8_t any_tile(void) {
     return (uint8_t)(first_tile + below(number_of_tiles));
 }
 
+/* A source that a call of this kind can have. */
+static uint8_t any_source(unsigned kind) {
+    if (kind == ZIWHAKEMO_MELD_OPEN_SEQUENCE) return ZIWHAKEMO_FROM_LEFT;
+    if (kind == ZIWHAKEMO_MELD_CLOSED_KAN) return ZIWHAKEMO_FROM_NOBODY;
+    return (uint8_t)(ZIWHAKEMO_FROM_RIGHT + below(3));
+}
+
 static void add_meld(input *in, uint8_t tile, unsigned kind) {
     if (kind == ZIWHAKEMO_MELD_CLOSED_SEQUENCE) {
         for (int i = 0; i < 3; i++) in->counts[tile + i]++;
@@ -181,6 +198,7 @@ static void add_meld(input *in, uint8_t tile, unsigned kind) {
     } else {
         in->calls[in->calls_length].tile = tile;
         in->calls[in->calls_length].kind = (uint8_t)kind;
+        in->calls[in->calls_length].source = any_source(kind);
         in->calls_length++;
     }
 }
@@ -314,7 +332,7 @@ static void damage_indicators(ziwhakemo_indicators *shown) {
 static void damage(input *in) {
     unsigned tile = below(ZIWHAKEMO_TILES);
     bool first = percent(50);
-    switch (below(12)) {
+    switch (below(13)) {
     case 0:
         in->counts_length = below(MOST_COUNTS + 1);
         for (int i = ZIWHAKEMO_TILES; i < MOST_COUNTS; i++) in->counts[i] = byte();
@@ -325,6 +343,7 @@ static void damage(input *in) {
         for (size_t i = 0; i < in->calls_length; i++) {
             in->calls[i].tile = percent(50) ? (uint8_t)below(36) : byte();
             in->calls[i].kind = percent(50) ? (uint8_t)below(8) : byte();
+            in->calls[i].source = percent(50) ? any_source(in->calls[i].kind) : byte();
         }
         break;
     case 3: in->counts[tile] = byte(); break;
@@ -337,6 +356,7 @@ static void damage(input *in) {
     case 10:
         damage_indicators(first ? &in->win.dora_indicators : &in->win.ura_dora_indicators);
         break;
+    case 11: in->calls[below(4)].source = percent(50) ? (uint8_t)below(5) : byte(); break;
     default:
         for (int i = 0; i < MOST_COUNTS; i++) in->counts[i] = byte();
     }
@@ -350,7 +370,7 @@ static input draw_input(void) {
     draw_win(&in);
     for (unsigned faults = percent(40) ? 1 + below(2) : 0; faults > 0; faults--) damage(&in);
     in.reading = percent(80) ? below(2) : percent(50) ? (size_t)word() : (size_t)1 << below(64);
-    in.out_length = below(percent(50) ? 30 : MOST_BYTES + 1);
+    in.out_length = below(percent(50) ? 40 : MOST_BYTES + 1);
     in.han = byte();
     in.fu = byte();
     in.flag = percent(50);
@@ -374,7 +394,7 @@ static void hold(bool good, const char *what, const input *in) {
         for (size_t i = 0; i < in->counts_length; i++) printf(" %d", in->counts[i]);
         printf("\n  calls (%zu):", in->calls_length);
         for (size_t i = 0; i < in->calls_length; i++)
-            printf(" %d-%d", in->calls[i].tile, in->calls[i].kind);
+            printf(" %d-%d-%d", in->calls[i].tile, in->calls[i].kind, in->calls[i].source);
         print_indicators("dora indicators", &in->win.dora_indicators);
         print_indicators("ura dora indicators", &in->win.ura_dora_indicators);
         printf("\n  win %d by %d, winds %d %d, riichi %d, setting %d, reading %zu, %zu bytes\n",
@@ -430,6 +450,62 @@ static bool are_records(const uint8_t *bytes, size_t size, size_t readings) {
         at += length;
     }
     return at == size;
+}
+
+/* A meld of a standard record, by its place. */
+static ziwhakemo_meld meld_at(const uint8_t *record, size_t place) {
+    ziwhakemo_meld meld;
+    memcpy(&meld, record + FIRST_MELD + place * sizeof meld, sizeof meld);
+    return meld;
+}
+
+/* Where a meld stands among others: by tile, then by kind, then by source. */
+static unsigned long order(ziwhakemo_meld meld) {
+    return 65536ul * meld.tile + 256ul * meld.kind + meld.source;
+}
+
+static bool is_closed_of_hand(ziwhakemo_meld meld) {
+    return meld.kind == ZIWHAKEMO_MELD_CLOSED_SEQUENCE ||
+           meld.kind == ZIWHAKEMO_MELD_CLOSED_TRIPLET;
+}
+
+/* How often a meld is among the calls, and how often among the melds of a standard record. */
+static unsigned times_called(const input *in, ziwhakemo_meld meld) {
+    unsigned sum = 0;
+    for (size_t i = 0; i < in->calls_length; i++) sum += order(in->calls[i]) == order(meld);
+    return sum;
+}
+
+static unsigned times_recorded(const uint8_t *record, ziwhakemo_meld meld) {
+    unsigned sum = 0;
+    for (size_t i = 0; i < 4; i++) sum += order(meld_at(record, i)) == order(meld);
+    return sum;
+}
+
+/* Do the melds of a standard record ascend, and are they the calls with their sources, and else
+   closed ones from nobody? */
+static bool has_calls(const input *in, const uint8_t *record) {
+    size_t calls = 0;
+    for (size_t i = 0; i < 4; i++) {
+        ziwhakemo_meld meld = meld_at(record, i);
+        if (i > 0 && order(meld_at(record, i - 1)) > order(meld)) return false;
+        if (is_closed_of_hand(meld)) {
+            if (meld.source != ZIWHAKEMO_FROM_NOBODY) return false;
+        } else {
+            if (times_called(in, meld) != times_recorded(record, meld)) return false;
+            calls++;
+        }
+    }
+    return calls == in->calls_length;
+}
+
+/* The melds of all records. */
+static void hold_melds(const input *in, const uint8_t *record, size_t readings) {
+    for (size_t n = 0; n < readings; n++) {
+        if (record[2] == ZIWHAKEMO_RECORD_STANDARD)
+            hold(has_calls(in, record), "the melds of a record", in);
+        record += record[0] + 256u * record[1];
+    }
 }
 
 /* Lists into a buffer that is long enough, with bytes on both sides of it that have to stay. Answers
@@ -844,7 +920,8 @@ static void in_order(bool ura, unsigned count, uint8_t tile) {
     }
 }
 
-/* pin 456, sou 234 678, man 55, a call, ron on sou 8 by South. It has no yaku, but by the call. */
+/* pin 456, sou 234 678, man 55, a call from anyone, ron on sou 8 by South. It has no yaku, but by the
+   call. */
 static input with_call(uint8_t tile, uint8_t kind) {
     input in = pair_of_east(ZIWHAKEMO_DOUBLE_WIND_FU_FOUR);
     memset(in.counts, 0, sizeof in.counts);
@@ -853,6 +930,7 @@ static input with_call(uint8_t tile, uint8_t kind) {
     for (int n = 2; n <= 8; n++) in.counts[ZIWHAKEMO_SOU(n)] = n == 5 ? 0 : 1;
     in.calls[0].tile = tile;
     in.calls[0].kind = kind;
+    in.calls[0].source = any_source(kind);
     in.calls_length = 1;
     in.win.win_type = ZIWHAKEMO_RON;
     in.win.winning_tile = ZIWHAKEMO_SOU(8);
@@ -956,6 +1034,148 @@ static void indicators(void) {
     each_field();
 }
 
+/* ---- Sources ---- */
+
+static uint64_t other_sources_taken;
+
+/* Are two answers alike in every field? */
+static bool same_score(const ziwhakemo_score_answer *a, const ziwhakemo_score_answer *b) {
+    return a->number == b->number && a->settlement == b->settlement && a->reading == b->reading &&
+           same_yaku(a, b) && a->han == b->han && a->fu == b->fu && a->level == b->level &&
+           a->yakuman_count == b->yakuman_count && a->regular_dora == b->regular_dora &&
+           a->ura_dora == b->ura_dora && a->basic_points == b->basic_points &&
+           a->from_non_dealer == b->from_non_dealer && a->from_dealer == b->from_dealer &&
+           a->from_discarder == b->from_discarder && a->total == b->total;
+}
+
+static bool same_waits(const ziwhakemo_waits_answer *a, const ziwhakemo_waits_answer *b) {
+    return a->number == b->number && memcmp(a->waits, b->waits, sizeof a->waits) == 0;
+}
+
+/* Other sources for the calls, each of which can be. */
+static input with_other_sources(const input *in) {
+    input other = *in;
+    for (size_t i = 0; i < other.calls_length; i++)
+        other.calls[i].source = any_source(other.calls[i].kind);
+    return other;
+}
+
+/* Is this the place of a source in a standard record? */
+static bool is_source(size_t place) {
+    return place >= FIRST_MELD &&
+           (place - FIRST_MELD) % sizeof(ziwhakemo_meld) == offsetof(ziwhakemo_meld, source);
+}
+
+/* Are records byte for byte the same, but for the sources of their melds? */
+static bool same_but_sources(const uint8_t *a, const uint8_t *b, size_t bytes) {
+    for (size_t at = 0; at < bytes; at += a[at] + 256u * a[at + 1]) {
+        size_t length = a[at] + 256u * a[at + 1];
+        bool standard = a[at + 2] == ZIWHAKEMO_RECORD_STANDARD;
+        for (size_t i = 0; i < length; i++) {
+            bool skip = standard && is_source(i);
+            if (!skip && a[at + i] != b[at + i]) return false;
+        }
+    }
+    return true;
+}
+
+/* The listing with other sources. */
+static void hold_listing(const input *in, const input *other, const uint8_t *all, size_t bytes,
+                         size_t readings) {
+    uint8_t records[ZIWHAKEMO_ALWAYS_ENOUGH];
+    ziwhakemo_listing_answer answer =
+        ziwhakemo_list_readings(other->counts, other->counts_length, other->calls,
+                                other->calls_length, records, sizeof records);
+    bool alike = answer.number == 0 && answer.readings == readings && answer.bytes == bytes;
+    hold(alike, "a listing by sources", in);
+    if (!alike) return;
+    hold(same_but_sources(all, records, bytes), "records by sources", in);
+    hold_melds(other, records, readings);
+}
+
+/* Scores and waits with other sources, of the win and of the reading that was drawn. */
+static void hold_alike(const input *in, const input *other) {
+    const uint8_t *counts = in->counts;
+    size_t tiles = in->counts_length, melds = in->calls_length, n = in->reading;
+    ziwhakemo_score_answer a = ziwhakemo_score_win(counts, tiles, in->calls, melds, in->win);
+    ziwhakemo_score_answer b = ziwhakemo_score_win(counts, tiles, other->calls, melds, in->win);
+    hold(same_score(&a, &b), "the win by sources", in);
+    a = ziwhakemo_score_reading(counts, tiles, in->calls, melds, in->win, n);
+    b = ziwhakemo_score_reading(counts, tiles, other->calls, melds, in->win, n);
+    hold(same_score(&a, &b), "a reading by sources", in);
+    ziwhakemo_waits_answer c = ziwhakemo_name_waits(counts, tiles, in->calls, melds, in->win, n);
+    ziwhakemo_waits_answer d = ziwhakemo_name_waits(counts, tiles, other->calls, melds, in->win, n);
+    hold(same_waits(&c, &d), "waits by sources", in);
+}
+
+/* A hand with calls, and with other sources of them: nothing else changes. */
+static void by_sources(const input *in, const uint8_t *all, size_t bytes, size_t readings) {
+    if (hand_check(in) != 0 || in->calls_length == 0) return;
+    input other = with_other_sources(in);
+    hold_listing(in, &other, all, bytes, readings);
+    hold_alike(in, &other);
+    if (memcmp(in->calls, other.calls, sizeof in->calls) != 0) other_sources_taken++;
+}
+
+/* What a listing is answered with. */
+static uint32_t listing_number(const input *in) {
+    uint8_t records[ZIWHAKEMO_ALWAYS_ENOUGH];
+    return ziwhakemo_list_readings(in->counts, in->counts_length, in->calls, in->calls_length,
+                                   records, sizeof records)
+        .number;
+}
+
+/* A call that is none is refused with 3, which comes after 1 and 2 and before 4. */
+static void hold_no_call(input in) {
+    hold_refused(&in, 3);
+    hold(listing_number(&in) == 3, "the number of a listing", &in);
+    in.counts[ZIWHAKEMO_MAN(9)] = 5;
+    hold_refused(&in, 3);
+    in.calls_length = 5;
+    hold_refused(&in, 2);
+    in.counts_length = ZIWHAKEMO_TILES - 1;
+    hold_refused(&in, 1);
+}
+
+/* A call is listed, and scored as with the source that it had. */
+static void hold_call(const input *in, const input *first) {
+    answers a = ask(in), b = ask(first);
+    hold(listing_number(in) == 0, "the number of a listing", in);
+    hold(a.reading.number == 0 && a.waits.number == 0, "the number of a reading", in);
+    hold(same_score(&a.win, &b.win), "the win by sources", in);
+    hold(same_score(&a.reading, &b.reading), "a reading by sources", in);
+    hold(same_waits(&a.waits, &b.waits), "waits by sources", in);
+}
+
+/* A source is taken for a call of a kind exactly where this says so. */
+static bool is_source_of(unsigned kind, unsigned source) {
+    static const bool taken[7][4] = {
+        {false, false, false, false}, /* a closed sequence is no call */
+        {false, false, false, true},  /* chi: from the left alone */
+        {false, false, false, false}, /* a closed triplet is no call */
+        {false, true, true, true},    /* pon */
+        {true, false, false, false},  /* closed kan: from nobody */
+        {false, true, true, true},    /* open kan */
+        {false, true, true, true}     /* added kan */
+    };
+    return kind < 7 && source < 4 && taken[kind][source];
+}
+
+/* A call of every kind, and of what is no kind, with each of the 256 sources. */
+static void sources(void) {
+    for (unsigned kind = 0; kind < 9; kind++) {
+        bool sequence = kind <= ZIWHAKEMO_MELD_OPEN_SEQUENCE;
+        input first = with_call(sequence ? ZIWHAKEMO_MAN(1) : (uint8_t)ZIWHAKEMO_WHITE,
+                                (uint8_t)(kind < 8 ? kind : 255));
+        for (unsigned source = 0; source < 256; source++) {
+            input in = first;
+            in.calls[0].source = (uint8_t)source;
+            if (is_source_of(in.calls[0].kind, source)) hold_call(&in, &first);
+            else hold_no_call(in);
+        }
+    }
+}
+
 /* ---- Points ---- */
 
 static void points(const input *in) {
@@ -991,10 +1211,12 @@ static void run(const input *in) {
     for (size_t i = 0; i < readings; i++) bytes += all[bytes] + 256u * all[bytes + 1];
     if (hand_check(in) == 0) with_readings[readings < MANY ? readings : (size_t)MANY]++;
     list_exactly(in, from, all, bytes, readings);
+    hold_melds(in, all, readings);
     score(in, from, readings);
     by_number(in, from, readings);
     under_both(in, from, all, readings);
     without_dora(in, from, readings);
+    by_sources(in, all, bytes, readings);
     points(in);
     hold(same(from.counts, in->counts, in->counts_length), "the counts changed", in);
     hold(same(from.calls, in->calls, in->calls_length * sizeof(ziwhakemo_meld)), "a call changed",
@@ -1045,6 +1267,7 @@ int main(int words, char **arguments) {
     state = seed;
     settings();
     indicators();
+    sources();
     for (unsigned long i = 0; i < inputs; i++) {
         input in = draw_input();
         run(&in);
@@ -1060,6 +1283,7 @@ int main(int words, char **arguments) {
     printf("\nreadings without dora, with some, with 13 and more; yakuman with some; no yaku at 13:");
     for (int i = 0; i < 3; i++) printf(" %lu", (unsigned long)with_dora[i]);
     printf(" %lu %lu", (unsigned long)yakuman_with_dora, (unsigned long)no_yaku_at_13);
+    printf("\nhands with other sources: %lu", (unsigned long)other_sources_taken);
     printf("\nNULL lent for nothing: %lu\nwrong: %lu\n", (unsigned long)nulls, (unsigned long)wrong);
     return wrong > 0;
 }

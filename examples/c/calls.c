@@ -1,6 +1,6 @@
 /* Lists the readings of three hands, decodes each record, and prints it with its waits, yaku, dora
-   and score, then what the win scores and who pays what. The first hand has a chi, a pon and a
-   closed kan, whose four tiles are dora. In the root:
+   and score, then what the win scores and who pays what. The first hand has a chi from the left, a
+   pon from across and a closed kan, whose four tiles are dora. In the root:
 
      cc -std=c99 -Iinclude examples/c/calls.c target/staticlib/libziwhakemo.a -o target/calls
      target/calls
@@ -35,11 +35,24 @@ static void print_tiles(const uint8_t *tiles, int number) {
 
 /* ---- Records ---- */
 
-static void print_meld(uint8_t tile, uint8_t kind) {
+/* Prints a meld, and who its tile came from where it was called. */
+static void print_meld(ziwhakemo_meld meld) {
     static const char *const kinds[] = {"sequence from", "chi from", "triplet of", "pon of",
                                         "closed kan of", "open kan of", "added kan of"};
-    printf(", %s ", kinds[kind]);
-    print_tile(tile);
+    static const char *const sources[] = {"", " (called from the right)", " (called from across)",
+                                          " (called from the left)"};
+    printf(", %s ", kinds[meld.kind]);
+    print_tile(meld.tile);
+    printf("%s", sources[meld.source]);
+}
+
+/* Prints melds of a record, each of which stands there byte for byte. */
+static void print_melds(const uint8_t *bytes, int number) {
+    ziwhakemo_meld meld;
+    for (int i = 0; i < number; i++) {
+        memcpy(&meld, bytes + (size_t)i * sizeof meld, sizeof meld);
+        print_meld(meld);
+    }
 }
 
 /* Prints a record and answers its length. What stands where is said in ziwhakemo.h, "Listing
@@ -57,7 +70,7 @@ static size_t print_record(const uint8_t *record) {
     } else {
         printf("pair of");
         print_tiles(rest, 1);
-        for (int i = 0; i < 4; i++) print_meld(rest[1 + 2 * i], rest[2 + 2 * i]);
+        print_melds(rest + 1, 4);
     }
     return length;
 }
@@ -161,10 +174,11 @@ static hand nothing(uint8_t win_type, uint8_t winning_tile, uint8_t seat_wind) {
     return h;
 }
 
-static void call(hand *h, uint8_t tile, uint8_t kind) {
+static void call(hand *h, uint8_t tile, uint8_t kind, uint8_t source) {
     ziwhakemo_meld *meld = &h->calls[h->calls_length++];
     meld->tile = tile;
     meld->kind = kind;
+    meld->source = source;
 }
 
 /* Shows one indicator more: the tile that lies there, not the dora. */
@@ -176,9 +190,9 @@ static hand with_calls(void) {
     hand h = nothing(ZIWHAKEMO_RON, ZIWHAKEMO_PIN(6), ZIWHAKEMO_SOUTH);
     h.counts[ZIWHAKEMO_PIN(4)] = h.counts[ZIWHAKEMO_PIN(5)] = h.counts[ZIWHAKEMO_PIN(6)] = 1;
     h.counts[ZIWHAKEMO_SOU(8)] = 2;
-    call(&h, ZIWHAKEMO_MAN(2), ZIWHAKEMO_MELD_OPEN_SEQUENCE);
-    call(&h, ZIWHAKEMO_RED, ZIWHAKEMO_MELD_OPEN_TRIPLET);
-    call(&h, ZIWHAKEMO_EAST, ZIWHAKEMO_MELD_CLOSED_KAN);
+    call(&h, ZIWHAKEMO_MAN(2), ZIWHAKEMO_MELD_OPEN_SEQUENCE, ZIWHAKEMO_FROM_LEFT);
+    call(&h, ZIWHAKEMO_RED, ZIWHAKEMO_MELD_OPEN_TRIPLET, ZIWHAKEMO_FROM_ACROSS);
+    call(&h, ZIWHAKEMO_EAST, ZIWHAKEMO_MELD_CLOSED_KAN, ZIWHAKEMO_FROM_NOBODY);
     show_indicator(&h.win.dora_indicators, ZIWHAKEMO_NORTH);
     show_indicator(&h.win.dora_indicators, ZIWHAKEMO_MAN(1));
     return h;
@@ -213,8 +227,8 @@ int main(void) {
         return 2;
     }
     hand first = with_calls(), second = seven_pairs(), third = orphans();
-    bool good = show("456p 88s, chi 234m, pon Red, closed kan East: South, ron on 6p; "
-                     "indicators North and 1m",
+    bool good = show("456p 88s, chi 234m from the left, pon Red from across, closed kan East: South, "
+                     "ron on 6p; indicators North and 1m",
                      &first);
     good = show("112233m 778899p 55s: East, riichi, tsumo on 2m; indicator 1m, ura indicator 4s",
                 &second) && good;

@@ -62,12 +62,13 @@ static uint8_t kind_of(char letter) {
     return ZIWHAKEMO_MELD_ADDED_KAN; /* a */
 }
 
-/* Three letters a call: kind, number, suit. */
+/* Three letters a call: kind, number, suit. What is called comes from the left. */
 static void read_calls(hand *h, const char *text) {
     for (; *text != 0; text += 3) {
         ziwhakemo_meld *call = &h->calls[h->calls_length++];
         call->tile = tile_of(text[1], text[2]);
         call->kind = kind_of(text[0]);
+        call->source = text[0] == 'k' ? ZIWHAKEMO_FROM_NOBODY : ZIWHAKEMO_FROM_LEFT;
     }
 }
 
@@ -292,12 +293,14 @@ static void refusals(void) {
     hold_number(listed(good, "", tiles, room), "accepted");
     hold_number(listed(good, "", tiles - 1, room), "the counts are not 34 long");
     hold_number(listed("", "c1mc1mc1mc1pc1p", tiles, room), "more than four calls");
-    hold_number(listed(good, "c8m", tiles, room), "a call's kind or tile is not that of a call");
+    hold_number(listed(good, "c8m", tiles, room),
+                "a call's kind, tile or source is not that of a call");
     hold_number(listed("11111m", "", tiles, room), "a count above 4");
     hold_number(listed("11m", "p1m", tiles, room),
                 "hand and calls together hold more than four of a kind");
     hold_number(listed("1m", "", tiles, room), "hand tiles are not 14 - 3 x calls");
-    hold_number(listed(good, "", tiles, 12), "the records need more bytes than were lent");
+    hold_number(listed(good, "", tiles, ZIWHAKEMO_STANDARD_LENGTH - 1),
+                "the records need more bytes than were lent");
     hold_number(scored(good, "1m 12", 2), "win type, a wind or the room's setting out of range");
     hold_number(scored(good, "4m 12", ZIWHAKEMO_RON),
                 "the winning tile is above 33 or not in the hand");

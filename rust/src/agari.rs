@@ -5,6 +5,10 @@
 //! each once, in the order of records, and waits in the order of [`WaitType::ALL`], those of thirteen
 //! orphans as players name them.
 //!
+//! agari's melds do not say who a tile was called from, and those here do ([`Source`](crate::Source)). A
+//! chi is called from the left alone; for a pon or an open kan of which it is not known, any source does:
+//! readings differ in it and in nothing else, and waits not at all.
+//!
 //! The levels and basic points of han and fu need no other signature, and stand here too.
 //!
 //! ```
@@ -131,7 +135,7 @@ fn in_order(structure: &HandStructure) -> HandStructure {
     let mut reading = structure.clone();
     match &mut reading {
         HandStructure::Standard { melds, .. } => {
-            melds.sort_by_key(|meld| (meld.tile(), meld.kind()));
+            melds.sort_by_key(|meld| (meld.tile(), meld.kind(), meld.source()));
         }
         HandStructure::Chiitoitsu { pairs } => pairs.sort(),
         HandStructure::Kokushi { .. } => {}
@@ -147,8 +151,8 @@ fn hand_of(reading: &HandStructure) -> Option<([u8; TILES], Vec<Meld>)> {
             let mut tiles = vec![*pair; 2];
             for meld in melds {
                 match *meld {
-                    Meld::Shuntsu(first, false) => tiles.extend(sequence(first)?),
-                    Meld::Koutsu(tile, false) => tiles.extend([tile; 3]),
+                    Meld::Shuntsu(first, None) => tiles.extend(sequence(first)?),
+                    Meld::Koutsu(tile, None) => tiles.extend([tile; 3]),
                     _ => calls.push(meld.clone()),
                 }
             }

@@ -4,14 +4,16 @@
 use crate::OTHER_VERSION;
 
 /// The version of the interface that is declared here: `ZIWHAKEMO_VERSION` of the header.
-pub const VERSION: u32 = 5;
+pub const VERSION: u32 = 6;
 
-/// A meld: the number of its lowest tile, and its kind.
+/// A meld: the number of its lowest tile, its kind, and who its tile was called from: 1 to 3 seats onward,
+/// or 0.
 #[repr(C)]
 #[derive(Clone, Copy, Debug, PartialEq, Eq)]
 pub struct Meld {
     pub tile: u8,
     pub kind: u8,
+    pub source: u8,
 }
 
 /// Indicators: how many are shown, and the numbers of their tiles. What stands behind the count is not read.
@@ -246,12 +248,14 @@ pub fn payment(basic_points: u32, is_dealer: bool, win_type: u8) -> PaymentAnswe
 #[cfg(test)]
 mod tests {
     use super::*;
+    use crate::record::{ALWAYS_ENOUGH, STANDARD_LENGTH};
     use std::mem::{align_of, offset_of, size_of};
     use std::ptr;
 
     const MAN_1: u8 = 0;
     const SOU_7: u8 = 24;
     const SOU_8: u8 = 25;
+    const WHITE: u8 = 31;
 
     /// No indicator, with noise behind the count.
     const NONE: Indicators = Indicators {
@@ -271,7 +275,7 @@ mod tests {
         times(count, MAN_1)
     }
 
-    /// man 222 333 444, pin 567, sou 88: two readings, 26 bytes.
+    /// man 222 333 444, pin 567, sou 88: two readings, each four melds and a pair.
     fn spring_final() -> [u8; 34] {
         let mut counts = [0; 34];
         counts[1..4].fill(3);
@@ -317,6 +321,24 @@ mod tests {
         }
     }
 
+    /// man 333 444, pin 567, sou 88: a call is missing.
+    fn but_a_call() -> [u8; 34] {
+        let mut counts = spring_final();
+        counts[1] = 0;
+        counts
+    }
+
+    /// The numbers with which the four operations that take a hand answer to it and a call.
+    fn numbers_with(call: Meld) -> [u32; 4] {
+        let (counts, calls, win) = (but_a_call(), [call], ron(SOU_8));
+        [
+            list_readings(&counts, &calls, &mut [0; ALWAYS_ENOUGH]).number,
+            score_win(&counts, &calls, win).number,
+            score_reading(&counts, &calls, win, 0).number,
+            name_waits(&counts, &calls, win, 0).number,
+        ]
+    }
+
     /// The numbers with which the three operations that take a win answer.
     fn numbers(counts: &[u8], win: GameContext) -> [u32; 3] {
         [
@@ -328,15 +350,28 @@ mod tests {
 
     #[test]
     fn library_header_and_this_file_are_of_one_version() {
-        let header = include_str!("../../include/ziwhakemo.h");
-        let define = format!("#define ZIWHAKEMO_VERSION {VERSION}");
-        assert!(header.lines().any(|line| line == define));
+        assert!(is_defined("ZIWHAKEMO_VERSION", VERSION as usize));
         assert_eq!(version(), VERSION);
     }
 
     #[test]
+    fn header_and_crate_have_the_same_lengths() {
+        assert!(is_defined("ZIWHAKEMO_STANDARD_LENGTH", STANDARD_LENGTH));
+        assert!(is_defined("ZIWHAKEMO_ALWAYS_ENOUGH", ALWAYS_ENOUGH));
+    }
+
+    /// Does the header give this name to this number?
+    fn is_defined(name: &str, number: usize) -> bool {
+        let header = include_str!("../../include/ziwhakemo.h");
+        let define = format!("#define {name} {number}");
+        header.lines().any(|line| line == define)
+    }
+
+    #[test]
     fn structs_are_laid_out_as_in_c() {
-        assert_eq!((size_of::<Meld>(), align_of::<Meld>()), (2, 1));
+        assert_eq!((size_of::<Meld>(), align_of::<Meld>()), (3, 1));
+        assert_eq!(offset_of!(Meld, kind), 1);
+        assert_eq!(offset_of!(Meld, source), 2);
         let context = (size_of::<GameContext>(), align_of::<GameContext>());
         assert_eq!(context, (35, 1));
         assert_eq!(offset_of!(GameContext, is_chiihou), 11);
@@ -367,7 +402,7 @@ mod tests {
     #[test]
     fn a_buffer_of_any_length_is_filled_or_left() {
         let counts = spring_final();
-        let mut whole = [0; 26];
+        let mut whole = [0; 2 * STANDARD_LENGTH];
         assert_eq!(list_readings(&counts, &[], &mut whole).number, 0);
         for length in 0..=60 {
             // Bytes on both sides of what is lent, which have to stay too.
@@ -391,10 +426,10 @@ mod tests {
 
     #[test]
     fn a_refusal_leaves_a_long_buffer() {
-        let mut buffer = [0xa5; 1467];
+        let mut buffer = [0xa5; ALWAYS_ENOUGH];
         let answer = list_readings(&[0; 33], &[], &mut buffer);
         assert_eq!((answer.number, answer.readings, answer.bytes), (1, 0, 0));
-        assert_eq!(buffer, [0xa5; 1467]);
+        assert_eq!(buffer, [0xa5; ALWAYS_ENOUGH]);
     }
 
     #[test]
@@ -408,6 +443,63 @@ mod tests {
             ]
         };
         assert_eq!(answers.map(|answer| answer.number), [1, 7]);
+    }
+
+    #[test]
+    fn sources_that_a_kind_does_not_have_are_refused() {
+        for (kind, source) in (0..=255).flat_map(|kind| (0..=255).map(move |source| (kind, source)))
+        {
+            let is_taken = match kind {
+                1 => source == 3,
+                3 | 5 | 6 => (1..=3).contains(&source),
+                4 => source == 0,
+                _ => false,
+            };
+            let tile = if kind < 2 { MAN_1 } else { WHITE };
+            // A chi from man 1 gives no yaku, and so no win.
+            let expected = match (is_taken, kind) {
+                (false, _) => [3; 4],
+                (true, 1) => [0, 11, 0, 0],
+                (true, _) => [0; 4],
+            };
+            let call = Meld { tile, kind, source };
+            assert_eq!(numbers_with(call), expected, "{call:?}");
+        }
+    }
+
+    #[test]
+    fn number_3_by_its_source_comes_after_2_and_before_4() {
+        let mut five = but_a_call();
+        five[usize::from(SOU_8)] = 5;
+        for source in (0..=255).filter(|source| ![1, 2, 3].contains(source)) {
+            let pon = Meld {
+                tile: WHITE,
+                kind: 3,
+                source,
+            };
+            let number =
+                |counts: &[u8], calls: &[Meld]| score_win(counts, calls, ron(SOU_8)).number;
+            assert_eq!(number(&five, &[pon]), 3, "{source}");
+            assert_eq!(number(&five, &[pon; 5]), 2, "{source}");
+            assert_eq!(number(&five[1..], &[pon; 5]), 1, "{source}");
+        }
+    }
+
+    #[test]
+    fn a_record_has_the_source_behind_the_kind() {
+        for source in 1..=3 {
+            let call = Meld {
+                tile: WHITE,
+                kind: 3,
+                source,
+            };
+            let mut out = [0; STANDARD_LENGTH];
+            let listing = list_readings(&but_a_call(), &[call], &mut out);
+            assert_eq!((listing.number, listing.bytes), (0, out.len()));
+            let melds = [2, 2, 0, 3, 2, 0, 13, 0, 0, 31, 3, source];
+            assert_eq!(out[4], SOU_8);
+            assert_eq!(out[5..], melds);
+        }
     }
 
     #[test]

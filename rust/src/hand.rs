@@ -1,4 +1,4 @@
-//! Melds, and the readings of a hand (agari's `hand.rs`).
+//! Melds, and the readings of a hand (agari's `hand.rs`). Sources are not in agari.
 
 use crate::OTHER_VERSION;
 use crate::ffi;
@@ -7,31 +7,84 @@ use crate::refusal::{Refusal, accepted};
 use crate::tile::{NO_TILE, Tile};
 use alloc::vec::Vec;
 
-/// The kinds of kans.
+/// Who a called tile came from, as seen by the player who called it.
+///
+/// Two lists of calls that differ in sources alone, and both pass, have as many readings in as many bytes,
+/// reading `n` of the one is reading `n` of the other but for the sources, and scores and waits are alike.
+#[derive(Debug, Clone, Copy, PartialEq, Eq, Hash, PartialOrd, Ord)]
+#[repr(u8)]
+pub enum Source {
+    /// The next player, on the right (shimocha)
+    Right = 1,
+    /// The player across (toimen)
+    Across = 2,
+    /// The player before, on the left (kamicha), the only one from whom a sequence is called
+    Left = 3,
+}
+
+impl Source {
+    /// All sources, by their numbers from 1 to 3.
+    pub const ALL: [Source; 3] = [Source::Right, Source::Across, Source::Left];
+
+    /// Its number, from 1 to 3: how many seats onward from the player who called.
+    pub fn number(self) -> u8 {
+        self as u8
+    }
+
+    /// The source with a number. With seats from 0 to 3 in the order of play that is
+    /// `(from + 4 - caller) % 4`.
+    pub fn from_number(number: u8) -> Option<Source> {
+        let place = usize::from(number).checked_sub(1)?;
+        Source::ALL.get(place).copied()
+    }
+}
+
+/// The kinds of kans, the open ones with their source.
 #[derive(Debug, Clone, Copy, PartialEq, Eq, Hash)]
 pub enum KanType {
     /// Closed kan (ankan): all four tiles drawn
     Closed,
     /// Open kan (daiminkan): called from a discard
-    Open,
-    /// Added kan (shouminkan): a fourth tile added to a pon
-    Added,
+    Open(Source),
+    /// Added kan (shouminkan): a fourth tile added to a pon, whose source it keeps
+    Added(Source),
 }
 
 impl KanType {
     /// Does it open the hand?
     pub fn is_open(&self) -> bool {
-        !matches!(self, KanType::Closed)
+        self.source().is_some()
+    }
+
+    /// Who its tile was called from, if it was
+    pub fn source(&self) -> Option<Source> {
+        match *self {
+            KanType::Closed => None,
+            KanType::Open(source) | KanType::Added(source) => Some(source),
+        }
     }
 }
 
-/// A meld.
+/// A meld. One that was called says who the tile came from.
+///
+/// ```
+/// use ziwhakemo::{Honor, KanType, Meld, Source, Suit, Tile};
+///
+/// let chi = Meld::shuntsu_open(Tile::suited(Suit::Man, 1));
+/// let pon = Meld::koutsu_open(Tile::honor(Honor::Red), Source::Across);
+/// let kan = Meld::kan(Tile::honor(Honor::East), KanType::Open(Source::Right));
+/// let closed = Meld::kan(Tile::honor(Honor::West), KanType::Closed);
+/// let sources = [chi, pon, kan, closed].map(|call| call.source());
+/// let [right, across, left] = Source::ALL.map(Some);
+/// assert_eq!(sources, [left, across, right, None]);
+/// ```
 #[derive(Debug, Clone, PartialEq, Eq, Hash)]
 pub enum Meld {
-    /// A sequence: its lowest tile, and whether it was called (chi)
-    Shuntsu(Tile, bool),
-    /// A triplet: its tile, and whether it was called (pon)
-    Koutsu(Tile, bool),
+    /// A sequence: its lowest tile, and who it was called from (chi), if it was: the library takes
+    /// [`Source::Left`] alone
+    Shuntsu(Tile, Option<Source>),
+    /// A triplet: its tile, and who it was called from (pon), if it was
+    Koutsu(Tile, Option<Source>),
     /// A kan: its tile and its kind
     Kan(Tile, KanType),
 }
@@ -39,22 +92,22 @@ pub enum Meld {
 impl Meld {
     /// A closed sequence
     pub fn shuntsu(start_tile: Tile) -> Meld {
-        Meld::Shuntsu(start_tile, false)
+        Meld::Shuntsu(start_tile, None)
     }
 
-    /// A called sequence (chi)
+    /// A called sequence (chi), from the player on the left
     pub fn shuntsu_open(start_tile: Tile) -> Meld {
-        Meld::Shuntsu(start_tile, true)
+        Meld::Shuntsu(start_tile, Some(Source::Left))
     }
 
     /// A closed triplet
     pub fn koutsu(tile: Tile) -> Meld {
-        Meld::Koutsu(tile, false)
+        Meld::Koutsu(tile, None)
     }
 
-    /// A called triplet (pon)
-    pub fn koutsu_open(tile: Tile) -> Meld {
-        Meld::Koutsu(tile, true)
+    /// A called triplet (pon), and who it was called from
+    pub fn koutsu_open(tile: Tile, source: Source) -> Meld {
+        Meld::Koutsu(tile, Some(source))
     }
 
     /// A kan
@@ -62,12 +115,17 @@ impl Meld {
         Meld::Kan(tile, kan_type)
     }
 
+    /// Who a tile of it was called from, if one was
+    pub fn source(&self) -> Option<Source> {
+        match self {
+            Meld::Shuntsu(_, source) | Meld::Koutsu(_, source) => *source,
+            Meld::Kan(_, kan_type) => kan_type.source(),
+        }
+    }
+
     /// Was a tile of it called from another player?
     pub fn is_open(&self) -> bool {
-        match self {
-            Meld::Shuntsu(_, is_open) | Meld::Koutsu(_, is_open) => *is_open,
-            Meld::Kan(_, kan_type) => kan_type.is_open(),
-        }
+        self.source().is_some()
     }
 
     /// Was no tile of it called from another player?
@@ -95,27 +153,31 @@ impl Meld {
     /// Its kind as the library numbers it.
     pub(crate) fn kind(&self) -> u8 {
         match self {
-            Meld::Shuntsu(_, false) => 0,
-            Meld::Shuntsu(_, true) => 1,
-            Meld::Koutsu(_, false) => 2,
-            Meld::Koutsu(_, true) => 3,
+            Meld::Shuntsu(_, None) => 0,
+            Meld::Shuntsu(_, Some(_)) => 1,
+            Meld::Koutsu(_, None) => 2,
+            Meld::Koutsu(_, Some(_)) => 3,
             Meld::Kan(_, KanType::Closed) => 4,
-            Meld::Kan(_, KanType::Open) => 5,
-            Meld::Kan(_, KanType::Added) => 6,
+            Meld::Kan(_, KanType::Open(_)) => 5,
+            Meld::Kan(_, KanType::Added(_)) => 6,
         }
     }
 
-    /// The meld of a tile and a kind as the library numbers it.
-    pub(crate) fn of(tile: Tile, kind: u8) -> Option<Meld> {
-        let meld = match kind {
-            0 | 1 => Meld::Shuntsu(tile, kind == 1),
-            2 | 3 => Meld::Koutsu(tile, kind == 3),
-            4 => Meld::Kan(tile, KanType::Closed),
-            5 => Meld::Kan(tile, KanType::Open),
-            6 => Meld::Kan(tile, KanType::Added),
-            _ => return None,
+    /// The meld of a tile, a kind and a source as the library numbers them, 0 for no source. A closed meld
+    /// has none, and an open one has one.
+    pub(crate) fn of(tile: Tile, kind: u8, source: u8) -> Option<Meld> {
+        let source = match source {
+            0 => None,
+            number => Some(Source::from_number(number)?),
         };
-        Some(meld)
+        match (kind, source) {
+            (0, None) | (1, Some(_)) => Some(Meld::Shuntsu(tile, source)),
+            (2, None) | (3, Some(_)) => Some(Meld::Koutsu(tile, source)),
+            (4, None) => Some(Meld::Kan(tile, KanType::Closed)),
+            (5, Some(source)) => Some(Meld::Kan(tile, KanType::Open(source))),
+            (6, Some(source)) => Some(Meld::Kan(tile, KanType::Added(source))),
+            _ => None,
+        }
     }
 }
 
@@ -124,6 +186,7 @@ pub(crate) fn lent(calls: &[Meld]) -> Vec<ffi::Meld> {
     let melds = calls.iter().map(|call| ffi::Meld {
         tile: call.tile().number().unwrap_or(NO_TILE),
         kind: call.kind(),
+        source: call.source().map_or(0, Source::number),
     });
     melds.collect()
 }
@@ -188,16 +251,45 @@ mod tests {
     use crate::tile::Suit;
 
     #[test]
-    fn kinds_and_melds_are_one_to_one() {
-        let tile = Tile::suited(Suit::Sou, 3);
-        for kind in 0..7 {
-            let meld = Meld::of(tile, kind).unwrap();
-            assert_eq!((meld.tile(), meld.kind()), (tile, kind));
-            assert_eq!(meld.is_open(), [1, 3, 5, 6].contains(&kind));
-            assert_eq!(meld.is_sequence(), kind < 2);
+    fn numbers_and_sources_are_one_to_one() {
+        for (source, number) in Source::ALL.into_iter().zip(1..) {
+            assert_eq!(source.number(), number);
+            assert_eq!(Source::from_number(number), Some(source));
         }
-        assert_eq!(Meld::of(tile, 7), None);
-        let no_tile = Meld::koutsu_open(Tile::suited(Suit::Sou, 0));
-        assert_eq!(lent(&[no_tile]), [ffi::Meld { tile: 255, kind: 3 }]);
+        for number in (0..=255).filter(|number| ![1, 2, 3].contains(number)) {
+            assert_eq!(Source::from_number(number), None);
+        }
+    }
+
+    #[test]
+    fn kinds_with_sources_and_melds_are_one_to_one() {
+        let tile = Tile::suited(Suit::Sou, 3);
+        for (kind, source) in (0..=7).flat_map(|kind| (0..=255).map(move |source| (kind, source))) {
+            let is_one = match kind {
+                0 | 2 | 4 => source == 0,
+                1 | 3 | 5 | 6 => (1..=3).contains(&source),
+                _ => false,
+            };
+            let meld = Meld::of(tile, kind, source);
+            assert_eq!(meld.is_some(), is_one, "{kind} {source}");
+            let Some(meld) = meld else { continue };
+            assert_eq!((meld.tile(), meld.kind()), (tile, kind));
+            assert_eq!(meld.source(), Source::from_number(source));
+            assert_eq!(meld.is_open(), source > 0);
+            assert_eq!(meld.is_sequence(), kind < 2);
+            let lent = lent(&[meld]);
+            assert_eq!((lent[0].kind, lent[0].source), (kind, source));
+        }
+    }
+
+    #[test]
+    fn what_is_no_tile_is_lent_as_none() {
+        let no_tile = Meld::koutsu_open(Tile::suited(Suit::Sou, 0), Source::Right);
+        let expected = ffi::Meld {
+            tile: 255,
+            kind: 3,
+            source: 1,
+        };
+        assert_eq!(lent(&[no_tile]), [expected]);
     }
 }

@@ -5,7 +5,8 @@
 //! nothing itself. `README.md` says call by call what stands for what in agari.
 //!
 //! A hand is 34 counts by tile number, of the tiles that are not called, the winning tile included
-//! ([`to_counts`]). Calls are melds in any order. Input that cannot be scored is a [`Refusal`].
+//! ([`to_counts`]). Calls are melds in any order, each open one with its [`Source`]. Input that cannot be
+//! scored is a [`Refusal`].
 //!
 //! ```
 //! use ziwhakemo::{GameContext, Honor, Suit, Tile, WinType, decompose_hand, score_win, to_counts};
@@ -57,7 +58,7 @@ pub mod wait;
 pub mod yaku;
 
 pub use context::{DoraCount, DoubleWindFu, GameContext, Indicators, WinType};
-pub use hand::{HandStructure, KanType, Listing, Meld, decompose_hand, list_readings};
+pub use hand::{HandStructure, KanType, Listing, Meld, Source, decompose_hand, list_readings};
 pub use refusal::Refusal;
 pub use scoring::{
     FuResult, Payment, ScoreLevel, ScoredWin, ScoringResult, calculate_basic_points,

@@ -2,17 +2,23 @@
 //!
 //! A record is its length and its kind, two bytes each, the low byte first, and then for kind 1 (seven
 //! pairs) seven tiles, for kind 2 (thirteen orphans) the tile that is there twice, for kind 3 the pair's
-//! tile and four melds of two bytes, tile and kind.
+//! tile and four melds of three bytes, tile, kind and source, 0 where no tile was called.
 
 use crate::hand::{HandStructure, Meld};
 use crate::tile::Tile;
 use alloc::vec::Vec;
 
 /// A buffer of so many bytes holds the records of any hand.
-pub const ALWAYS_ENOUGH: usize = 1467;
+pub const ALWAYS_ENOUGH: usize = 1915;
+
+/// The length of the record of a pair and four melds.
+pub const STANDARD_LENGTH: usize = HEAD + 1 + 4 * MELD;
 
 /// The bytes before the content: length and kind.
 const HEAD: usize = 4;
+
+/// The bytes of a meld: tile, kind and source.
+const MELD: usize = 3;
 
 /// The readings of records, or nothing where the bytes are not whole records.
 pub fn decode(mut bytes: &[u8]) -> Option<Vec<HandStructure>> {
@@ -39,10 +45,12 @@ fn reading(record: &[u8]) -> Option<HandStructure> {
         (2, &[pair]) => Some(HandStructure::Kokushi {
             pair: Tile::from_number(pair)?,
         }),
-        (3, &[pair, ref melds @ ..]) if melds.len() == 8 => Some(HandStructure::Standard {
-            melds: melds.chunks(2).map(meld).collect::<Option<_>>()?,
-            pair: Tile::from_number(pair)?,
-        }),
+        (3, &[pair, ref melds @ ..]) if record.len() == STANDARD_LENGTH => {
+            Some(HandStructure::Standard {
+                melds: melds.chunks(MELD).map(meld).collect::<Option<_>>()?,
+                pair: Tile::from_number(pair)?,
+            })
+        }
         _ => None,
     }
 }
@@ -51,7 +59,10 @@ fn tiles(numbers: &[u8]) -> Option<Vec<Tile>> {
     numbers.iter().copied().map(Tile::from_number).collect()
 }
 
-/// The meld of two bytes.
+/// The meld of three bytes.
 fn meld(bytes: &[u8]) -> Option<Meld> {
-    Meld::of(Tile::from_number(bytes[0])?, bytes[1])
+    let &[tile, kind, source] = bytes else {
+        return None;
+    };
+    Meld::of(Tile::from_number(tile)?, kind, source)
 }

@@ -13,8 +13,8 @@ pub enum Refusal {
     CountsLength = 1,
     /// More than four calls.
     TooManyCalls = 2,
-    /// A call's kind or tile is not that of a call. A closed sequence or a closed triplet is no call,
-    /// and a sequence starts at 1 to 7 of a suit.
+    /// A call's kind, tile or source is not that of a call. A closed sequence or a closed triplet is no
+    /// call, and a sequence starts at 1 to 7 of a suit and is called from the left.
     NotACall = 3,
     /// A count above 4.
     CountAboveFour = 4,
@@ -77,7 +77,7 @@ impl Refusal {
         match self {
             Refusal::CountsLength => "the counts are not 34 long",
             Refusal::TooManyCalls => "more than four calls",
-            Refusal::NotACall => "a call's kind or tile is not that of a call",
+            Refusal::NotACall => "a call's kind, tile or source is not that of a call",
             Refusal::CountAboveFour => "a count above 4",
             Refusal::FiveOfAKind => "hand and calls together hold more than four of a kind",
             Refusal::NumberOfTiles => "the hand's tiles are not 14 - 3 × calls",

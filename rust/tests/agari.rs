@@ -30,7 +30,7 @@ fn hands_may_come_as_tiles_or_as_a_map() {
 
 #[test]
 fn readings_are_those_of_the_checked_function() {
-    let pon = [Meld::koutsu_open(tile("7z"))];
+    let pon = [Meld::koutsu_open(tile("7z"), Source::Across)];
     for hand in [
         "12355m456p234678s",
         "222333444m567p88s",
@@ -87,11 +87,13 @@ fn a_refusal_is_an_empty_list_or_false() {
         assert!(!agari::is_chiitoitsu(&counts));
     }
     let hand = map("55z");
-    let five = vec![Meld::koutsu_open(tile("1z")); 5];
+    let five = vec![Meld::koutsu_open(tile("1z"), Source::Left); 5];
     assert_eq!(agari::decompose_hand_with_melds(&hand, &five), []);
-    let no_call = [Meld::koutsu(tile("1z"))];
     let hand = map("55m456p234678s");
-    assert_eq!(agari::decompose_hand_with_melds(&hand, &no_call), []);
+    let chi_from_across = Meld::Shuntsu(tile("1m"), Some(Source::Across));
+    for no_call in [Meld::koutsu(tile("1z")), chi_from_across] {
+        assert_eq!(agari::decompose_hand_with_melds(&hand, &[no_call]), []);
+    }
 }
 
 #[test]
@@ -134,6 +136,25 @@ fn waits_of_a_reading_are_those_by_its_number() {
                 assert_eq!(Ok(waits), checked, "{hand}");
             }
         }
+    }
+}
+
+#[test]
+fn waits_are_the_same_whoever_a_tile_came_from() {
+    let called = |source| {
+        [
+            Meld::koutsu_open(tile("7z"), source),
+            Meld::shuntsu_open(tile("6s")),
+        ]
+    };
+    let hand = "55m456p678s";
+    for winning_tile in tiles(hand) {
+        let waits = Source::ALL.map(|source| {
+            let readings = decompose_hand(&counts(hand), &called(source)).unwrap();
+            agari::detect_wait_types(&readings[0], winning_tile)
+        });
+        assert!(!waits[0].is_empty());
+        assert!(waits.iter().all(|other| *other == waits[0]));
     }
 }
 

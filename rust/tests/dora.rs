@@ -110,10 +110,13 @@ fn called_tiles_count_and_a_kan_as_four() {
         let reading = score_reading(&hand, &[call], &context, 0).unwrap();
         reading.dora().regular
     };
-    for kan_type in [KanType::Closed, KanType::Open, KanType::Added] {
-        assert_eq!(counted(Meld::kan(tile("1z"), kan_type), "4z"), 4);
+    assert_eq!(counted(Meld::kan(tile("1z"), KanType::Closed), "4z"), 4);
+    for source in Source::ALL {
+        for kan_type in [KanType::Open(source), KanType::Added(source)] {
+            assert_eq!(counted(Meld::kan(tile("1z"), kan_type), "4z"), 4);
+        }
+        assert_eq!(counted(Meld::koutsu_open(tile("1z"), source), "4z"), 3);
     }
-    assert_eq!(counted(Meld::koutsu_open(tile("1z")), "4z"), 3);
     assert_eq!(counted(Meld::shuntsu_open(tile("1m")), "129m"), 3);
     // One of pin 5 in the hand, and one in the call.
     assert_eq!(counted(Meld::shuntsu_open(tile("3p")), "4p"), 2);
@@ -139,7 +142,7 @@ fn ura_dora_count_by_riichi_alone() {
     assert_eq!(both(double_alone), without);
 
     // On an open hand they count too: the flag is all that is asked.
-    let calls = [Meld::koutsu_open(tile("7z"))];
+    let calls = [Meld::koutsu_open(tile("7z"), Source::Left)];
     let context = ron("8s").riichi().with_ura_dora([tile("6z")]);
     let win = score_win(&counts("55m456p234678s"), &calls, &context).unwrap();
     assert_eq!(win.dora(), DoraCount { regular: 0, ura: 3 });

@@ -121,7 +121,7 @@ fn other_hands_score_alike_under_both() {
 #[test]
 fn an_open_hand_by_ron() {
     let calls = [
-        Meld::koutsu_open(tile("7z")),
+        Meld::koutsu_open(tile("7z"), Source::Across),
         Meld::shuntsu_open(tile("2m")),
     ];
     let [four, two] = SETTINGS.map(|fu| {

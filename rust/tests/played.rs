@@ -173,10 +173,10 @@ fn thirteen_tiles_and_four_calls() {
     assert_eq!(short, Err(Refusal::NumberOfTiles));
 
     let calls = [
-        Meld::koutsu_open(tile("2m")),
+        Meld::koutsu_open(tile("2m"), Source::Right),
         Meld::shuntsu_open(tile("3p")),
         Meld::kan(tile("7s"), KanType::Closed),
-        Meld::kan(tile("7z"), KanType::Added),
+        Meld::kan(tile("7z"), KanType::Added(Source::Across)),
     ];
     let readings = decompose_hand(&counts("55z"), &calls).unwrap();
     let expected = HandStructure::Standard {
@@ -246,7 +246,7 @@ fn a_wind_that_is_round_and_seat_wind_stands_twice() {
 
 #[test]
 fn han_are_those_of_the_yaku() {
-    let open = [Meld::koutsu_open(tile("7z"))];
+    let open = [Meld::koutsu_open(tile("7z"), Source::Left)];
     let hands = [
         (PINFU, &[][..], tsumo("8s").double_riichi().ippatsu()),
         ("11123456789999m", &[], tsumo("9m").riichi()),

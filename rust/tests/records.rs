@@ -5,6 +5,15 @@ mod common;
 use common::{counts, tile, tiles};
 use ziwhakemo::*;
 
+/// man 223344, pin 667788, sou 55 as four sequences and a pair: what stands behind the record's kind.
+const RYANPEIKOU: [u8; 13] = [22, 1, 0, 0, 1, 0, 0, 14, 0, 0, 14, 0, 0];
+
+/// The record of a pair and four melds.
+fn standard(content: [u8; 13]) -> Vec<u8> {
+    let length = record::STANDARD_LENGTH as u8;
+    [&[length, 0, 3, 0], &content[..]].concat()
+}
+
 /// The records of a hand.
 fn records(hand: &str, calls: &[Meld]) -> Vec<u8> {
     let mut out = [0; record::ALWAYS_ENOUGH];
@@ -15,20 +24,62 @@ fn records(hand: &str, calls: &[Meld]) -> Vec<u8> {
 #[test]
 fn the_bytes_are_those_of_the_scope_paper() {
     let seven_pairs = [11, 0, 1, 0, 1, 2, 3, 14, 15, 16, 22];
-    let standard = [13, 0, 3, 0, 22, 1, 0, 1, 0, 14, 0, 14, 0];
-    let both = [&seven_pairs[..], &standard].concat();
+    let both = [&seven_pairs[..], &standard(RYANPEIKOU)].concat();
     assert_eq!(records("223344m667788p55s", &[]), both);
     let orphans = records("19m19p19s12345677z", &[]);
     assert_eq!(orphans, [5, 0, 2, 0, 33]);
-    // Calls stand among the melds, ascending by tile and then by kind.
+    // Calls stand among the melds with their sources, ascending by tile, then by kind.
     let calls = [
-        Meld::kan(tile("9s"), KanType::Open),
+        Meld::kan(tile("9s"), KanType::Open(Source::Across)),
         Meld::shuntsu_open(tile("1m")),
-        Meld::koutsu_open(tile("1z")),
+        Meld::koutsu_open(tile("1z"), Source::Right),
     ];
     let called = records("11123m", &calls);
-    let content = [0, 0, 0, 0, 1, 26, 5, 27, 3];
-    assert_eq!(called, [&[13, 0, 3, 0], &content[..]].concat());
+    let content = [0, 0, 0, 0, 0, 1, 3, 26, 5, 2, 27, 3, 1];
+    assert_eq!(called, standard(content));
+}
+
+#[test]
+fn readings_have_the_calls_with_their_sources() {
+    let chi = Meld::shuntsu_open(tile("1m"));
+    for source in Source::ALL {
+        let called = [
+            Meld::koutsu_open(tile("7z"), source),
+            Meld::kan(tile("7z"), KanType::Open(source)),
+            Meld::kan(tile("7z"), KanType::Added(source)),
+        ];
+        for call in called {
+            let calls = [call.clone(), chi.clone()];
+            let readings = decompose_hand(&counts("22m456p678s"), &calls).unwrap();
+            let melds = vec![
+                chi.clone(),
+                Meld::shuntsu(tile("4p")),
+                Meld::shuntsu(tile("6s")),
+                call,
+            ];
+            let pair = tile("2m");
+            assert_eq!(readings, [HandStructure::Standard { melds, pair }]);
+        }
+    }
+}
+
+#[test]
+fn sources_change_their_own_bytes_alone() {
+    let all = Source::ALL.map(|source| {
+        let calls = [
+            Meld::koutsu_open(tile("1z"), source),
+            Meld::kan(tile("2z"), KanType::Added(source)),
+        ];
+        records("22334455m", &calls)
+    });
+    for (records, number) in all.iter().zip(1..) {
+        assert_eq!(records.len(), all[0].len());
+        let both = records.iter().zip(&all[0]);
+        let changed: Vec<_> = both.filter(|(byte, first)| byte != first).collect();
+        // Two readings, in each of which both calls stand.
+        let expected = if number == 1 { 0 } else { 4 };
+        assert_eq!(changed, vec![(&number, &1); expected]);
+    }
 }
 
 #[test]
@@ -86,7 +137,7 @@ fn bytes_that_are_no_records_are_not_decoded() {
     for length in (1..good.len()).filter(|&length| length != 11) {
         assert_eq!(record::decode(&good[..length]), None, "{length} bytes");
     }
-    let bad: [&[u8]; 8] = [
+    let bad: [&[u8]; 7] = [
         &[0, 0],
         &[0, 0, 2, 0, 33],
         &[3, 0, 2],
@@ -94,9 +145,27 @@ fn bytes_that_are_no_records_are_not_decoded() {
         &[5, 0, 1, 0, 33],
         &[5, 0, 4, 0, 33],
         &[5, 1, 2, 0, 33],
-        &[13, 0, 3, 0, 22, 1, 7, 1, 0, 14, 0, 14, 0],
     ];
     for bytes in bad {
         assert_eq!(record::decode(bytes), None, "{bytes:?}");
+    }
+}
+
+#[test]
+fn what_is_no_meld_is_not_decoded() {
+    assert!(record::decode(&standard(RYANPEIKOU)).is_some());
+    // A tile above 33, a kind above 6, a closed meld with a source, open ones without and with none.
+    let bad = [
+        [34, 0, 0],
+        [1, 7, 0],
+        [1, 0, 3],
+        [1, 3, 0],
+        [1, 3, 4],
+        [1, 6, 255],
+    ];
+    for meld in bad {
+        let mut content = RYANPEIKOU;
+        content[1..4].copy_from_slice(&meld);
+        assert_eq!(record::decode(&standard(content)), None, "{meld:?}");
     }
 }

@@ -64,11 +64,34 @@ fn number_3_no_call() {
         Meld::shuntsu_open(tile("9s")),
         Meld::shuntsu_open(tile("1z")),
         Meld::shuntsu_open(no_tile),
-        Meld::koutsu_open(no_tile),
+        Meld::koutsu_open(no_tile, Source::Left),
         Meld::kan(no_tile, KanType::Closed),
+        // A sequence is called from the left alone.
+        Meld::Shuntsu(tile("1m"), Some(Source::Right)),
+        Meld::Shuntsu(tile("1m"), Some(Source::Across)),
     ];
     for meld in melds {
         all_refuse(&hand, &[meld], &ron("8s"), Refusal::NotACall);
+    }
+}
+
+#[test]
+fn number_3_calls_are_taken_from_each_player_who_can_be_called_from() {
+    let hand = counts("55m456p234678s");
+    let tile = tile("7z");
+    let mut calls = vec![
+        Meld::shuntsu_open(common::tile("1m")),
+        Meld::kan(tile, KanType::Closed),
+    ];
+    for source in Source::ALL {
+        calls.push(Meld::koutsu_open(tile, source));
+        calls.push(Meld::kan(tile, KanType::Open(source)));
+        calls.push(Meld::kan(tile, KanType::Added(source)));
+    }
+    for call in calls {
+        // By the last tile there is a yaku, whatever the call.
+        let context = ron("8s").last_tile();
+        assert_eq!(refusals(&hand, &[call], &context), [None; 4]);
     }
 }
 
@@ -85,9 +108,9 @@ fn number_4_a_count_above_four() {
 fn number_5_more_than_four_of_a_kind_with_the_calls() {
     let hand = counts("55m456p234678s");
     let calls = [
-        Meld::koutsu_open(tile("5m")),
+        Meld::koutsu_open(tile("5m"), Source::Right),
         Meld::kan(tile("4p"), KanType::Closed),
-        Meld::kan(tile("6s"), KanType::Added),
+        Meld::kan(tile("6s"), KanType::Added(Source::Left)),
     ];
     for call in calls {
         all_refuse(&hand, &[call], &ron("8s"), Refusal::FiveOfAKind);
@@ -100,26 +123,24 @@ fn number_6_a_wrong_number_of_tiles() {
     for hand in hands {
         all_refuse(&counts(hand), &[], &ron("8s"), Refusal::NumberOfTiles);
     }
-    let calls = [Meld::koutsu_open(tile("1z"))];
+    let calls = [Meld::koutsu_open(tile("1z"), Source::Across)];
     all_refuse(&counts(PINFU), &calls, &ron("8s"), Refusal::NumberOfTiles);
 }
 
 #[test]
 fn number_7_too_short_a_buffer() {
     let counts = counts("222333444m567p88s");
+    let bytes = 2 * record::STANDARD_LENGTH;
     for length in 0..=record::ALWAYS_ENOUGH {
         let mut out = vec![0xa5; length];
         let listing = list_readings(&counts, &[], &mut out);
-        if length < 26 {
+        if length < bytes {
             assert_eq!(listing, Err(Refusal::BufferTooShort));
             assert_eq!(out, vec![0xa5; length]);
         } else {
-            let expected = Listing {
-                readings: 2,
-                bytes: 26,
-            };
+            let expected = Listing { readings: 2, bytes };
             assert_eq!(listing, Ok(expected));
-            assert!(out[26..].iter().all(|&byte| byte == 0xa5));
+            assert!(out[bytes..].iter().all(|&byte| byte == 0xa5));
         }
     }
     // 6 comes before 7.

@@ -6,7 +6,8 @@
 //! Words that agari's texts have not stand before, behind or between what the program is given. Of those
 //! for the room's setting it has to take one, and to refuse a second. Of those for indicators it has to
 //! take the tiles of dora and those of ura, each in their order, to refuse a word that names no tiles,
-//! and to lose none: of more than ten it writes no hand.
+//! and to lose none: of more than ten it writes no hand. Of those for whom a call came from, which agari
+//! does not know, it has to take one behind a call that can come from there, and to refuse any other.
 //!
 //! Prints how many texts there were of each sort and how many differ; exits with status 1 if any does.
 
@@ -26,6 +27,16 @@ const TEXTS: u64 = 20_000;
 
 /// What stands for the words behind the winds where the program writes no hand.
 const NOT_WRITTEN: &str = "not written";
+
+/// Words for whom a call came from, with those that the program writes for them.
+const SOURCES: &[(&str, &str)] = &[
+    ("left", "left"),
+    ("across", "across"),
+    ("right", "right"),
+    ("Kamicha", "left"),
+    ("toimen", "across"),
+    ("SHIMOCHA", "right"),
+];
 
 /// A hand as it was read: tiles and calls in the words of the program, and what stands behind the winds.
 #[derive(PartialEq)]
@@ -47,6 +58,7 @@ enum Piece {
     Text,
     Won,
     Setting(&'static str),
+    Source(&'static str),
     Indicators(Indicating),
 }
 
@@ -135,6 +147,12 @@ fn settings(rng: &mut Rng) -> Vec<&'static str> {
     (0..words).map(|_| word(rng)).collect()
 }
 
+/// Words for whom a call came from: none, one, or seldom two.
+fn sources(rng: &mut Rng) -> Vec<&'static str> {
+    let words = rng.share(&[70, 27, 3]);
+    (0..words).map(|_| rng.pick(SOURCES).0).collect()
+}
+
 /// Tiles as they may be written: by number and suit, those of a suit together or apart, honors also by
 /// letter; seldom with a blank behind a number.
 fn spelled(rng: &mut Rng, tiles: &[usize]) -> String {
@@ -186,7 +204,7 @@ impl Piece {
         let words = match self {
             Piece::Text => vec![text],
             Piece::Won => vec!["ron", "1m"],
-            Piece::Setting(word) => vec![*word],
+            Piece::Setting(word) | Piece::Source(word) => vec![*word],
             Piece::Indicators(said) if said.is_ura => vec!["ura", &said.word],
             Piece::Indicators(said) => vec!["dora", &said.word],
         };
@@ -210,7 +228,17 @@ fn arguments_of(rng: &mut Rng, pieces: &[Piece], text: &str) -> Vec<String> {
     arguments
 }
 
-/// A text, with the winning tile, words for the setting and words for indicators around it.
+/// Puts a word for whom a call came from among the pieces: most behind the text, the others anywhere.
+fn insert_source(rng: &mut Rng, pieces: &mut Vec<Piece>, word: &'static str) {
+    let text = pieces.iter().position(|piece| matches!(piece, Piece::Text));
+    let behind = text.map_or(0, |place| place + 1);
+    let from = if rng.percent(80) { behind } else { 0 };
+    let place = from + rng.below(pieces.len() + 1 - from);
+    pieces.insert(place, Piece::Source(word));
+}
+
+/// A text, with the winning tile, words for the setting, for indicators and for whom a call came from
+/// around it.
 fn given(rng: &mut Rng) -> Given {
     let text = text(rng);
     let mut beside: Vec<Piece> = settings(rng).into_iter().map(Piece::Setting).collect();
@@ -219,6 +247,9 @@ fn given(rng: &mut Rng) -> Given {
     let mut pieces = vec![Piece::Text, Piece::Won];
     for piece in beside {
         pieces.insert(rng.below(pieces.len() + 1), piece);
+    }
+    for word in sources(rng) {
+        insert_source(rng, &mut pieces, word);
     }
     let arguments = arguments_of(rng, &pieces, &text);
     Given {
@@ -238,6 +269,27 @@ impl Given {
             _ => None,
         };
         self.pieces.iter().filter_map(setting).collect()
+    }
+
+    /// The words for whom a call came from, as the program writes them.
+    fn sources(&self) -> Vec<&'static str> {
+        let written = |said: &str| {
+            let known = SOURCES.iter().find(|(word, _)| *word == said);
+            known.expect("a word of the list").1
+        };
+        let source = |piece: &Piece| match piece {
+            Piece::Source(word) => Some(written(word)),
+            _ => None,
+        };
+        self.pieces.iter().filter_map(source).collect()
+    }
+
+    /// Does a word for whom a call came from stand before the text, and so before any call?
+    fn has_early_source(&self) -> bool {
+        let before = self.pieces.iter();
+        before
+            .take_while(|piece| !matches!(piece, Piece::Text))
+            .any(|piece| matches!(piece, Piece::Source(_)))
     }
 
     /// The words for indicators.
@@ -323,14 +375,35 @@ fn sequence(tile: Tile) -> String {
     format!("{value}{}{}{letter}", value + 1, value + 2)
 }
 
-/// A call in the words of the program; nothing for a closed triplet or sequence, which is none there.
-fn call(meld: &Meld) -> Option<String> {
+/// A call in the words of the program, with whom it came from; nothing for a closed triplet or sequence,
+/// which is none there.
+fn call(meld: &Meld, source: &str) -> Option<String> {
     match meld {
         Meld::Shuntsu(tile, true) => Some(format!(" chi {}", sequence(*tile))),
-        Meld::Koutsu(tile, true) => Some(format!(" pon {}", alike(*tile, 3))),
+        Meld::Koutsu(tile, true) => Some(format!(" pon {} {source}", alike(*tile, 3))),
         Meld::Kan(tile, KanType::Closed) => Some(format!(" ankan {}", alike(*tile, 4))),
-        Meld::Kan(tile, _) => Some(format!(" kan {}", alike(*tile, 4))),
+        Meld::Kan(tile, _) => Some(format!(" kan {} {source}", alike(*tile, 4))),
         Meld::Shuntsu(_, false) | Meld::Koutsu(_, false) => None,
+    }
+}
+
+/// Can the call come from there: an open sequence from the left alone, a closed meld from nobody?
+fn can_come_from(meld: &Meld, source: &str) -> bool {
+    match meld {
+        Meld::Shuntsu(_, is_open) => *is_open && source == "left",
+        Meld::Koutsu(_, is_open) => *is_open,
+        Meld::Kan(_, kan) => !matches!(kan, KanType::Closed),
+    }
+}
+
+/// Are words behind the calls good ones for whom the last came from? Of a fifth call they are not asked.
+fn can_be_said(parsed: &ParsedHand, sources: &[&str]) -> bool {
+    let calls = &parsed.called_melds;
+    match (calls.last(), sources) {
+        (_, []) => true,
+        (Some(_), _) if calls.len() > 4 => true,
+        (Some(last), [source]) => can_come_from(&last.meld, source),
+        _ => false,
     }
 }
 
@@ -351,16 +424,19 @@ fn tiles(tiles: &[Tile]) -> String {
     words.collect()
 }
 
-/// What agari read, as the program would say it with this behind the winds, or, where there are more
-/// than ten indicators, not at all: all but a closed meld in brackets can be said.
-fn in_words(parsed: &ParsedHand, behind: Option<&str>) -> Option<Read> {
-    let calls: Option<String> = parsed
-        .called_melds
+/// What agari read, as the program would say it with the last call from there and this behind the winds,
+/// or, where there are more than ten indicators, not at all: all but a closed meld in brackets can be
+/// said.
+fn in_words(parsed: &ParsedHand, source: &str, behind: Option<&str>) -> Option<Read> {
+    let melds = &parsed.called_melds;
+    let from = |place| ["left", source][usize::from(place + 1 == melds.len())];
+    let calls: Option<String> = melds
         .iter()
-        .map(|called| call(&called.meld))
+        .enumerate()
+        .map(|(place, called)| call(&called.meld, from(place)))
         .collect();
     let words = tiles(&parsed.tiles) + &calls?;
-    Some(match (parsed.called_melds.len(), behind) {
+    Some(match (melds.len(), behind) {
         (0..=4, Some(behind)) => Read {
             words,
             behind: behind.to_string(),
@@ -419,7 +495,7 @@ fn why_refused(text: &str, parsed: &ParsedHand) -> Option<&'static str> {
         Some("numbers kept over a bracket")
     } else if parsed.aka_count > 0 {
         Some("a red five")
-    } else if in_words(parsed, None).is_none() {
+    } else if in_words(parsed, "left", None).is_none() {
         Some("closed melds in brackets")
     } else {
         None
@@ -453,6 +529,11 @@ fn compared(given: &Given) -> (&'static str, bool) {
     if given.has_bad_indicator() {
         return ("refused for an indicator that is none", read.is_some());
     }
+    if given.has_early_source() {
+        return ("refused for a source before any call", read.is_some());
+    }
+    let sources = given.sources();
+    let source = sources.last().unwrap_or(&"left");
     let behind = (!given.has_many_indicators()).then_some(behind.as_str());
     let Ok(agari) = panic::catch_unwind(|| answers::parsed(text)) else {
         let is_read = read.is_some();
@@ -460,9 +541,14 @@ fn compared(given: &Given) -> (&'static str, bool) {
     };
     match (agari, read) {
         (None, None) => ("refused by both", false),
-        (Some(parsed), Some(read)) => match in_words(&parsed, behind) {
-            Some(words) if words == read => ("read alike", false),
-            _ => ("read by both, and not alike", true),
+        (Some(parsed), read) if !can_be_said(&parsed, &sources) => {
+            ("refused for a source that cannot be", read.is_some())
+        }
+        (Some(parsed), Some(read)) => match in_words(&parsed, source, behind) {
+            Some(words) if words != read => ("read by both, and not alike", true),
+            Some(_) if !sources.is_empty() => ("read alike, with whom a call came from", false),
+            Some(_) => ("read alike", false),
+            None => ("read by both, and not alike", true),
         },
         (Some(parsed), None) => match why_refused(text, &parsed) {
             Some(why) => (why, false),
@@ -475,10 +561,12 @@ fn compared(given: &Given) -> (&'static str, bool) {
     }
 }
 
-/// How many inputs there were with so many words for the setting, and with which indicators.
+/// How many inputs there were with so many words for the setting and for whom a call came from, and with
+/// which indicators.
 #[derive(Default)]
 struct Beside {
     settings: [u64; 3],
+    sources: [u64; 3],
     dora: u64,
     ura: u64,
     many: u64,
@@ -489,6 +577,7 @@ impl Beside {
     /// One more.
     fn count(&mut self, given: &Given) {
         self.settings[given.settings().len()] += 1;
+        self.sources[given.sources().len()] += 1;
         self.dora += u64::from(!given.shown(false).is_empty());
         self.ura += u64::from(!given.shown(true).is_empty());
         self.many += u64::from(given.has_many_indicators());
@@ -498,6 +587,8 @@ impl Beside {
     fn print(&self) {
         let settings = listed_from(0, &self.settings);
         println!("by words for the room's setting: {settings}");
+        let sources = listed_from(0, &self.sources);
+        println!("by words for whom a call came from: {sources}");
         println!(
             "with indicators of dora: {}, of ura: {}",
             self.dora, self.ura

@@ -14,19 +14,19 @@
 //! | 1..128    | the text                                                                     |
 //! | 128..162  | the counts                                                                   |
 //! | 162       | number of calls                                                              |
-//! | 163..171  | four melds, each its tile and its kind                                       |
-//! | 171..175  | win type, winning tile, round wind, seat wind                                |
-//! | 175..183  | riichi, double riichi, ippatsu, rinshan, chankan, last tile, tenhou, chiihou |
-//! | 183       | the setting: fu of a pair that is both round and seat wind                   |
-//! | 184..195  | how many indicators there are, and ten of them                               |
-//! | 195..206  | how many ura indicators there are, and ten of them                           |
-//! | 206, 207  | listing: the answer's number, the count of readings                          |
-//! | 208, 209  | the win: the answer's number, the chosen reading                             |
-//! | 210, 211  | how many readings are scored, and the number that refuses the one after them |
-//! | 212       | what is played: 0 a hand, 1 han and fu, 2 basic points                       |
-//! | 213..216  | han, fu, whether there is a yakuman                                          |
-//! | 216, 217  | win type, whether the dealer wins                                            |
-//! | 218       | payment: the answer's number                                                 |
+//! | 163..175  | four melds, each its tile, its kind and its source                           |
+//! | 175..179  | win type, winning tile, round wind, seat wind                                |
+//! | 179..187  | riichi, double riichi, ippatsu, rinshan, chankan, last tile, tenhou, chiihou |
+//! | 187       | the setting: fu of a pair that is both round and seat wind                   |
+//! | 188..199  | how many indicators there are, and ten of them                               |
+//! | 199..210  | how many ura indicators there are, and ten of them                           |
+//! | 210, 211  | listing: the answer's number, the count of readings                          |
+//! | 212, 213  | the win: the answer's number, the chosen reading                             |
+//! | 214, 215  | how many readings are scored, and the number that refuses the one after them |
+//! | 216       | what is played: 0 a hand, 1 han and fu, 2 basic points                       |
+//! | 217..220  | han, fu, whether there is a yakuman                                          |
+//! | 220, 221  | win type, whether the dealer wins                                            |
+//! | 222       | payment: the answer's number                                                 |
 //! | 256..1024 | a slot of 96 bytes for each reading; of points, the first                    |
 //!
 //! A slot holds 47 yaku tallies, 6 wait tallies, han, fu, whether it is a yakuman, the level, the count of
@@ -36,10 +36,12 @@
 use compare::agari_scores::{WAIT_ENTRIES, YAKU_ENTRIES, basic_points, level, payment};
 use compare::arguments;
 use compare::hand::*;
-use compare::library::{FOUR, Indicators, Level, PaymentAnswer, RON, Score, TSUMO, WAITS, Win};
+use compare::library::{
+    ALWAYS_ENOUGH, FOUR, Indicators, Level, Meld, PaymentAnswer, RON, Score, TSUMO, WAITS, Win,
+};
 use compare::oracle::Expected;
 use compare::rows::{EAST, FLAGS, Row, SOUTH, Term};
-use compare::stored::put_win;
+use compare::stored::{put_melds, put_win};
 use compare::win_oracle::ExpectedWin;
 use compare::win_tally::LEVELS;
 use std::collections::HashSet;
@@ -63,8 +65,6 @@ const TABLES: [(&str, &str); 9] = [
 const RECORD: usize = 1024;
 const SLOTS: usize = 256;
 const SLOT: usize = 96;
-/// A length of buffer that always suffices.
-const ENOUGH: usize = 1467;
 
 /// A row played: its record, what it says, and what it has to say.
 struct Played {
@@ -164,10 +164,7 @@ fn put_text(record: &mut [u8], text: &str) {
 fn put_hand(record: &mut [u8], hand: &Hand) {
     record[128..162].copy_from_slice(hand.counts());
     record[162] = hand.calls.count as u8;
-    for (place, meld) in hand.calls.melds.iter().enumerate() {
-        record[163 + 2 * place] = meld.tile;
-        record[164 + 2 * place] = meld.kind;
-    }
+    put_melds(&mut record[163..175], &hand.calls.melds);
 }
 
 fn put_points(slot: &mut [u8], basic_points: u32, paid: &PaymentAnswer) {
@@ -199,19 +196,19 @@ fn put_reading(slot: &mut [u8], score: &Score, waits: &[u8; WAITS]) {
 
 /// The record of a win.
 fn hand_record(title: &str, hand: &Hand, win: &Win, expected: &ExpectedWin) -> [u8; RECORD] {
-    let listing = Expected::of(hand).listing(ENOUGH);
+    let listing = Expected::of(hand).listing(ALWAYS_ENOUGH);
     let chosen = expected.score_win();
     let readings = expected.scores.len();
     let mut record = [0; RECORD];
     put_text(&mut record, &format!("{title}: {}", written(hand, win)));
     put_hand(&mut record, hand);
-    put_win(&mut record[171..206], win);
-    record[206] = listing.number as u8;
-    record[207] = listing.readings as u8;
-    record[208] = chosen.number as u8;
-    record[209] = chosen.reading as u8;
-    record[210] = readings as u8;
-    record[211] = expected.score_reading(readings).number as u8;
+    put_win(&mut record[175..210], win);
+    record[210] = listing.number as u8;
+    record[211] = listing.readings as u8;
+    record[212] = chosen.number as u8;
+    record[213] = chosen.reading as u8;
+    record[214] = readings as u8;
+    record[215] = expected.score_reading(readings).number as u8;
     for (place, (score, waits)) in expected.scores.iter().zip(&expected.waits).enumerate() {
         put_reading(&mut record[SLOTS + SLOT * place..][..SLOT], score, waits);
     }
@@ -230,13 +227,13 @@ fn points_record(title: &str, points: &Points, win_type: u8, dealer: bool) -> [u
     let slot = &mut [0; SLOT];
     let (basic, text) = match *points {
         Points::Basic(basic) => {
-            record[212] = 2;
+            record[216] = 2;
             (basic, format!("basic {basic}"))
         }
         Points::Han(han, fu, is_yakuman) => {
             let Level { level, count } = level(han, fu, is_yakuman);
-            record[212] = 1;
-            record[213..216].copy_from_slice(&[han, fu, u8::from(is_yakuman)]);
+            record[216] = 1;
+            record[217..220].copy_from_slice(&[han, fu, u8::from(is_yakuman)]);
             slot[56] = level;
             slot[57] = count;
             let yakuman = if is_yakuman { " yakuman" } else { "" };
@@ -251,10 +248,10 @@ fn points_record(title: &str, points: &Points, win_type: u8, dealer: bool) -> [u
         &mut record,
         &format!("{title}: {text}, {who}{}", type_name(win_type)),
     );
-    record[216] = win_type;
-    record[217] = u8::from(dealer);
+    record[220] = win_type;
+    record[221] = u8::from(dealer);
     let paid = payment(basic, dealer, win_type);
-    record[218] = paid.number as u8;
+    record[222] = paid.number as u8;
     put_points(slot, basic, &paid);
     record[SLOTS..][..SLOT].copy_from_slice(slot);
     record
@@ -295,6 +292,20 @@ fn indicator_names(indicators: &Indicators) -> String {
     text
 }
 
+/// Who a call came from, in short: ` from across`. What is usual, an open call from the left and a closed one
+/// from nobody, is left out.
+fn source_name(meld: Meld) -> String {
+    let usual = Meld::new(meld.tile, meld.kind);
+    match meld.source {
+        source if source == usual.source => String::new(),
+        NOBODY => " from nobody".into(),
+        RIGHT => " from right".into(),
+        ACROSS => " from across".into(),
+        LEFT => " from left".into(),
+        other => format!(" from {other}"),
+    }
+}
+
 /// A hand with its calls in short: `12355m456p234678s, chi 1m`.
 fn hand_names(hand: &Hand) -> String {
     let mut text = String::new();
@@ -315,7 +326,7 @@ fn hand_names(hand: &Hand) -> String {
             OPEN_KAN => "open-kan",
             _ => "added-kan",
         };
-        text += &format!(", {call} {}", tile_name(meld.tile));
+        text += &format!(", {call} {}{}", tile_name(meld.tile), source_name(*meld));
     }
     text
 }
@@ -381,7 +392,10 @@ fn play(row: &Row) -> Played {
             Played {
                 record: hand_record(&title, &hand, &win, &expected),
                 says: readings.to_string(),
-                agari: Expected::of(&hand).listing(ENOUGH).readings.to_string(),
+                agari: Expected::of(&hand)
+                    .listing(ALWAYS_ENOUGH)
+                    .readings
+                    .to_string(),
             }
         }
         ("valued", [han, fu, yakuman, says, basic]) => {
@@ -521,6 +535,32 @@ mod tests {
     }
 
     #[test]
+    fn a_row_says_who_a_call_came_from() {
+        let text = "won (hand (mans 123 ++ sous 88)) (fromAcross (pon Red) ∷ chi (man 1) ∷ closedKan East \
+            ∷ []) (ron (sou 8)) [] (chooses 0)";
+        let row = Row {
+            name: "someRow".into(),
+            term: Term::of(text),
+        };
+        let record = play(&row).record;
+        let title = "some-row: 123m88s, pon 7z from across, chi 1m, kan 1z, ron 8s";
+        assert_eq!(record[1..][..usize::from(record[0])], *title.as_bytes());
+        assert_eq!(record[162..175], [3, 33, 3, 2, 0, 1, 3, 27, 4, 0, 0, 0, 0]);
+        assert_eq!(record[210..217], [0, 1, 0, 0, 1, 12, 0]);
+
+        let name = |call: &str| {
+            let calls = Term::of(&format!("{call} ∷ []"));
+            hand_names(&Term::of("hand (mans 55)").hand(&calls))
+        };
+        assert_eq!(name("openKan East"), "55m, open-kan 1z");
+        assert_eq!(
+            name("fromRight (addedKan East)"),
+            "55m, added-kan 1z from right"
+        );
+        assert_eq!(name("fromLeft (closedKan East)"), "55m, kan 1z from left");
+    }
+
+    #[test]
     fn a_row_with_indicators_is_played() {
         let text = "won (hand (mans 222333444 ++ pins 666 ++ sous 88)) [] (showing (replicate 4 (man 1) ++ \
             replicate 3 (man 2) ++ replicate 3 (man 3)) (man 1 ∷ []) (southWins byTsumo (pin 6) [])) [] \
@@ -531,11 +571,11 @@ mod tests {
         };
         let record = play(&row).record;
         let shown = [10, 0, 0, 0, 0, 1, 1, 1, 2, 2, 2];
-        assert_eq!(record[171..175], [1, 14, 27, 28]);
-        assert_eq!(record[184..195], shown);
-        assert_eq!(record[195..206], [1, 0, 0, 0, 0, 0, 0, 0, 0, 0, 0]);
+        assert_eq!(record[175..179], [1, 14, 27, 28]);
+        assert_eq!(record[188..199], shown);
+        assert_eq!(record[199..210], [1, 0, 0, 0, 0, 0, 0, 0, 0, 0, 0]);
         // Two readings, of which the one with four triplets is chosen, with 30 dora and no ura.
-        assert_eq!(record[206..213], [0, 2, 0, 1, 2, 12, 0]);
+        assert_eq!(record[210..217], [0, 2, 0, 1, 2, 12, 0]);
         let slot = &record[SLOTS + SLOT..][..SLOT];
         assert_eq!(
             (slot[53], slot[55], slot[56..60].to_vec()),

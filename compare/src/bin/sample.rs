@@ -7,12 +7,12 @@
 //! | 0       | length of the counts                                                   |
 //! | 1..41   | the counts                                                             |
 //! | 41..43  | number of calls                                                        |
-//! | 43..51  | four melds, each its tile and its kind                                 |
-//! | 51..53  | number of bytes lent, at most 120                                      |
-//! | 53      | the answer's number                                                    |
-//! | 54..56  | the answer's count of readings                                         |
-//! | 56..58  | the answer's count of bytes                                            |
-//! | 60..180 | the buffer after the call, as far as it is lent                        |
+//! | 43..55  | four melds, each its tile, its kind and its source                     |
+//! | 55..57  | number of bytes lent, at most 120                                      |
+//! | 57      | the answer's number                                                    |
+//! | 58..60  | the answer's count of readings                                         |
+//! | 60..62  | the answer's count of bytes                                            |
+//! | 64..184 | the buffer after the call, as far as it is lent                        |
 //!
 //! Before the call, byte i of the buffer is (7 i + 3) mod 256.
 
@@ -102,11 +102,11 @@ fn record(hand: &Hand, expected: &Expected, lent: usize) -> [u8; RECORD] {
 
     let mut record = [0; RECORD];
     put_hand(&mut record, hand);
-    put_u16(&mut record, 51, lent);
-    record[53] = answer.number as u8;
-    put_u16(&mut record, 54, answer.readings);
-    put_u16(&mut record, 56, answer.bytes);
-    record[60..][..lent].copy_from_slice(&buffer);
+    put_u16(&mut record, 55, lent);
+    record[57] = answer.number as u8;
+    put_u16(&mut record, 58, answer.readings);
+    put_u16(&mut record, 60, answer.bytes);
+    record[64..][..lent].copy_from_slice(&buffer);
     record
 }
 
@@ -126,4 +126,30 @@ fn add_one(part: &Part, rng: &mut Rng, tally: &mut Tally, sample: &mut Sample<RE
 
 fn main() -> ExitCode {
     stored::write("sample", SEED, parts(), Tally::default(), add_one)
+}
+
+#[cfg(test)]
+mod tests {
+    use super::*;
+    use compare::hand::{ACROSS, OPEN_TRIPLET};
+    use compare::library::Meld;
+
+    #[test]
+    fn a_record_has_the_answer_and_the_buffer_at_their_places() {
+        let mut hand = Hand::empty();
+        // Man 123 55, pin 456, sou 234, and a pon of Red.
+        for tile in [0, 1, 2, 4, 4, 12, 13, 14, 19, 20, 21] {
+            hand.counts[tile] += 1;
+        }
+        hand.call(Meld::new(33, OPEN_TRIPLET).with_source(ACROSS));
+        let record = record(&hand, &Expected::of(&hand), 18);
+        assert_eq!(record[41..46], [1, 0, 33, 3, 2]);
+        assert_eq!(record[46..55], [0; 9]);
+        // 18 bytes lent, accepted, one reading, 17 bytes.
+        assert_eq!(record[55..64], [18, 0, 0, 1, 0, 17, 0, 0, 0]);
+        let standard = [17, 0, 3, 0, 4, 0, 0, 0, 12, 0, 0, 19, 0, 0, 33, 3, 2];
+        assert_eq!(record[64..81], standard);
+        assert_eq!(record[81], 17 * 7 + 3);
+        assert_eq!(record[82..], [0; 174]);
+    }
 }

@@ -6,20 +6,20 @@
 //! |----------|-------------------------------------------------------------------------------|
 //! | 0        | kind of the reading: 1 seven pairs, 2 thirteen orphans, 3 standard            |
 //! | 1        | the pair's tile                                                               |
-//! | 2..10    | four melds, each its tile and its kind                                        |
-//! | 10..17   | the tiles of seven pairs                                                      |
-//! | 17..51   | the counts of hand and calls together                                         |
-//! | 51..55   | win type, winning tile, round wind, seat wind                                 |
-//! | 55..63   | riichi, double riichi, ippatsu, rinshan, chankan, last tile, tenhou, chiihou  |
-//! | 63       | the setting: fu of a pair that is both round and seat wind                    |
-//! | 64..75   | how many indicators there are, and ten of them                                |
-//! | 75..86   | how many ura indicators there are, and ten of them                            |
-//! | 86       | whether the hand is open                                                      |
-//! | 87..134  | the yaku tallies                                                              |
-//! | 134..140 | the wait tallies                                                              |
-//! | 140      | han of the yaku, without dora                                                 |
-//! | 141      | fu                                                                            |
-//! | 142      | whether it is a yakuman                                                       |
+//! | 2..14    | four melds, each its tile, its kind and its source                            |
+//! | 14..21   | the tiles of seven pairs                                                      |
+//! | 21..55   | the counts of hand and calls together                                         |
+//! | 55..59   | win type, winning tile, round wind, seat wind                                 |
+//! | 59..67   | riichi, double riichi, ippatsu, rinshan, chankan, last tile, tenhou, chiihou  |
+//! | 67       | the setting: fu of a pair that is both round and seat wind                    |
+//! | 68..79   | how many indicators there are, and ten of them                                |
+//! | 79..90   | how many ura indicators there are, and ten of them                            |
+//! | 90       | whether the hand is open                                                      |
+//! | 91..138  | the yaku tallies                                                              |
+//! | 138..144 | the wait tallies                                                              |
+//! | 144      | han of the yaku, without dora                                                 |
+//! | 145      | fu                                                                            |
+//! | 146      | whether it is a yakuman                                                       |
 //!
 //! There is noise behind the counts of the indicators.
 
@@ -29,7 +29,7 @@ use compare::library::{FOUR, SETTINGS, TWO, Win};
 use compare::probe::{Reading, ReadingScore, STANDARD};
 use compare::rng::Rng;
 use compare::score_tally::*;
-use compare::stored::{self, Sample, put_win};
+use compare::stored::{self, Sample, put_melds, put_win};
 use compare::win_tally::SETTING_NAMES;
 use compare::wins;
 use std::ops::Range;
@@ -184,19 +184,16 @@ fn record(scored: &Scored) -> [u8; RECORD] {
     let mut record = [0; RECORD];
     record[0] = reading.kind;
     record[1] = reading.pair;
-    for (place, meld) in reading.melds.iter().enumerate() {
-        record[2 + 2 * place] = meld.tile;
-        record[3 + 2 * place] = meld.kind;
-    }
-    record[10..17].copy_from_slice(&reading.pairs);
-    record[17..51].copy_from_slice(counts);
-    put_win(&mut record[51..86], win);
-    record[86] = u8::from(*is_open);
-    record[87..134].copy_from_slice(&score.tallies);
-    record[134..140].copy_from_slice(&score.waits);
-    record[140] = score.han;
-    record[141] = score.fu;
-    record[142] = score.is_yakuman;
+    put_melds(&mut record[2..14], &reading.melds);
+    record[14..21].copy_from_slice(&reading.pairs);
+    record[21..55].copy_from_slice(counts);
+    put_win(&mut record[55..90], win);
+    record[90] = u8::from(*is_open);
+    record[91..138].copy_from_slice(&score.tallies);
+    record[138..144].copy_from_slice(&score.waits);
+    record[144] = score.han;
+    record[145] = score.fu;
+    record[146] = score.is_yakuman;
     record
 }
 
@@ -222,23 +219,31 @@ fn main() -> ExitCode {
 #[cfg(test)]
 mod tests {
     use super::*;
+    use compare::library::Meld;
+    use std::collections::HashSet;
 
     #[test]
     fn a_record_has_the_win_and_its_yaku_at_their_places() {
         let mut rng = Rng::new(1);
+        let mut sources = HashSet::new();
         for _ in 0..200 {
             let scored = deal(&mut rng);
             let record = record(&scored);
             let [dora, ura] = scored.win.indicators();
-            assert_eq!(record[51], scored.win.win_type);
-            assert_eq!((record[64], &record[65..75]), (dora.count, &dora.tiles[..]));
-            assert_eq!((record[75], &record[76..86]), (ura.count, &ura.tiles[..]));
-            assert_eq!(record[86], u8::from(scored.is_open));
-            assert_eq!(record[87..134], scored.score.tallies);
-            assert_eq!(record[134..140], scored.score.waits);
+            let melds = scored.reading.melds.map(Meld::bytes);
+            assert_eq!(record[2..14], *melds.as_flattened());
+            assert_eq!(record[21..55], scored.counts);
+            assert_eq!(record[55], scored.win.win_type);
+            assert_eq!((record[68], &record[69..79]), (dora.count, &dora.tiles[..]));
+            assert_eq!((record[79], &record[80..90]), (ura.count, &ura.tiles[..]));
+            assert_eq!(record[90], u8::from(scored.is_open));
+            assert_eq!(record[91..138], scored.score.tallies);
+            assert_eq!(record[138..144], scored.score.waits);
             let score = [scored.score.han, scored.score.fu, scored.score.is_yakuman];
-            assert_eq!(record[140..143], score);
-            assert_eq!(record[143..], [0; 17]);
+            assert_eq!(record[144..147], score);
+            assert_eq!(record[147..], [0; 13]);
+            sources.extend(scored.reading.melds.map(|meld| meld.source));
         }
+        assert_eq!(sources.len(), 4);
     }
 }

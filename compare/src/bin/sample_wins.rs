@@ -8,17 +8,17 @@
 //! | 0        | length of the counts                                                          |
 //! | 1..41    | the counts                                                                    |
 //! | 41..43   | number of calls                                                               |
-//! | 43..51   | four melds, each its tile and its kind                                        |
-//! | 51..55   | win type, winning tile, round wind, seat wind                                 |
-//! | 55..63   | riichi, double riichi, ippatsu, rinshan, chankan, last tile, tenhou, chiihou  |
-//! | 63       | the setting: fu of a pair that is both round and seat wind                    |
-//! | 64..75   | how many indicators there are, and ten of them                                |
-//! | 75..86   | how many ura indicators there are, and ten of them                            |
-//! | 86..88   | the number of a reading                                                       |
-//! | 88..164  | the score of the win                                                          |
-//! | 164..240 | the score of that reading                                                     |
-//! | 240      | the number answered where the waits of that reading are asked for             |
-//! | 241..247 | the wait tallies                                                              |
+//! | 43..55   | four melds, each its tile, its kind and its source                            |
+//! | 55..59   | win type, winning tile, round wind, seat wind                                 |
+//! | 59..67   | riichi, double riichi, ippatsu, rinshan, chankan, last tile, tenhou, chiihou  |
+//! | 67       | the setting: fu of a pair that is both round and seat wind                    |
+//! | 68..79   | how many indicators there are, and ten of them                                |
+//! | 79..90   | how many ura indicators there are, and ten of them                            |
+//! | 90..92   | the number of a reading                                                       |
+//! | 92..168  | the score of the win                                                          |
+//! | 168..244 | the score of that reading                                                     |
+//! | 244      | the number answered where the waits of that reading are asked for             |
+//! | 245..251 | the wait tallies                                                              |
 //!
 //! A score is the answer's number, the number of the reading, 47 yaku tallies, han, fu, whether it is
 //! a yakuman, the level, the count of yakuman, the dora and the ura dora, each in one byte; then in four
@@ -376,12 +376,12 @@ fn record(dealt: &Dealt, number: usize) -> [u8; RECORD] {
     let waits = expected.name_waits(number);
     let mut record = [0; RECORD];
     put_hand(&mut record, &dealt.hand);
-    put_win(&mut record[51..86], &dealt.win);
-    put_u16(&mut record, 86, number);
-    put_score(&mut record[88..164], &expected.score_win());
-    put_score(&mut record[164..240], &expected.score_reading(number));
-    record[240] = waits.number as u8;
-    record[241..247].copy_from_slice(&waits.waits);
+    put_win(&mut record[55..90], &dealt.win);
+    put_u16(&mut record, 90, number);
+    put_score(&mut record[92..168], &expected.score_win());
+    put_score(&mut record[168..244], &expected.score_reading(number));
+    record[244] = waits.number as u8;
+    record[245..251].copy_from_slice(&waits.waits);
     record
 }
 
@@ -444,18 +444,18 @@ mod tests {
             expected,
         };
         let record = record(&dealt, 0);
-        assert_eq!(record[51..55], [1, 25, 27, 28]);
-        assert_eq!((record[63], record[64], record[65]), (4, 1, 3));
-        assert_eq!(record[75..78], [2, 9, 9]);
-        assert_eq!(record[86..88], [0, 0]);
+        assert_eq!(record[55..59], [1, 25, 27, 28]);
+        assert_eq!((record[67], record[68], record[69]), (4, 1, 3));
+        assert_eq!(record[79..82], [2, 9, 9]);
+        assert_eq!(record[90..92], [0, 0]);
         // 2 + 2 han, 20 fu, no yakuman, Normal, 2 dora and no ura, 1,280 basic points.
-        for score in [&record[88..164], &record[164..240]] {
+        for score in [&record[92..168], &record[168..244]] {
             assert_eq!(score[..2], [0, 0]);
             assert_eq!(score[49..56], [4, 20, 0, 0, 0, 2, 0]);
             assert_eq!(score[56..60], 1280_u32.to_le_bytes());
             assert_eq!(score[72..76], 5200_u32.to_le_bytes());
         }
-        assert_eq!(record[240..247], [0, 1, 0, 0, 0, 0, 0]);
-        assert_eq!(record[247..], [0; 9]);
+        assert_eq!(record[244..251], [0, 1, 0, 0, 0, 0, 0]);
+        assert_eq!(record[251..], [0; 5]);
     }
 }

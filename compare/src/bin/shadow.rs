@@ -59,7 +59,7 @@ fn settled(win: &TableWin, reading: &HandStructure) -> Settled {
 fn by_library(win: &TableWin) -> Result<Settled, Refusal> {
     let counts = ziwhakemo::counts_of(&to_ziwhakemo::tile_counts(&win.counts));
     let counts = counts.expect("the table deals tiles alone");
-    let calls = to_ziwhakemo::melds(&win.calls);
+    let calls = to_ziwhakemo::calls(&win.calls, &win.sources);
     let context = to_ziwhakemo::game_context(&win.context);
     let context = context.expect("the table has no red fives and agari's default rules");
     let setting = to_ziwhakemo::double_wind_fu(win.setting).expect("the room has a setting");

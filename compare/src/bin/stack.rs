@@ -3,7 +3,7 @@
 
 use compare::hand::{Hand, KINDS};
 use compare::library::{
-    Listing, RON, Score, TSUMO, Win, ziwhakemo_list_readings, ziwhakemo_name_waits,
+    ALWAYS_ENOUGH, Listing, RON, Score, TSUMO, Win, ziwhakemo_list_readings, ziwhakemo_name_waits,
     ziwhakemo_score_reading, ziwhakemo_score_win,
 };
 use compare::random;
@@ -17,8 +17,6 @@ use std::mem::MaybeUninit;
 const USAGE: &str = "usage: stack [HANDS]";
 const SEED: u64 = 1;
 const HANDS: u64 = 1_000_000;
-/// The buffer lent to the library.
-const LENT: usize = 1467;
 
 const SIZE: usize = 8192;
 const PATTERN: u8 = 0xa5;
@@ -152,7 +150,7 @@ fn main() {
         None => HANDS,
     };
     let mut rng = Rng::new(SEED);
-    let mut out = [0; LENT];
+    let mut out = [0; ALWAYS_ENOUGH];
     let mut deepest = Deepest::default();
     for _ in 0..hands {
         let hand = random::any(&mut rng);

@@ -1,4 +1,4 @@
--- Calls by their tiles: there is one of a kind at most, and those of the tiles counted are those of the tiles that the word names. Assumes nothing.
+-- Calls by their tiles: there is one of a kind at most, but for its source, and those of the tiles counted are those of the tiles that the word names. Assumes nothing.
 use mathlib.Core.Path.{_≡_, refl, sym, ap, ap₂, subst, _∙_}
 use mathlib.Core.Bool.{Bool, true, false, cond}
 use mathlib.Core.List.{List, [], _∷_}
@@ -8,12 +8,13 @@ use lib.Dec.{T, eqb}
 use lib.ListN.{replicate, getD-replicate}
 use borrow.Author.Tests.{eqb-true, eq-eqb, ne-eqb}
 use Rattle.lists.specs.Fold.{count}
-use Rattle.lists.proofs.Finite.{T→true, true→T, or-elim}
+use Rattle.lists.proofs.Finite.{T→true, true→T, or-elim, and-left, and-right, and-both}
 use Rattle.lists.proofs.Members.{all-intro}
 use Rattle.tile.specs.Tile.{tiles}
 use Rattle.tile.proofs.Tiles.{tile-lt}
 use Rattle.meld.specs.declared.Meld.{Meld}
-use Rattle.meld.specs.Meld.{isCall, isOpen, meld, uses}
+use Rattle.meld.specs.Meld.{isMeld, isCall, isOpen, meldFrom, meld, butSource, uses}
+use Rattle.meld.proofs.Melds.{but-isMeld}
 use Rattle.hand.specs.Counts.{held}
 use Rattle.checks.proofs.Added.{uses-first}
 use Rattle.tile_words.specs.Words.{tilesIn, addTo}
@@ -27,16 +28,30 @@ use Rattle.call_words.proofs.Least.{made, lowest-own}
 few : (m : Meld) (t : ℕ) → uses m t ≤ 4
 few m t = let h = uses-first (m ∷ []) 1 t in omega arith
 
--- ---- the call of a kind: its tile is the lowest, so there is only one
+-- the meld as it is taken, by whether it is open
+pub left-is : (t k : ℕ) (b : Bool) → isOpen (meldFrom t k 0) ≡ b → meldFrom t k (cond b 3 0) ≡ meld t k
+left-is t k b e = ap (λ (o : Bool). meldFrom t k (cond o 3 0)) (sym e)
+
+-- a call but for its source is a call
+but-call : (m : Meld) → isCall m ≡ true → isCall (butSource m) ≡ true
+but-call m e =
+    let c = true→T (isCall m) e in
+    T→true (isCall (butSource m)) (and-both (isMeld (butSource m)) _ (but-isMeld m (and-left (isMeld m) _ c)) (and-right (isMeld m) _ c))
+
+-- ---- the call of a kind: its tile is the lowest, so there is only one, but for its source
 module _ (cs : List ℕ) (r k : ℕ) (low : IsLowest cs r) (m : Meld) (x : CallOf (isKind k) cs m) where
-  only : m ≡ meld r k
+  only : butSource m ≡ meld r k
   only = ap₂ meld (lowest-own m cs r (x .0) (x .1 .1) low) (eqb-true (m .kind) k (x .1 .0))
 
-  pub no-call : isCall (meld r k) ≡ false → ⊥
-  no-call e = true→T false (sym e ∙ sym (ap isCall only) ∙ x .0)
+  pub no-call : (l : Meld) → l ≡ meld r k → isCall l ≡ false → ⊥
+  no-call l is e = true→T false (sym e ∙ ap isCall (is ∙ sym only) ∙ but-call m (x .0))
 
-  pub not-made : madeOf (meld r k) cs ≡ false → ⊥
-  not-made e = true→T false (sym e ∙ sym (ap (λ (c : Meld). madeOf c cs) only) ∙ x .1 .1)
+  pub not-made : (l : Meld) → l ≡ meld r k → madeOf l cs ≡ false → ⊥
+  not-made l is e = true→T false (sym e ∙ ap (λ (c : Meld). madeOf c cs) (is ∙ sym only) ∙ x .1 .1)
+
+-- the one that was tried is of that kind and from the left
+pub tried : (cs : List ℕ) (r k : ℕ) (l : Meld) → l ≡ meld r k → isCall l ≡ true → madeOf l cs ≡ true → IsCallOf (isKind k) cs (Call l)
+tried cs r k l is call same = ((call, (ap (isKind k) is ∙ eq-eqb k k refl, same)), is ∙ sym (ap butSource is))
 
 -- ---- open calls
 -- what was found by one test passes a weaker one
@@ -45,7 +60,7 @@ pub weaker :
     → IsCallOf p cs f → IsCallOf q cs f
 weaker p q g cs f m e x =
     let y = subst (IsCallOf p cs) e x in
-    subst (IsCallOf q cs) (sym e) (y .0, (g m (y .1 .0), y .1 .1))
+    subst (IsCallOf q cs) (sym e) ((y .0 .0, (g m (y .0 .1 .0), y .0 .1 .1)), y .1)
 
 -- kans, triplets and sequences that were called are open
 pub open-kind : (k : ℕ) → isOpen (meld 0 k) ≡ true → (m : Meld) → isKind k m ≡ true → isOpen m ≡ true
@@ -55,7 +70,7 @@ open-kind k e m h = ap (λ (n : ℕ). isOpen (meld 0 n)) (eqb-true (m .kind) k h
 as-open-kan : (cs : List ℕ) (m : Meld) → CallOf (isKind 6) cs m → CallOf (isKind 5) cs (meld (m .tile) 5)
 as-open-kan cs m x =
     let e = eqb-true (m .kind) 6 (x .1 .0) in (
-      sym (ap (λ (k : ℕ). isCall (meld (m .tile) k)) e) ∙ x .0,
+      sym (ap (λ (k : ℕ). isCall (meld (m .tile) k)) e) ∙ but-call m (x .0),
       (refl, sym (ap (λ (k : ℕ). madeOf (meld (m .tile) k) cs) e) ∙ x .1 .1),
     )
 
@@ -73,7 +88,7 @@ module _ (cs : List ℕ) (five : IsCallOf (isKind 5) cs Nothing) (three : IsCall
 
   pub open-sequence : (f : Found) → IsCallOf (isKind 1) cs f → IsCallOf isOpen cs f
   open-sequence Nothing x = no-open x
-  open-sequence (Call m) x = (x .0, (open-kind 1 refl m (x .1 .0), x .1 .1))
+  open-sequence (Call m) x = ((x .0 .0, (open-kind 1 refl m (x .0 .1 .0), x .0 .1 .1)), x .1)
 
 -- what is asked for by its kind, or by 0
 pub asked-open : (k : ℕ) → k ≡ 0 → isAsked k ≡ isOpen
@@ -98,8 +113,10 @@ module _ (cs w : List ℕ) (counted : (t : ℕ) → t < 34 → held cs t ≡ add
 
   tiles-in : (p : Meld → Bool) (f : Found) → IsCallOf p cs f → IsCallIn p w f
   tiles-in p Nothing x = λ m y. x m (y .0, (y .1 .0, counted-made m (y .1 .1)))
-  tiles-in p (Call m) x =
-      (x .0, (x .1 .0, λ t h. add-few (count (eqb t) (tilesIn w)) (uses m t) (sym (from-nothing t h) ∙ made m cs (x .1 .1) t h) (few m t)))
+  tiles-in p (Call m) x = (
+    (x .0 .0, (x .0 .1 .0, λ t h. add-few (count (eqb t) (tilesIn w)) (uses m t) (sym (from-nothing t h) ∙ made m cs (x .0 .1 .1) t h) (few m t))),
+    x .1,
+  )
 
   pub call-in : (p q : Meld → Bool) → q ≡ p → (f : Found) → IsCallOf p cs f → IsCallIn q w f
   call-in p q e f x = subst (λ (r : Meld → Bool). IsCallIn r w f) (sym e) (tiles-in p f x)

@@ -1,9 +1,9 @@
 // Calls from words of tiles.
 ghost use mathlib.Core.Path.{_≡_};
-ghost use Prim.Native.Nat.{_+_, min};
-ghost use lib.ListN.{set};
-ghost use Rattle.meld.specs.Meld.{isOpen};
-ghost use Rattle.call_words.specs.Calls.{madeOf, isKind, isAsked, IsLowest, IsCallOf, IsCallIn, withCall};
+ghost use Prim.Native.Nat.{_+_, _-_, min};
+ghost use lib.ListN.{getD, set};
+ghost use Rattle.meld.specs.Meld.{isOpen, fromSeat, meld};
+ghost use Rattle.call_words.specs.Calls.{madeOf, isKind, isAsked, IsLowest, IsCallOf, IsCallIn, withCall, withSource, canComeFrom};
 
 // A call that was looked for.
 pub enum Found {
@@ -38,14 +38,37 @@ fn is_made_of(m: meld::Meld, counts: &[u8; 34]) -> bool
     good
 }
 
-// The call of a kind that has exactly these tiles; nothing where there is none.
+// The meld with another source.
+fn from_seat(m: meld::Meld, source: u8) -> meld::Meld
+    ensures { λ r. ⌜ r ≡ fromSeat source m ⌝ }
+{
+    meld::Meld {
+        tile: m.tile,
+        kind: m.kind,
+        source: source,
+    }
+}
+
+// The meld of a tile and a kind: an open one from the left, from where each kind of them can come.
+fn from_left(tile: u8, kind: u8) -> meld::Meld
+    ensures { λ r. ⌜ r ≡ meld tile kind ⌝ }
+{
+    let closed = meld::Meld {
+        tile: tile,
+        kind: kind,
+        source: 0,
+    };
+    if closed.is_open() {
+        return from_seat(closed, 3);
+    }
+    closed
+}
+
+// The call of a kind that has exactly these tiles, from the left; nothing where there is none.
 fn call_of(counts: &[u8; 34], kind: u8) -> Found
     ensures { λ r. ⌜ IsCallOf (isKind kind) (now (counts .entry)) r ⌝ }
 {
-    let m = meld::Meld {
-        tile: lowest(counts),
-        kind: kind,
-    };
+    let m = from_left(lowest(counts), kind);
     if !m.is_call() {
         return Found::Nothing;
     }
@@ -55,7 +78,7 @@ fn call_of(counts: &[u8; 34], kind: u8) -> Found
     Found::Call(m)
 }
 
-// The open call that has exactly these tiles: a kan, a triplet or a sequence; nothing where there is none.
+// The open call that has exactly these tiles, from the left: a kan, a triplet or a sequence; nothing where there is none.
 fn open_call_of(counts: &[u8; 34]) -> Found
     ensures { λ r. ⌜ IsCallOf isOpen (now (counts .entry)) r ⌝ }
 {
@@ -70,7 +93,7 @@ fn open_call_of(counts: &[u8; 34]) -> Found
     call_of(counts, 1)
 }
 
-// The call that has exactly the tiles of a word: of a kind, or any open one where the kind is 0. Nothing where there is none.
+// The call that has exactly the tiles of a word, from the left: of a kind, or any open one where the kind is 0. Nothing where there is none.
 pub fn call_in(word: &[u8], kind: u8) -> Found
     ensures { λ r. ⌜ IsCallIn (isAsked kind) (now (word .entry)) r ⌝ }
 {
@@ -109,5 +132,54 @@ pub fn with_call(k: checks::Calls, m: meld::Meld) -> checks::Calls
     checks::Calls {
         count: more(count),
         melds: kept(melds, count, m),
+    }
+}
+
+// ---- whom the last call came from
+
+// The place of the last of so many calls; 0 where there is none.
+fn last_place(count: usize) -> usize
+    ensures { λ r. ⌜ r ≡ count - 1 ⌝ }
+{
+    if count == 0 {
+        return 0;
+    }
+    count - 1
+}
+
+// The meld at a place; a closed sequence, which is no call, past four.
+fn at_place(melds: [meld::Meld; 4], i: usize) -> meld::Meld
+    ensures { λ r. ⌜ r ≡ getD melds i (meld 0 0) ⌝ }
+{
+    if i < 4 {
+        return melds[i];
+    }
+    meld::Meld {
+        tile: 0,
+        kind: 0,
+        source: 0,
+    }
+}
+
+// Can the last of the calls come from a seat? Of more than four it is not asked.
+pub fn can_come_from(k: checks::Calls, source: u8) -> bool
+    ensures { λ r. ⌜ r ≡ canComeFrom source k ⌝ }
+{
+    let melds = k.melds;
+    let count = k.count;
+    let m = from_seat(at_place(melds, last_place(count)), source);
+    (4 < count) | m.is_sourced()
+}
+
+// The calls, the last of them from a seat. Where it was not kept nothing changes.
+pub fn with_source(k: checks::Calls, source: u8) -> checks::Calls
+    ensures { λ r. ⌜ r ≡ withSource source k ⌝ }
+{
+    let melds = k.melds;
+    let count = k.count;
+    let i = last_place(count);
+    checks::Calls {
+        count: count,
+        melds: kept(melds, i, from_seat(at_place(melds, i), source)),
     }
 }

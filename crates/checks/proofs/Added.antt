@@ -17,6 +17,7 @@ use Rattle.lists.proofs.Sums.{sum-append}
 use Rattle.tile.specs.Tile.{isStart}
 use Rattle.meld.specs.declared.Meld.{Meld}
 use Rattle.meld.specs.Meld.{isKan, isMeld, isSequence, runUses, setSize, uses}
+use Rattle.meld.proofs.Melds.{meld-shaped}
 use Rattle.hand.specs.Counts.{held}
 use Rattle.hand.proofs.Lowest.{run-in}
 
@@ -34,7 +35,7 @@ more cs t n u h = go (ℕ-discrete u t)
 pub run-below : (m : Meld) → T (isMeld m) → isSequence m ≡ true → m .tile + 2 < 34
 run-below m v e =
     let k = ltb-true (m .kind) 2 e in
-    or-elim (leb 2 (m .kind)) (isStart (m .tile)) (and-right (ltb (m .tile) 34) _ (and-right (ltb (m .kind) 7) _ v))
+    or-elim (leb 2 (m .kind)) (isStart (m .tile)) (and-right (ltb (m .tile) 34) _ (and-right (ltb (m .kind) 7) _ (meld-shaped m v)))
     (λ a. let h = leb→le 2 (m .kind) a in absurd (omega arith))
     (λ s. let h = ltb→lt (m .tile) 27 (and-left (ltb (m .tile) 27) _ s) in omega arith)
 

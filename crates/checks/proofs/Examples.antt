@@ -5,7 +5,8 @@ use Prim.Native.Nat.{ℕ}
 use lib.ListN.{length, take}
 use Rattle.tile.specs.Named.{man, mans, pins, sous, East, Red}
 use Rattle.meld.specs.declared.Meld.{Meld}
-use Rattle.meld.specs.Named.{run, triplet, chi, pon, closedKan, openKan, addedKan}
+use Rattle.meld.specs.Meld.{fromSeat}
+use Rattle.meld.specs.Named.{run, triplet, chi, pon, closedKan, openKan, addedKan, fromRight, fromAcross, fromLeft}
 use Rattle.hand.specs.Named.{hand}
 use Rattle.checks.specs.declared.Calls.{Calls}
 use Rattle.checks.specs.Checks.{check, handCheck}
@@ -56,7 +57,7 @@ pub five-calls : refuses [] (pon (man 1) ∷ pon (man 2) ∷ pon (man 3) ∷ pon
 unfolding handCheck check
 five-calls = refl
 
--- ---- 3: a call's kind or tile is not one that can be called
+-- ---- 3: a call's kind, tile or source is not one that can be called
 pub closed-run-called : refuses eleven (run (man 1) ∷ []) ≡ 3
 unfolding handCheck check
 closed-run-called = refl
@@ -77,6 +78,31 @@ chi-from-eight = refl
 pub chi-of-winds : refuses eleven (chi East ∷ []) ≡ 3
 unfolding handCheck check
 chi-of-winds = refl
+
+-- a sequence comes from the left alone, a closed kan from nobody, any other call from one of the three others
+pub chi-from-right : refuses eleven (fromRight (chi (man 7)) ∷ []) ≡ 3
+unfolding handCheck check
+chi-from-right = refl
+
+pub chi-from-across : refuses eleven (fromAcross (chi (man 7)) ∷ []) ≡ 3
+unfolding handCheck check
+chi-from-across = refl
+
+pub pon-from-right : refuses eleven (fromRight (pon Red) ∷ []) ≡ 0
+unfolding handCheck check
+pon-from-right = refl
+
+pub pon-from-nobody : refuses eleven (fromSeat 0 (pon Red) ∷ []) ≡ 3
+unfolding handCheck check
+pon-from-nobody = refl
+
+pub added-kan-from-fourth : refuses eleven (fromSeat 4 (addedKan Red) ∷ []) ≡ 3
+unfolding handCheck check
+added-kan-from-fourth = refl
+
+pub closed-kan-from-left : refuses eleven (fromLeft (closedKan Red) ∷ []) ≡ 3
+unfolding handCheck check
+closed-kan-from-left = refl
 
 -- Red is the last tile
 pub pon-past-red : refuses eleven (pon 34 ∷ []) ≡ 3

@@ -1,5 +1,6 @@
 -- The checks 1 to 6 in the words of the scope paper, each a fact about the counts and the calls, in their order. These are definitions.
 use mathlib.Core.Path.{_≡_}
+use mathlib.Core.Logic.{_≢_}
 use mathlib.Core.List.{List, [], _∷_, List·Memᴰ}
 use Prim.Native.Nat.{ℕ, _-_, _*_, _≤_, _<_}
 use lib.ListN.{length}
@@ -15,11 +16,15 @@ use Rattle.checks.specs.Checks.{called, together}
 abbrev pub callKinds : List ℕ
 callKinds = 1 ∷ 3 ∷ 4 ∷ 5 ∷ 6 ∷ []
 
--- a meld that can be called: its kind is one of these and its tile a tile; a sequence starts at 1 to 7 of a suit
+-- a meld that can be called: its kind is one of these and its tile a tile; a sequence starts at 1 to 7 of a suit. The tile that was called came from
+-- nobody for a closed kan; for the others from 1, 2 or 3 seats onward, for a sequence from 3
 pub record Callable (m : Meld) : Type 0 where
   pub kind : List·Memᴰ (m .kind) callKinds
   pub tile : m .tile < 34
   pub start : m .kind ≡ 1 → (1 ≤ valueOf (m .tile)) × (valueOf (m .tile) ≤ 7)
+  pub nobody : m .kind ≡ 4 → m .source ≡ 0
+  pub seat : m .kind ≢ 4 → (1 ≤ m .source) × (m .source ≤ 3)
+  pub before : m .kind ≡ 1 → m .source ≡ 3
 
 -- 34 counts; at most four calls; each can be called; at most four of each tile in the hand; at most four in hand and calls together; the hand's tiles
 -- are 14, three fewer for each call

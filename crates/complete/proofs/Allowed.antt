@@ -1,6 +1,6 @@
 -- In a room that plays with fewer tiles: where each tile of the hand and of the calls is in play, so is each tile of each reading.
 -- Assumes nothing.
-use mathlib.Core.Path.{_≡_, sym, ap, subst}
+use mathlib.Core.Path.{_≡_, refl, sym, ap, subst}
 use mathlib.Core.Logic.{⊎-elim}
 use mathlib.Core.Bool.{Bool, true, false, _&&_, _||_, not, cond}
 use mathlib.Core.List.{List, _++_, List·Memᴰ, List·Memᴰ·append-cases}
@@ -38,7 +38,7 @@ uses-lt m v t h = go (isSequence m) (λ s. s) h
   where
     go : (b : Bool) → (T b → T (isSequence m)) → 1 ≤ cond b (runUses (m .tile) t) (cond (eqb t (m .tile)) (setSize (isKan m)) 0) → t < 34
     go true s h =
-        let a = ltb→lt (m .tile + 2) 34 (or-skip (isSequence m) _ (s tt) (melds-at (λ m. not (isSequence m) || ltb (m .tile + 2) 34) sequence-test m v)) in
+        let a = ltb→lt (m .tile + 2) 34 (or-skip (isSequence m) _ (s tt) (melds-at (λ m. not (isSequence m) || ltb (m .tile + 2) 34) (λ m. refl) sequence-test m v)) in
         let b = ltb→lt t (m .tile + 3) (and-right (leb (m .tile) t) _ (one-yes (leb (m .tile) t && ltb t (m .tile + 3)) h)) in
         omega arith
     go false s h =

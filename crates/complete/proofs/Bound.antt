@@ -1,5 +1,5 @@
--- The records of a hand of at most 14 tiles need at most 1,467 bytes: for each of at most seven pairs at most 16 readings of
--- 13 bytes, and 11 bytes for seven pairs or 5 for thirteen orphans. Assumes nothing.
+-- The records of a hand of at most 14 tiles never need more bytes than `alwaysEnough` says: for each of at most seven pairs at most 16 readings of
+-- `standardBytes`, and 11 bytes for seven pairs or 5 for thirteen orphans. Assumes nothing.
 use mathlib.Core.Path.{_≡_, refl, sym, ap, _∙_}
 use mathlib.Core.Logic.{⊎-elim}
 use mathlib.Core.Bool.{Bool, true, false, cond}
@@ -20,7 +20,7 @@ use Rattle.meld.specs.Meld.{isMeld, handMelds, sorted}
 use Rattle.meld.proofs.Melds.{picked-melds, sorted-perm}
 use Rattle.hand.specs.Reading.{Reading, pairs, orphans, standard}
 use Rattle.hand.specs.Readings.{meldLists, lessPair, standardsAt, twos, isPairs, sevenPairs, isOrphans, thirteenOrphans, uncalled, readings}
-use Rattle.hand.specs.Records.{twoBytes, kindOf, bodyOf, recordOf, records}
+use Rattle.hand.specs.Records.{twoBytes, kindOf, bodyOf, recordOf, standardBytes, alwaysEnough, records}
 use Rattle.hand.proofs.Records.{meldBytes-length}
 use Rattle.hand.proofs.Search.{Found, find-sound}
 use Rattle.hand.proofs.Lowest.{few}
@@ -43,16 +43,16 @@ records-length : (rs : List Reading) → length (records rs) ≡ sum size rs
 records-length [] = refl
 records-length (r ∷ rs) = omega (arith, length-append (recordOf r) (records rs), record-length r, records-length rs)
 
--- ---- a pair: at most 16 readings of 13 bytes
-each-thirteen : (l : List Reading) → ((r : Reading) → List·Memᴰ r l → size r ≡ 13) → sum size l ≡ 13 * length l
-each-thirteen [] f = refl
-each-thirteen (r ∷ l) f =
+-- ---- a pair: at most 16 readings, each of as many bytes as a standard one has
+each-standard : (l : List Reading) → ((r : Reading) → List·Memᴰ r l → size r ≡ standardBytes) → sum size l ≡ standardBytes * length l
+each-standard [] f = refl
+each-standard (r ∷ l) f =
     let e = f r (List·Memᴰ·head refl) in
-    let g = each-thirteen l (λ s i. f s (List·Memᴰ·tail i)) in
+    let g = each-standard l (λ s i. f s (List·Memᴰ·tail i)) in
     omega arith
 
 module _ (c : ℕ → ℕ) (k : List Meld) (calls : T (all isMeld k)) (four : length k ≤ 4) where
-  standard-size : (p : ℕ) (l : List Meld) {d : ℕ → ℕ} → Found (4 - length k) d handMelds l → size (standard p (sorted (k ++ l))) ≡ 13
+  standard-size : (p : ℕ) (l : List Meld) {d : ℕ → ℕ} → Found (4 - length k) d handMelds l → size (standard p (sorted (k ++ l))) ≡ standardBytes
   standard-size p l f =
       omega (
         arith,
@@ -70,7 +70,7 @@ module _ (c : ℕ → ℕ) (k : List Meld) (calls : T (all isMeld k)) (four : le
         let b : 2 ^ (4 - length k) ≤ 2 ^ 4 = pow-le-pow-right {n = 2} (lit< tt) h in
         omega arith
 
-    listed-size : (p : ℕ) → sum size (map (λ l. standard p (sorted (k ++ l))) (meldLists (4 - length k) (lessPair c p))) ≤ 208
+    listed-size : (p : ℕ) → sum size (map (λ l. standard p (sorted (k ++ l))) (meldLists (4 - length k) (lessPair c p))) ≤ 16 * standardBytes
     unfolding meldLists
     listed-size p =
         let ls = meldLists (4 - length k) (lessPair c p) in
@@ -78,22 +78,22 @@ module _ (c : ℕ → ℕ) (k : List Meld) (calls : T (all isMeld k)) (four : le
           arith,
           sixteen p,
           length-map ls (λ l. standard p (sorted (k ++ l))),
-          each-thirteen (map (λ l. standard p (sorted (k ++ l))) ls)
+          each-standard (map (λ l. standard p (sorted (k ++ l))) ls)
               (λ r i.
               let a = Memᴰ·of-map (λ l. standard p (sorted (k ++ l))) ls i in
               ap size (sym (a .2)) ∙ standard-size p (a .0) (find-sound (4 - length k) (lessPair c p) handMelds (a .0) (a .1))),
         )
 
     -- a pair costs two tiles
-    pair-size : (p : ℕ) → sum size (standardsAt c k p) ≤ 104 * c p
+    pair-size : (p : ℕ) → sum size (standardsAt c k p) ≤ 8 * standardBytes * c p
     unfolding standardsAt
     pair-size p = go (leb 2 (c p)) (leb→le 2 (c p)) _ (listed-size p)
       where
-        go : (b : Bool) → (T b → 2 ≤ c p) → (l : List Reading) → sum size l ≤ 208 → sum size (cond b l []) ≤ 104 * c p
+        go : (b : Bool) → (T b → 2 ≤ c p) → (l : List Reading) → sum size l ≤ 16 * standardBytes → sum size (cond b l []) ≤ 8 * standardBytes * c p
         go true f l h = let g = f tt in omega arith
         go false f l h = omega arith
 
-    standards-size : (ts : List ℕ) → sum size (flat (standardsAt c k) ts) ≤ 104 * sum c ts
+    standards-size : (ts : List ℕ) → sum size (flat (standardsAt c k) ts) ≤ 8 * standardBytes * sum c ts
     standards-size [] = omega arith
     standards-size (t ∷ ts) = omega (arith, pair-size t, standards-size ts, sum-append size (standardsAt c k t) (flat (standardsAt c k) ts))
 
@@ -140,7 +140,7 @@ module _ (c : ℕ → ℕ) where
 
 pub enough :
     (c : ℕ → ℕ) (k : List Meld) → T (all isMeld k) → length k ≤ 4 → sum c tiles ≤ 14 → ((t : ℕ) → t < 34 → c t ≤ 4)
-    → length (records (readings c k)) ≤ 1467
+    → length (records (readings c k)) ≤ alwaysEnough
 unfolding readings
 enough c k calls four few-tiles held =
     let a = sum-append size (uncalled k (sevenPairs c ++ thirteenOrphans c)) (flat (standardsAt c k) tiles) in

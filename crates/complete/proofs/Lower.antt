@@ -14,7 +14,7 @@ use Rattle.lists.proofs.Arranged.{pick-mem, times-yes, times-zero}
 use Rattle.lists.proofs.Relations.{pairwise-append, pairwise-map, cond-pairwise, pairwise-single}
 use Rattle.meld.specs.declared.Meld.{Meld}
 use Rattle.meld.specs.Meld.{isMeld, isHandMeld, key, eqMeld, handMelds, melds}
-use Rattle.meld.proofs.Melds.{eqMeld→eq, eqMeld-refl, arrange-pick, is-meld, meld-kind, melds-ascend}
+use Rattle.meld.proofs.Melds.{eqMeld→eq, eqMeld-refl, arrange-pick, is-meld, meld-kind, meld-source, melds-ascend}
 use Rattle.hand.specs.Readings.{isEmpty, fits, minus, find}
 use Rattle.hand.specs.Records.{meldBytes}
 use Rattle.hand.proofs.Search.{findFirst, find-sound}
@@ -95,24 +95,27 @@ lower-melds a b f d = lower-wide melds a b f d
 
 -- ---- a meld whose key is less comes first by its bytes
 meldLt : Meld → Meld → Type 0
-meldLt m x = (m .tile < x .tile) ⊎ ((m .tile ≡ x .tile) × (m .kind < x .kind))
+meldLt m x = (m .tile < x .tile) ⊎ ((m .tile ≡ x .tile) × ((m .kind < x .kind) ⊎ ((m .kind ≡ x .kind) × (m .source < x .source))))
 
-key-lt : (m x : Meld) → m .kind < 7 → x .kind < 7 → key m < key x → meldLt m x
+key-lt : (m x : Meld) → T (isMeld m) → T (isMeld x) → key m < key x → meldLt m x
 unfolding meldLt
-key-lt m x h k l = go (ℕ-discrete (m .tile) (x .tile))
+key-lt m x v w l = go (ℕ-discrete (m .tile) (x .tile)) (ℕ-discrete (m .kind) (x .kind))
   where
-    go : Dec (m .tile ≡ x .tile) → (m .tile < x .tile) ⊎ ((m .tile ≡ x .tile) × (m .kind < x .kind))
-    go (yes e) = inr (e, omega arith)
-    go (no f) = inl (omega arith)
+    go :
+        Dec (m .tile ≡ x .tile) → Dec (m .kind ≡ x .kind)
+        → (m .tile < x .tile) ⊎ ((m .tile ≡ x .tile) × ((m .kind < x .kind) ⊎ ((m .kind ≡ x .kind) × (m .source < x .source))))
+    go (yes e) (yes f) = inr (e, inr (f, omega arith))
+    go (yes e) (no f) = let s = meld-source x w in inr (e, inl (omega arith))
+    go (no e) d = let k = meld-kind x w in let s = meld-source x w in inl (omega arith)
 
-lex-head : (m x : Meld) (a b : List ℕ) → meldLt m x → Lex (m .tile ∷ m .kind ∷ a) (x .tile ∷ x .kind ∷ b)
+lex-head : (m x : Meld) (a b : List ℕ) → meldLt m x → Lex (m .tile ∷ m .kind ∷ m .source ∷ a) (x .tile ∷ x .kind ∷ x .source ∷ b)
 unfolding meldLt
 lex-head m x a b (inl h) = inl h
-lex-head m x a b (inr h) = inr (h .0, inl (h .1))
+lex-head m x a b (inr h) = inr (h .0, ⊎-elim (λ l. inl l) (λ l. inr (l .0, inl (l .1))) (h .1))
 
 lex-repeat : (n : ℕ) (m : Meld) (a b : List Meld) → Lex (meldBytes a) (meldBytes b) → Lex (meldBytes (replicate n m ++ a)) (meldBytes (replicate n m ++ b))
 lex-repeat zero m a b h = h
-lex-repeat (suc n) m a b h = inr (refl, inr (refl, lex-repeat n m a b h))
+lex-repeat (suc n) m a b h = inr (refl, inr (refl, inr (refl, lex-repeat n m a b h)))
 
 -- more of m, and then melds after m
 lex-more :
@@ -121,7 +124,7 @@ lex-more :
 lex-more zero j m a b h e f = absurd (omega arith)
 lex-more (suc i) zero m a [] h e f = absurd (omega arith)
 lex-more (suc i) zero m a (x ∷ b) h e f = lex-head m x (meldBytes (replicate i m ++ a)) (meldBytes b) (f x (List·Memᴰ·head refl))
-lex-more (suc i) (suc j) m a b h e f = inr (refl, inr (refl, lex-more i j m a b (omega arith) (omega arith) f))
+lex-more (suc i) (suc j) m a b h e f = inr (refl, inr (refl, inr (refl, lex-more i j m a b (omega arith) (omega arith) f)))
 
 lower-lex :
     {ms a b : List Meld} → Lower ms a b → Pairwise meldLt ms → length (arrange eqMeld ms a) ≡ length (arrange eqMeld ms b)
@@ -140,7 +143,7 @@ by-key :
     (ms : List Meld) → ((m : Meld) → List·Memᴰ m ms → T (isMeld m)) → Pairwise (λ m x. key m < key x) ms → Pairwise meldLt ms
 by-key [] f c = tt
 by-key (m ∷ ms) f c = (
-  λ x i. key-lt m x (meld-kind m (f m (List·Memᴰ·head refl))) (meld-kind x (f x (List·Memᴰ·tail i))) (c .0 x i),
+  λ x i. key-lt m x (f m (List·Memᴰ·head refl)) (f x (List·Memᴰ·tail i)) (c .0 x i),
   by-key ms (λ x i. f x (List·Memᴰ·tail i)) (c .1),
 )
 

@@ -12,10 +12,10 @@ use Rattle.hand.specs.Reading.{Reading, pairs, orphans, standard}
 abbrev pub twoBytes : ℕ → List ℕ
 twoBytes n = n % 256 ∷ n / 256 ∷ []
 
--- a meld's tile and kind
+-- a meld's tile, kind and source
 abbrev pub meldBytes : List Meld → List ℕ
 meldBytes [] = []
-meldBytes (m ∷ ms) = m .tile ∷ m .kind ∷ meldBytes ms
+meldBytes (m ∷ ms) = m .tile ∷ m .kind ∷ m .source ∷ meldBytes ms
 
 -- the kind of a reading, and the bytes after it
 abbrev pub kindOf : Reading → ℕ
@@ -31,6 +31,14 @@ bodyOf (standard p ms) = p ∷ meldBytes ms
 -- a record: the length of the whole, the kind, the body
 unfoldable pub recordOf : Reading → List ℕ
 recordOf r = twoBytes (length (bodyOf r) + 4) ++ (twoBytes (kindOf r) ++ bodyOf r)
+
+-- how many bytes the record of a standard reading has (the law `standard-bytes`), and how many the records of a hand never exceed (the law `room` of
+-- the crate promises): at most 7 pairs with 16 sets of melds each, and seven pairs, whose record has 11
+abbrev pub standardBytes : ℕ
+standardBytes = 17
+
+abbrev pub alwaysEnough : ℕ
+alwaysEnough = 1915
 
 -- the records of readings, one after the other
 abbrev pub records : List Reading → List ℕ

@@ -5,6 +5,12 @@ ghost use lib.ListN.{length};
 ghost use Rattle.lists.specs.Fold.{sum, upFrom};
 ghost use Rattle.hand.specs.Counts.{held};
 
+// How many bytes the record of a standard reading has.
+pub const STANDARD_BYTES: usize = 17;
+
+// How many bytes the records of a hand never exceed.
+pub const ALWAYS_ENOUGH: usize = 1915;
+
 // A byte as a wider number.
 pub fn wide(x: u8) -> u64
     ensures { λ r. ⌜ r ≡ x ⌝ }

@@ -25,8 +25,9 @@ const WORDS: [[u8; 13]; 17] = [
 ];
 
 // Other words: an open and an added kan, the dealer, the last tile drawn or discarded, double riichi, indicators of dora and of ura, the room's fu for
-// a pair that is both round and seat wind, how to use the program; and one that says nothing, which the program itself writes before a hand.
-const OTHERS: [[u8; 13]; 14] = [
+// a pair that is both round and seat wind, how to use the program; one that says nothing, which the program itself writes before a hand; and whom a call
+// came from, on the right, across or on the left of the player who called.
+const OTHERS: [[u8; 13]; 20] = [
     *b"daiminkan    ",
     *b"shouminkan   ",
     *b"dealer       ",
@@ -41,10 +42,37 @@ const OTHERS: [[u8; 13]; 14] = [
     *b"-h           ",
     *b"--help       ",
     *b"hand:        ",
+    *b"right        ",
+    *b"across       ",
+    *b"left         ",
+    *b"shimocha     ",
+    *b"toimen       ",
+    *b"kamicha      ",
 ];
 
 // What each of them means: the number of the known word that says the same, or one behind those.
-const MEANINGS: [usize; 14] = [2, 4, 17, 18, 19, 20, 21, 22, 23, 24, 25, 25, 25, 26];
+const MEANINGS: [usize; 20] = [
+    2,
+    4,
+    17,
+    18,
+    19,
+    20,
+    21,
+    22,
+    23,
+    24,
+    25,
+    25,
+    25,
+    26,
+    27,
+    28,
+    29,
+    27,
+    28,
+    29,
+];
 
 // The winds, in the order of their tiles.
 const WINDS: [[u8; 13]; 4] = [
@@ -63,14 +91,14 @@ pub fn word_row(i: usize) -> [u8; 13]
 
 // The row of another word.
 fn other_row(i: usize) -> [u8; 13]
-    requires { ⌜ i < 14 ⌝ }
+    requires { ⌜ i < 20 ⌝ }
 {
     OTHERS[i]
 }
 
 // The row of any known word by its number.
 fn any_row(i: usize) -> [u8; 13]
-    requires { ⌜ i < 31 ⌝ }
+    requires { ⌜ i < 37 ⌝ }
 {
     if i < 17 {
         return word_row(i);
@@ -80,7 +108,7 @@ fn any_row(i: usize) -> [u8; 13]
 
 // What the known word with a number means.
 fn meaning(i: usize) -> usize
-    requires { ⌜ i < 31 ⌝ }
+    requires { ⌜ i < 37 ⌝ }
 {
     if i < 17 {
         return i;
@@ -135,20 +163,20 @@ fn is_row(word: &[u8], row: &[u8; 13]) -> bool {
 }
 
 // What a word means: 0 to 16 for the known words as `word_row` has them, then dealer, haitei, houtei, double, dora, ura, two fu and four fu for the
-// pair of the double wind, help, and nothing; 27 for a word that is not known.
+// pair of the double wind, help, nothing, right, across and left; 30 for a word that is not known.
 pub fn known(word: &[u8]) -> usize {
-    for i in 0..31 {
+    for i in 0..37 {
         let row = any_row(i);
         if is_row(word, &row) {
             return meaning(i);
         }
     }
-    27
+    30
 }
 
 // Is the word known?
 pub fn is_known(word: &[u8]) -> bool {
-    known(word) < 27
+    known(word) < 30
 }
 
 // Is the word the first letter of the row?

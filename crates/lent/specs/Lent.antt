@@ -7,7 +7,7 @@ use Rattle.checks.specs.declared.Calls.{Calls}
 
 -- what stands where no meld is
 abbrev pub noMeld : Meld
-noMeld = record { tile = 0; kind = 0 }
+noMeld = record { tile = 0; kind = 0; source = 0 }
 
 -- the meld at a place, or noMeld past the end
 abbrev pub callAt : List Meld → ℕ → Meld

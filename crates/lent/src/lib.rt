@@ -9,7 +9,11 @@ pub fn call_or_none(calls: &[meld::Meld], i: usize) -> meld::Meld
     if i < calls.len() {
         return calls[i];
     } else {
-        return meld::Meld { tile: 0, kind: 0 };
+        return meld::Meld {
+            tile: 0,
+            kind: 0,
+            source: 0,
+        };
     }
 }
 

@@ -4,6 +4,7 @@ pub mod Members
 pub mod Ranges
 pub mod Sums
 pub mod Arranged
+pub mod Picked
 pub mod Counted
 pub mod Relations
 pub mod Kept

@@ -227,6 +227,11 @@ pub cond-moved :
 cond-moved h a b l m e d = List·Permᴰ·trans (cond-perm a b l (map h m) e d) (perm-eq (sym (map-cond h b m)))
 
 -- ---- mapped lists
+pub map-flat :
+    {A B C : Type 0} (h : B → C) (f : A → List B) (g : A → List C) → ((a : A) → map h (f a) ≡ g a) → (l : List A) → map h (flat f l) ≡ flat g l
+map-flat h f g law [] = refl
+map-flat h f g law (a ∷ l) = map-append h (f a) (flat f l) ∙ ap₂ _++_ (law a) (map-flat h f g law l)
+
 pub flat-length :
     {A B : Type 0} (g : A → List B) (h : A → A) (l : List A) → ((a : A) → List·Memᴰ a l → length (g (h a)) ≡ length (g a))
     → length (flat g (map h l)) ≡ length (flat g l)

@@ -1,17 +1,17 @@
 -- Melds by the names that players use: of which kinds each question is true, which tiles a meld holds, and how many melds there are.
 -- Assumes nothing.
 use mathlib.Core.Path.{_≡_, refl}
-use mathlib.Core.Bool.{Bool, _||_, not, Bool·beq}
+use mathlib.Core.Bool.{Bool, _&&_, _||_, not, Bool·beq}
 use mathlib.Core.List.{List, [], _∷_}
 use Prim.Native.Nat.{ℕ}
-use lib.Dec.{T, ltb}
+use lib.Dec.{T, eqb, ltb}
 use lib.ListN.{length}
 use Rattle.lists.specs.Fold.{allBelow, all, any, count}
 use Rattle.tile.specs.Tile.{isHonor, tiles}
 use Rattle.tile.specs.Named.{man, pin, sou, East, Red}
 use Rattle.meld.specs.declared.Meld.{Meld}
-use Rattle.meld.specs.Meld.{isSequence, isTripletOrKan, isKan, isConcealed, isOpen, isMeld, isHandMeld, isCall, key, uses, eqMeld, meld, handMelds, melds}
-use Rattle.meld.specs.Named.{run, triplet, chi, pon, closedKan, openKan, addedKan}
+use Rattle.meld.specs.Meld.{isSequence, isTripletOrKan, isKan, isConcealed, isOpen, isMeld, isHandMeld, isCall, key, uses, eqMeld, meldFrom, meld, handMelds, melds}
+use Rattle.meld.specs.Named.{run, triplet, chi, pon, closedKan, openKan, addedKan, fromRight, fromAcross, fromLeft}
 use Rattle.meld.proofs.Melds.{allMelds}
 
 -- the question p is true of melds of the kinds in the list, and of no other melds
@@ -124,8 +124,8 @@ pub added-kan-four : uses (addedKan (man 1)) (man 1) ≡ 4
 added-kan-four = refl
 
 -- ---- How many melds there are
-pub melds-212 : length melds ≡ 212
-melds-212 = refl
+pub melds-416 : length melds ≡ 416
+melds-416 = refl
 
 pub hand-melds-55 : length handMelds ≡ 55
 hand-melds-55 = refl
@@ -133,16 +133,44 @@ hand-melds-55 = refl
 pub sequences-42 : count isSequence melds ≡ 42
 sequences-42 = refl
 
-pub sets-170 : count isTripletOrKan melds ≡ 170
-sets-170 = refl
+pub sets-374 : count isTripletOrKan melds ≡ 374
+sets-374 = refl
 
-pub kans-102 : count isKan melds ≡ 102
-kans-102 = refl
+pub kans-238 : count isKan melds ≡ 238
+kans-238 = refl
 
-pub calls-157 : count isCall melds ≡ 157
-calls-157 = refl
+pub calls-361 : count isCall melds ≡ 361
+calls-361 = refl
 
--- ---- The order of melds: by tile, then by kind
+-- ---- Where a called tile comes from
+-- a sequence from the player on the left alone, a triplet or a kan from each of the others
+pub chi-from-left : T (isMeld (fromLeft (chi (man 1))))
+chi-from-left = tt
+
+pub chi-not-from-across : T (not (isMeld (fromAcross (chi (man 1)))))
+chi-not-from-across = tt
+
+pub chi-not-from-right : T (not (isMeld (fromRight (chi (man 1)))))
+chi-not-from-right = tt
+
+pub sets-from-each :
+    T (all (λ k. all (λ from. isMeld (from (k East))) (fromRight ∷ fromAcross ∷ fromLeft ∷ [])) (pon ∷ openKan ∷ addedKan ∷ []))
+sets-from-each = tt
+
+-- of each byte these are the sources of a kind, and no others
+abbrev areSources : ℕ → List ℕ → Bool
+areSources k ss = allBelow 256 (λ s. Bool·beq (isMeld (meldFrom (man 1) k s)) (any (eqb s) ss))
+
+pub sources-of-sequences : T (areSources 0 (0 ∷ []) && areSources 1 (3 ∷ []))
+sources-of-sequences = tt
+
+pub sources-of-triplets : T (areSources 2 (0 ∷ []) && areSources 3 (1 ∷ 2 ∷ 3 ∷ []))
+sources-of-triplets = tt
+
+pub sources-of-kans : T (areSources 4 (0 ∷ []) && (areSources 5 (1 ∷ 2 ∷ 3 ∷ []) && areSources 6 (1 ∷ 2 ∷ 3 ∷ [])))
+sources-of-kans = tt
+
+-- ---- The order of melds: by tile, then by kind, then by source
 pub order-by-tile : T (ltb (key (addedKan (man 1))) (key (run (man 2))))
 order-by-tile = tt
 
@@ -151,3 +179,10 @@ order-by-kind = tt
 
 pub order-of-suits : T (ltb (key (triplet (man 9))) (key (run (pin 1))))
 order-of-suits = tt
+
+-- the kind before the source: a triplet from the left is before a kan from the right
+pub order-by-kind-first : T (ltb (key (fromLeft (pon (man 2)))) (key (fromRight (openKan (man 2)))))
+order-by-kind-first = tt
+
+pub order-by-source : T (ltb (key (fromRight (pon (man 2)))) (key (fromAcross (pon (man 2)))))
+order-by-source = tt

@@ -1,4 +1,5 @@
 pub mod Melds
 pub mod Sorts
+pub mod Sources
 pub mod Renamed
 pub mod Examples

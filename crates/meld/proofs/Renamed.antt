@@ -7,7 +7,7 @@ use native.Mathlib.Omega.{arith}
 use lib.Dec.{T, eqb, leb, ltb, eqb→eq, leb→le, ltb→lt}
 use borrow.Author.Tests.{le-ltb, ltb-true, ltb-false}
 use Rattle.lists.specs.Fold.{allBelow, one, all, any, sum, count, every, some, total}
-use Rattle.lists.proofs.Finite.{at, beq→eq, and-left, and-right, or-skip, true→T}
+use Rattle.lists.proofs.Finite.{at, beq→eq, and-left, and-right, and-both, or-skip, true→T}
 use Rattle.lists.proofs.Permuted.{every-perm, some-perm, total-perm, map-perm, map-moved}
 use Rattle.tile.specs.Tile.{isSuited, isStart, valueOf}
 use Rattle.tile.specs.declared.Numbers.{Numbers}
@@ -15,9 +15,16 @@ use Rattle.tile.specs.declared.Renaming.{Renaming}
 use Rattle.tile.specs.Renaming.{ren, back}
 use Rattle.tile.proofs.Renamings.{numbersAlone, honorsAlone, still, allNumbers, numbers-at, allRen, at-numbers, at-honors, by-numbers, by-honors, ren-lt, ren-parts, back-back, ren-eqb}
 use Rattle.meld.specs.declared.Meld.{Meld}
-use Rattle.meld.specs.Meld.{isSequence, isTripletOrKan, isKan, isMeld, isHandMeld, uses, setSize, eqMeld, meld}
+use Rattle.meld.specs.Meld.{isSequence, isTripletOrKan, isKan, isShaped, isSourced, isMeld, isHandMeld, uses, setSize, atTile, butSource}
 use Rattle.meld.specs.Renamed.{renMeld}
-use Rattle.meld.proofs.Melds.{allMelds, melds-at, meld-tile, eqMeld→eq}
+use Rattle.meld.proofs.Melds.{allMelds, Sourceless, melds-at, meld-sourced, meld-tile, meld-path}
+
+-- ---- the source is carried along, and so is the kind
+pub ren-source : (ρ : Renaming) (m : Meld) → renMeld ρ m .source ≡ m .source
+ren-source ρ m = refl
+
+pub ren-kind : (ρ : Renaming) (m : Meld) → renMeld ρ m .kind ≡ m .kind
+ren-kind ρ m = refl
 
 -- ---- which part renames a meld: a sequence is of a suit, and so is its third tile
 start-third : (t : ℕ) → T (isStart t) → t + 2 < 27
@@ -32,79 +39,85 @@ meld-by-numbers ρ m h = go (isSequence m && isStart (m .tile)) refl
     go true e =
         let first = by-numbers ρ (m .tile) h in
         let third = by-numbers ρ (m .tile + 2) (start-third (m .tile) (and-right (isSequence m) _ (true→T _ e))) in
-        λ i. meld (cond (isSequence m && isStart (m .tile)) (min (first i) (third i)) (first i)) (m .kind)
-    go false e = rw e (ap (λ (t : ℕ). meld t (m .kind)) (by-numbers ρ (m .tile) h))
+        λ i. atTile (cond (isSequence m && isStart (m .tile)) (min (first i) (third i)) (first i)) m
+    go false e = rw e (ap (λ (t : ℕ). atTile t m) (by-numbers ρ (m .tile) h))
 
 meld-by-honors : (ρ : Renaming) (m : Meld) → 27 ≤ m .tile → renMeld ρ m ≡ renMeld (honorsAlone (ρ .honors)) m
 meld-by-honors ρ m h = go (isSequence m && isStart (m .tile)) refl
   where
     go : (b : Bool) → (isSequence m && isStart (m .tile)) ≡ b → renMeld ρ m ≡ renMeld (honorsAlone (ρ .honors)) m
     go true e = let k = start-third (m .tile) (and-right (isSequence m) _ (true→T _ e)) in absurd (omega (arith, h, k))
-    go false e = rw e (ap (λ (t : ℕ). meld t (m .kind)) (by-honors ρ (m .tile) h))
+    go false e = rw e (ap (λ (t : ℕ). atTile t m) (by-honors ρ (m .tile) h))
 
 -- ---- laws of melds, each by a test that antt computes
 
--- a test of each meld and the meld that it becomes
+-- a test of each meld and the meld that it becomes, of one meld for each tile and kind, where the question does not ask for the source
 renamed-at :
-    (q : Meld → Meld → Bool) → T (allRen (λ ρ. allMelds (λ m. q m (renMeld ρ m)))) → (ρ : Renaming) (m : Meld) → T (isMeld m) → T (q m (renMeld ρ m))
-renamed-at q ok ρ m v = go (isSuited (m .tile)) refl
+    (q : Meld → Meld → Bool) → ((m r : Meld) → q m r ≡ q (butSource m) (butSource r)) → T (allRen (λ ρ. allMelds (λ m. q m (renMeld ρ m))))
+    → (ρ : Renaming) (m : Meld) → T (isMeld m) → T (q m (renMeld ρ m))
+renamed-at q blind ok ρ m v = go (isSuited (m .tile)) refl
   where
+    one-by-one : (τ : Renaming) → T (allMelds (λ m. q m (renMeld τ m))) → T (q m (renMeld τ m))
+    one-by-one τ t = melds-at (λ m. q m (renMeld τ m)) (λ m. blind m (renMeld τ m) ∙ sym (blind (butSource m) (renMeld τ (butSource m)))) t m v
+
     go : (b : Bool) → isSuited (m .tile) ≡ b → T (q m (renMeld ρ m))
     go true e =
         subst (λ (r : Meld). T (q m r)) (sym (meld-by-numbers ρ m (ltb-true (m .tile) 27 e)))
-        (melds-at (λ m. q m (renMeld (numbersAlone (ρ .numbers)) m)) (at-numbers (λ ρ. allMelds (λ m. q m (renMeld ρ m))) ok (ρ .numbers)) m v)
+        (one-by-one (numbersAlone (ρ .numbers)) (at-numbers (λ ρ. allMelds (λ m. q m (renMeld ρ m))) ok (ρ .numbers)))
     go false e =
         subst (λ (r : Meld). T (q m r)) (sym (meld-by-honors ρ m (ltb-false (m .tile) 27 e)))
-        (melds-at (λ m. q m (renMeld (honorsAlone (ρ .honors)) m)) (at-honors (λ ρ. allMelds (λ m. q m (renMeld ρ m))) ok (ρ .honors)) m v)
+        (one-by-one (honorsAlone (ρ .honors)) (at-honors (λ ρ. allMelds (λ m. q m (renMeld ρ m))) ok (ρ .honors)))
 
 -- a question of a meld that no renaming changes
 pub meld-law :
-    (p : Meld → Bool) → T (allRen (λ ρ. allMelds (λ m. Bool·beq (p (renMeld ρ m)) (p m))))
+    (p : Meld → Bool) → Sourceless p → T (allRen (λ ρ. allMelds (λ m. Bool·beq (p (renMeld ρ m)) (p m))))
     → (ρ : Renaming) (m : Meld) → T (isMeld m) → p (renMeld ρ m) ≡ p m
-meld-law p ok ρ m v = beq→eq _ _ (renamed-at (λ m r. Bool·beq (p r) (p m)) ok ρ m v)
+meld-law p blind ok ρ m v = beq→eq _ _ (renamed-at (λ m r. Bool·beq (p r) (p m)) (λ m r. ap₂ Bool·beq (blind r) (blind m)) ok ρ m v)
+
+ren-isShaped : (ρ : Renaming) (m : Meld) → T (isMeld m) → T (isShaped (renMeld ρ m))
+ren-isShaped = renamed-at (λ m r. isShaped r) (λ m r. refl) tt
 
 pub ren-isMeld : (ρ : Renaming) (m : Meld) → T (isMeld m) → T (isMeld (renMeld ρ m))
-ren-isMeld = renamed-at (λ m r. isMeld r) tt
-
-hand-test : T (allRen (λ ρ. allMelds (λ m. not (isHandMeld m) || isHandMeld (renMeld ρ m))))
-hand-test = tt
+ren-isMeld ρ m v = and-both (isShaped (renMeld ρ m)) (isSourced (renMeld ρ m)) (ren-isShaped ρ m v) (meld-sourced m v)
 
 pub ren-isHandMeld : (ρ : Renaming) (m : Meld) → T (isHandMeld m) → T (isHandMeld (renMeld ρ m))
-ren-isHandMeld ρ m v =
-    or-skip (isHandMeld m) _ v (renamed-at (λ m r. not (isHandMeld m) || isHandMeld r) hand-test ρ m (and-left (isMeld m) _ v))
+ren-isHandMeld ρ m v = and-both (isMeld (renMeld ρ m)) _ (ren-isMeld ρ m (and-left (isMeld m) _ v)) (and-right (isMeld m) _ v)
 
 -- a meld of a suit becomes one of a suit, a meld of an honor one of an honor
 meld-suited : (ρ : Renaming) (m : Meld) → T (isMeld m) → isSuited (renMeld ρ m .tile) ≡ isSuited (m .tile)
-meld-suited = meld-law (λ m. isSuited (m .tile)) tt
+meld-suited = meld-law (λ m. isSuited (m .tile)) (λ m. refl) tt
 
--- ---- the renaming that undoes it
-back-test : T (allRen (λ ρ. allMelds (λ m. eqMeld (renMeld (back ρ) (renMeld ρ m)) m)))
+-- ---- the renaming that undoes it: the tile is as it was, and kind and source never changed
+abbrev backAgain : Renaming → Meld → Bool
+backAgain ρ m = eqb (renMeld (back ρ) (renMeld ρ m) .tile) (m .tile)
+
+back-test : T (allRen (λ ρ. allMelds (backAgain ρ)))
 back-test = tt
 
 pub back-ren-meld : (ρ : Renaming) (m : Meld) → T (isMeld m) → renMeld (back ρ) (renMeld ρ m) ≡ m
 back-ren-meld ρ m v = go (isSuited (m .tile)) refl
   where
-    undone : (τ : Renaming) → T (allMelds (λ m. eqMeld (renMeld (back τ) (renMeld τ m)) m)) → renMeld (back τ) (renMeld τ m) ≡ m
-    undone τ ok = eqMeld→eq _ _ (melds-at (λ m. eqMeld (renMeld (back τ) (renMeld τ m)) m) ok m v)
+    undone : (τ : Renaming) → T (allMelds (backAgain τ)) → renMeld (back τ) (renMeld τ m) ≡ m
+    undone τ ok = meld-path (eqb→eq _ _ (melds-at (backAgain τ) (λ m. refl) ok m v)) refl refl
 
     go : (b : Bool) → isSuited (m .tile) ≡ b → renMeld (back ρ) (renMeld ρ m) ≡ m
     go true e =
         let n = numbersAlone (ρ .numbers) in
         ap (renMeld (back ρ)) (meld-by-numbers ρ m (ltb-true (m .tile) 27 e))
         ∙ meld-by-numbers (back ρ) (renMeld n m) (ltb-true _ 27 (meld-suited n m v ∙ e))
-        ∙ undone n (at-numbers (λ ρ. allMelds (λ m. eqMeld (renMeld (back ρ) (renMeld ρ m)) m)) back-test (ρ .numbers))
+        ∙ undone n (at-numbers (λ ρ. allMelds (backAgain ρ)) back-test (ρ .numbers))
     go false e =
         let n = honorsAlone (ρ .honors) in
         ap (renMeld (back ρ)) (meld-by-honors ρ m (ltb-false (m .tile) 27 e))
         ∙ meld-by-honors (back ρ) (renMeld n m) (ltb-false _ 27 (meld-suited n m v ∙ e))
-        ∙ undone n (at-honors (λ ρ. allMelds (λ m. eqMeld (renMeld (back ρ) (renMeld ρ m)) m)) back-test (ρ .honors))
+        ∙ undone n (at-honors (λ ρ. allMelds (backAgain ρ)) back-test (ρ .honors))
 
 pub ren-back-meld : (ρ : Renaming) (m : Meld) → T (isMeld m) → renMeld ρ (renMeld (back ρ) m) ≡ m
 ren-back-meld ρ m v = subst (λ (τ : Renaming). renMeld τ (renMeld (back ρ) m) ≡ m) (back-back ρ) (back-ren-meld (back ρ) m v)
 
 -- ---- a tile and a meld: the numbers first, and then the honors
 meld-still : (m : Meld) → T (isMeld m) → renMeld still m ≡ m
-meld-still m v = eqMeld→eq _ _ (melds-at (λ m. eqMeld (renMeld still m) m) tt m v)
+meld-still m v = meld-path (eqb→eq _ _ (melds-at (λ m. eqb (renMeld still m .tile) (m .tile)) (λ m. refl) tt m v)) refl refl
 
 meld-parts :
     (ρ : Renaming) (m : Meld) → T (isMeld m) → renMeld ρ m ≡ renMeld (honorsAlone (ρ .honors)) (renMeld (numbersAlone (ρ .numbers)) m)
@@ -131,9 +144,9 @@ onMelds g q = allRen (leaves g q)
 
 -- a question of a tile and a meld that no renaming changes: the numbers do not, and then the honors do not
 pub meld-tile-law :
-    (g : ℕ → Bool) (q : ℕ → Meld → Bool) → T (onMelds g q)
+    (g : ℕ → Bool) (q : ℕ → Meld → Bool) → ((t : ℕ) → Sourceless (q t)) → T (onMelds g q)
     → (ρ : Renaming) (m : Meld) → T (isMeld m) → T (g (m .kind)) → (t : ℕ) → t < 34 → q (ren ρ t) (renMeld ρ m) ≡ q t m
-meld-tile-law g q ok ρ m v i t h =
+meld-tile-law g q blind ok ρ m v i t h =
     let n = numbersAlone (ρ .numbers) in
     ap₂ q (ren-parts ρ t h) (meld-parts ρ m v)
     ∙ law (honorsAlone (ρ .honors)) (at-honors (leaves g q) ok (ρ .honors)) (renMeld n m) (ren-isMeld n m v) i (ren n t) (ren-lt n t h)
@@ -141,11 +154,15 @@ meld-tile-law g q ok ρ m v i t h =
   where
     law : (τ : Renaming) → T (leaves g q τ) → (m : Meld) → T (isMeld m) → T (g (m .kind)) → (t : ℕ) → t < 34 → q (ren τ t) (renMeld τ m) ≡ q t m
     law τ ok m v i t h =
-        beq→eq _ _
-        (at 34 (λ t. Bool·beq (q (ren τ t) (renMeld τ m)) (q t m))
-        (or-skip (g (m .kind)) (allBelow 34 (λ t. Bool·beq (q (ren τ t) (renMeld τ m)) (q t m))) i
-        (melds-at (λ m. not (g (m .kind)) || allBelow 34 (λ t. Bool·beq (q (ren τ t) (renMeld τ m)) (q t m))) ok m v))
+        let x = butSource m in
+        blind (ren τ t) (renMeld τ m)
+        ∙ sym (blind (ren τ t) (renMeld τ x))
+        ∙ beq→eq _ _
+        (at 34 (λ t. Bool·beq (q (ren τ t) (renMeld τ x)) (q t x))
+        (or-skip (g (m .kind)) (allBelow 34 (λ t. Bool·beq (q (ren τ t) (renMeld τ x)) (q t x))) i
+        (melds-at (λ m. not (g (m .kind)) || allBelow 34 (λ t. Bool·beq (q (ren τ t) (renMeld τ (butSource m))) (q t (butSource m)))) (λ m. refl) ok m v))
         t h)
+        ∙ sym (blind t m)
 
 -- ---- how many of a tile: of sequences by a test, of triplets and kans as two tiles stay equal or different
 ren-uses-trip : (ρ : Renaming) (m : Meld) → T (isMeld m) → (t : ℕ) → t < 34 → isSequence m ≡ false → uses (renMeld ρ m) (ren ρ t) ≡ uses m t
@@ -161,7 +178,7 @@ run-uses m t e = ap (λ (b : Bool). cond b (one (inRun t m)) (cond (eqb t (m .ti
 
 ren-uses-seq : (ρ : Renaming) (m : Meld) → T (isMeld m) → (t : ℕ) → t < 34 → isSequence m ≡ true → uses (renMeld ρ m) (ren ρ t) ≡ uses m t
 ren-uses-seq ρ m v t h e =
-    run-uses (renMeld ρ m) (ren ρ t) e ∙ ap one (meld-tile-law (λ k. ltb k 2) inRun tt ρ m v (true→T _ e) t h) ∙ sym (run-uses m t e)
+    run-uses (renMeld ρ m) (ren ρ t) e ∙ ap one (meld-tile-law (λ k. ltb k 2) inRun (λ t m. refl) tt ρ m v (true→T _ e) t h) ∙ sym (run-uses m t e)
 
 pub ren-uses : (ρ : Renaming) (m : Meld) → T (isMeld m) → (t : ℕ) → t < 34 → uses (renMeld ρ m) (ren ρ t) ≡ uses m t
 ren-uses ρ m v t h = go (isSequence m) refl
@@ -178,7 +195,7 @@ start-test : T (allNumbers (λ ν. allMelds (λ m. not (isSequence m) || startsS
 start-test = tt
 
 pub sequence-lt : (m : Meld) → T (isMeld m) → T (isSequence m) → m .tile < 27
-sequence-lt m v i = ltb→lt _ _ (or-skip (isSequence m) _ i (melds-at (λ m. not (isSequence m) || isSuited (m .tile)) tt m v))
+sequence-lt m v i = ltb→lt _ _ (or-skip (isSequence m) _ i (melds-at (λ m. not (isSequence m) || isSuited (m .tile)) (λ m. refl) tt m v))
 
 pub sequence-start :
     (ρ : Renaming) (m : Meld) → T (isMeld m) → T (isSequence m)
@@ -188,7 +205,7 @@ sequence-start ρ m v i =
     ap (λ (r : Meld). valueOf (r .tile)) (meld-by-numbers ρ m (sequence-lt m v i))
     ∙ eqb→eq _ _
     (or-skip (isSequence m) (startsSo ν m (renMeld (numbersAlone ν) m)) i
-    (melds-at (λ m. not (isSequence m) || startsSo ν m (renMeld (numbersAlone ν) m))
+    (melds-at (λ m. not (isSequence m) || startsSo ν m (renMeld (numbersAlone ν) m)) (λ m. refl)
     (numbers-at (λ ν. allMelds (λ m. not (isSequence m) || startsSo ν m (renMeld (numbersAlone ν) m))) start-test ν) m v))
 
 -- ---- the tile of a renamed triplet or kan

@@ -1,7 +1,9 @@
 -- Melds: questions about one meld, and the melds there are. Kinds: 0 closed sequence, 1 open sequence, 2 closed triplet,
--- 3 open triplet, 4 closed kan, 5 open kan, 6 added kan. These are definitions.
+-- 3 open triplet, 4 closed kan, 5 open kan, 6 added kan. The source is the player from whom the tile was called, in seats onward from the
+-- one who called it: 1 the next to play, on the right; 2 the one across; 3 the one who plays before, on the left; 0 where no tile was called.
+-- These are definitions.
 use mathlib.Core.Bool.{Bool, _&&_, _||_, not, cond}
-use mathlib.Core.List.{List, [], _∷_}
+use mathlib.Core.List.{List, [], _∷_, _++_}
 use Prim.Native.Nat.{ℕ, _+_, _*_}
 use lib.Dec.{eqb, ltb, leb}
 use Rattle.lists.specs.Fold.{one, flat}
@@ -30,8 +32,23 @@ abbrev pub isOpen : Meld → Bool
 isOpen m = eqb (m .kind) 1 || (eqb (m .kind) 3 || (eqb (m .kind) 5 || eqb (m .kind) 6))
 
 -- kind and tile are in range, and a sequence starts at 1 to 7 of a suit
+abbrev pub isShaped : Meld → Bool
+isShaped m = ltb (m .kind) 7 && (ltb (m .tile) 34 && (leb 2 (m .kind) || isStart (m .tile)))
+
+-- whom a tile of an open meld can come from: of a triplet or kan any of the three others, of a sequence the player before alone
+abbrev pub nearest : Bool → ℕ
+nearest sequence = cond sequence 3 1
+
+abbrev pub isSeat : Bool → ℕ → Bool
+isSeat sequence s = leb (nearest sequence) s && leb s 3
+
+-- the source is one from which a meld of its kind can come: nobody where it is closed
+abbrev pub isSourced : Meld → Bool
+isSourced m = cond (isOpen m) (isSeat (isSequence m) (m .source)) (eqb (m .source) 0)
+
+-- tile, kind and source are those of a meld
 abbrev pub isMeld : Meld → Bool
-isMeld m = ltb (m .kind) 7 && (ltb (m .tile) 34 && (leb 2 (m .kind) || isStart (m .tile)))
+isMeld m = isShaped m && isSourced m
 
 -- a meld that the hand itself can hold: a closed sequence or a closed triplet
 abbrev pub isHandMeld : Meld → Bool
@@ -41,9 +58,9 @@ isHandMeld m = isMeld m && (eqb (m .kind) 0 || eqb (m .kind) 2)
 abbrev pub isCall : Meld → Bool
 isCall m = isMeld m && not (eqb (m .kind) 0 || eqb (m .kind) 2)
 
--- the number by which melds ascend: by tile, then by kind
+-- the number by which melds ascend: by tile, then by kind, then by source
 abbrev pub key : Meld → ℕ
-key m = m .tile * 7 + m .kind
+key m = (m .tile * 8 + m .kind) * 4 + m .source
 
 -- how many of the tile t a meld holds: a sequence one each of its first tile and the two after it, a kan four of its tile, a triplet three
 abbrev pub runUses : ℕ → ℕ → ℕ
@@ -55,25 +72,45 @@ setSize kan = cond kan 4 3
 abbrev pub uses : Meld → ℕ → ℕ
 uses m t = cond (isSequence m) (runUses (m .tile) t) (cond (eqb t (m .tile)) (setSize (isKan m)) 0)
 
--- the same tile and kind
+-- the same tile, kind and source
 abbrev pub eqMeld : Meld → Meld → Bool
-eqMeld m x = eqb (m .tile) (x .tile) && eqb (m .kind) (x .kind)
+eqMeld m x = eqb (m .tile) (x .tile) && (eqb (m .kind) (x .kind) && eqb (m .source) (x .source))
 
--- the meld of the tile t and the kind k
+-- the meld of the tile t and the kind k with the source s
+abbrev pub meldFrom : ℕ → ℕ → ℕ → Meld
+meldFrom t k s = record { tile = t; kind = k; source = s }
+
+-- a meld of the same kind and source at another tile
+abbrev pub atTile : ℕ → Meld → Meld
+atTile t m = meldFrom t (m .kind) (m .source)
+
+-- a meld of the same tile and kind from another seat
+abbrev pub fromSeat : ℕ → Meld → Meld
+fromSeat s m = meldFrom (m .tile) (m .kind) s
+
+-- one meld for each tile and kind: an open one from the player before, from whom each kind of them can come
 abbrev pub meld : ℕ → ℕ → Meld
-meld t k = record { tile = t; kind = k }
+meld t k = meldFrom t k (cond (isOpen (meldFrom t k 0)) 3 0)
 
--- melds whose lowest tile is t, by kind: those that a hand itself can hold; triplets and kans; all
+-- a meld but for its source: that one of its tile and kind
+abbrev pub butSource : Meld → Meld
+butSource m = meld (m .tile) (m .kind)
+
+-- a meld of the tile t and the kind k from each of the three others
+abbrev pub fromEach : ℕ → ℕ → List Meld
+fromEach t k = meldFrom t k 1 ∷ meldFrom t k 2 ∷ meldFrom t k 3 ∷ []
+
+-- melds whose lowest tile is t, by kind and source: those that a hand itself can hold; triplets and kans; all
 abbrev pub handMeldsAt : ℕ → List Meld
 handMeldsAt t = cond (isStart t) (meld t 0 ∷ meld t 2 ∷ []) (meld t 2 ∷ [])
 
 abbrev pub setsAt : ℕ → List Meld
-setsAt t = meld t 2 ∷ meld t 3 ∷ meld t 4 ∷ meld t 5 ∷ meld t 6 ∷ []
+setsAt t = meld t 2 ∷ fromEach t 3 ++ (meld t 4 ∷ fromEach t 5 ++ fromEach t 6)
 
 abbrev pub meldsAt : ℕ → List Meld
 meldsAt t = cond (isStart t) (meld t 0 ∷ meld t 1 ∷ setsAt t) (setsAt t)
 
--- the 55 melds that a hand itself can hold, and all 212 melds, ascending
+-- the 55 melds that a hand itself can hold, and all 416 melds, ascending
 abbrev pub handMelds : List Meld
 handMelds = flat handMeldsAt tiles
 

@@ -1,7 +1,7 @@
 -- Melds as players name them, by their lowest tile. These are definitions.
 use Prim.Native.Nat.{ℕ}
 use Rattle.meld.specs.declared.Meld.{Meld}
-use Rattle.meld.specs.Meld.{meld}
+use Rattle.meld.specs.Meld.{fromSeat, meld}
 
 -- in the hand: a closed sequence, a closed triplet
 abbrev pub run : ℕ → Meld
@@ -10,7 +10,7 @@ run t = meld t 0
 abbrev pub triplet : ℕ → Meld
 triplet t = meld t 2
 
--- called: an open sequence, an open triplet, and the three kans
+-- called, from the player before where nothing else is said: an open sequence, an open triplet, and the three kans
 abbrev pub chi : ℕ → Meld
 chi t = meld t 1
 
@@ -25,3 +25,13 @@ openKan t = meld t 5
 
 abbrev pub addedKan : ℕ → Meld
 addedKan t = meld t 6
+
+-- who the tile was called from: the next player, on the right; the one across; the one before, on the left
+abbrev pub fromRight : Meld → Meld
+fromRight m = fromSeat 1 m
+
+abbrev pub fromAcross : Meld → Meld
+fromAcross m = fromSeat 2 m
+
+abbrev pub fromLeft : Meld → Meld
+fromLeft m = fromSeat 3 m

@@ -1,14 +1,17 @@
-// Melds (the meld part of agari's hand.rs). A meld is its lowest tile and a kind: 0 closed sequence, 1 open sequence,
-// 2 closed triplet, 3 open triplet, 4 closed kan, 5 open kan, 6 added kan. Any bytes may stand in it: is_valid says whether it is one.
+// Melds (the meld part of agari's hand.rs). A meld is its lowest tile, a kind and a source. Kinds: 0 closed sequence, 1 open sequence,
+// 2 closed triplet, 3 open triplet, 4 closed kan, 5 open kan, 6 added kan. Sources, of which agari has none: the player from whom the tile
+// was called, 1 to 3 seats onward from the one who called it (on the right, across, on the left), 0 where no tile was called.
+// Any bytes may stand in it: is_valid says whether it is one.
 ghost use mathlib.Core.Path.{_≡_};
 ghost use Prim.Native.Nat.{min};
-ghost use Rattle.meld.specs.Meld.{isSequence, isTripletOrKan, isKan, isConcealed, isOpen, isMeld, isCall, key, runUses, setSize, uses};
+ghost use Rattle.meld.specs.Meld.{isSequence, isTripletOrKan, isKan, isConcealed, isOpen, nearest, isSeat, isSourced, isMeld, isCall, key, runUses, setSize, uses, atTile};
 ghost use Rattle.meld.specs.Renamed.{renMeld};
 
 #[repr(C)]
 pub struct Meld {
     pub tile: u8,
     pub kind: u8,
+    pub source: u8,
 }
 
 impl Meld {
@@ -47,12 +50,23 @@ impl Meld {
         (self.kind == 1) | ((self.kind == 3) | ((self.kind == 5) | (self.kind == 6)))
     }
 
-    // Are tile and kind those of a meld?
+    // Is the source one from which a meld of its kind can come?
+    pub fn is_sourced(self) -> bool
+        ensures { λ r. ⌜ r ≡ isSourced self ⌝ }
+    {
+        if self.is_open() {
+            return is_seat(self.is_sequence(), self.source);
+        }
+        self.source == 0
+    }
+
+    // Are tile, kind and source those of a meld?
     pub fn is_valid(self) -> bool
         ensures { λ r. ⌜ r ≡ isMeld self ⌝ }
     {
         let tile = tile::Tile(self.tile);
-        (self.kind < 7) & ((self.tile < 34) & ((2 <= self.kind) | tile.is_start()))
+        ((self.kind < 7) & ((self.tile < 34) & ((2 <= self.kind) | tile.is_start())))
+            & self.is_sourced()
     }
 
     // Is this a meld that can be called: any but a closed sequence or a closed triplet?
@@ -66,7 +80,7 @@ impl Meld {
     pub fn key(self) -> u16
         ensures { λ r. ⌜ r ≡ key self ⌝ }
     {
-        (self.tile as u16) * 7 + (self.kind as u16)
+        ((self.tile as u16) * 8 + (self.kind as u16)) * 4 + (self.source as u16)
     }
 
     // How many of the tile t it holds.
@@ -82,7 +96,7 @@ impl Meld {
         0
     }
 
-    // The meld under a renaming: its tiles are renamed, and the lowest of them is then its tile.
+    // The meld under a renaming: its tiles are renamed, the lowest of them is then its tile; kind and source stay.
     pub fn renamed(self, by: tile::Renaming) -> Meld
         ensures { λ r. ⌜ r ≡ renMeld by self ⌝ }
     {
@@ -91,16 +105,38 @@ impl Meld {
         if self.is_sequence() & first.is_start() {
             let last = tile::Tile(self.tile + 2);
             let b = last.renamed(by);
-            return Meld {
-                tile: lower(a.0, b.0),
-                kind: self.kind,
-            };
+            return self.at_tile(lower(a.0, b.0));
         }
+        self.at_tile(a.0)
+    }
+
+    // A meld of the same kind and source at another tile.
+    fn at_tile(self, tile: u8) -> Meld
+        ensures { λ r. ⌜ r ≡ atTile tile self ⌝ }
+    {
         Meld {
-            tile: a.0,
+            tile: tile,
             kind: self.kind,
+            source: self.source,
         }
     }
+}
+
+// From how few seats onward a tile of an open meld can come: from any of the three others, of a sequence from the player before alone.
+fn nearest(sequence: bool) -> u8
+    ensures { λ r. ⌜ r ≡ nearest sequence ⌝ }
+{
+    if sequence {
+        return 3;
+    }
+    1
+}
+
+// Can a tile of an open meld come from this seat?
+fn is_seat(sequence: bool, source: u8) -> bool
+    ensures { λ r. ⌜ r ≡ isSeat sequence source ⌝ }
+{
+    (nearest(sequence) <= source) & (source <= 3)
 }
 
 // How many of the tile t a sequence from a tile holds.

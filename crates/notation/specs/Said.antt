@@ -1,12 +1,13 @@
--- What the words given to the program `score` say: tiles of the hand, the winning tile, indicators, the win. These are definitions.
+-- What the words given to the program `score` say: tiles of the hand, the winning tile, whom a call came from, indicators, the win. These are definitions.
 use mathlib.Core.Path.{_≡_}
 use mathlib.Core.Bool.{Bool, true, false, cond}
 use mathlib.Core.List.{List}
-use Prim.Native.Nat.{ℕ, _+_, _%_, _≤_}
-use lib.ListN.{getD}
+use Prim.Native.Nat.{ℕ, _+_, _-_, _%_, _≤_, _<_}
+use lib.ListN.{getD, set}
 use Rattle.lists.specs.Fold.{one}
 use Rattle.context.specs.declared.GameContext.{GameContext}
 use Rattle.tile_words.specs.Words.{readAt, tilesIn, tilesOf, namedIn, Counted}
+use Rattle.call_words.specs.Calls.{withSource, canComeFrom}
 use Rattle.notation.specs.declared.said.Said.{Said}
 use Rattle.notation.specs.Shown.{withIndicators}
 
@@ -22,6 +23,14 @@ pub record WonOn (before : Said) (w : List ℕ) (drawn : Bool) (after : Said) : 
   pub how : after .tsumo ≡ drawn
   pub single : namedIn w ≡ 1
   pub tile : after .«winning_tile» ≡ readAt 0 w
+
+-- what a word for the seat s makes of it: there is a call, the last of them can come from there and does, and that was not said of it before
+pub record SourceSaid (before : Said) (s : ℕ) (after : Said) : Type 0 where
+  pub there : 0 < before .calls .count
+  pub possible : canComeFrom s (before .calls) ≡ true
+  pub once : getD (before .sourced) (before .calls .count - 1) false ≡ false
+  pub came : after .calls ≡ withSource s (before .calls)
+  pub marked : after .sourced ≡ set (before .sourced) (before .calls .count - 1) true
 
 -- what a word w of indicators makes of it: its tiles come behind those of ura where it is said of ura, else behind those of dora
 pub record IndicatorsAdded (before : Said) (w : List ℕ) (isUra : Bool) (after : Said) : Type 0 where

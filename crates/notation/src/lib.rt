@@ -3,3 +3,4 @@
 mod indicators;
 mod pieces;
 pub mod said;
+mod sources;

@@ -5,9 +5,10 @@ ghost use Prim.Native.Nat.{_+_, _≤_, _<_, min};
 ghost use lib.ListN.{length};
 ghost use Rattle.context.specs.Context.{inRange};
 ghost use Rattle.call_words.specs.Calls.{withCall};
-ghost use Rattle.notation.specs.Said.{TilesAdded, WonOn, IndicatorsAdded, winOf};
+ghost use Rattle.notation.specs.Said.{TilesAdded, WonOn, IndicatorsAdded, SourceSaid, winOf};
 use crate::indicators;
 use crate::pieces;
+use crate::sources;
 use tile_words::faults;
 
 // What has been said so far.
@@ -15,6 +16,8 @@ pub struct Said {
     // the tiles not called, the winning tile included
     pub counts: [u8; 34],
     pub calls: checks::Calls,
+    // of each call that is kept, whether it was said whom it came from
+    pub sourced: [bool; 4],
     pub won: bool,
     pub tsumo: bool,
     pub winning_tile: u8,
@@ -117,17 +120,18 @@ fn double_wind_fu(two: bool) -> u8
 impl Said {
     // Before the first word: round East, seat South, four fu for the pair of the double wind, no indicators.
     pub fn nothing() -> Said {
+        let none = meld::Meld {
+            tile: 0,
+            kind: 0,
+            source: 0,
+        };
         Said {
             counts: [0; 34],
             calls: checks::Calls {
                 count: 0,
-                melds: [
-                    meld::Meld { tile: 0, kind: 0 },
-                    meld::Meld { tile: 0, kind: 0 },
-                    meld::Meld { tile: 0, kind: 0 },
-                    meld::Meld { tile: 0, kind: 0 },
-                ],
+                melds: [none, none, none, none],
             },
+            sourced: [false; 4],
             won: false,
             tsumo: false,
             winning_tile: 0,
@@ -233,6 +237,30 @@ impl Said {
         let more = call_words::with_call(calls, m);
         let mut said = self;
         said.calls = more;
+        said
+    }
+
+    // Whom the last call came from, 1 to 3 seats onward from the player who called. It is said once of each call.
+    fn with_source(self, source: u8) -> Said
+        ensures { λ r. ⌜ (r .fault ≡ 0 → SourceSaid self source r) ⌝ }
+    {
+        let calls = self.calls;
+        let sourced = self.sourced;
+        let count = calls.count;
+        if count == 0 {
+            return self.faulty(faults::NO_CALL_BEFORE);
+        }
+        if sources::is_said(sourced, count - 1) {
+            return self.faulty(faults::TWICE);
+        }
+        if !call_words::can_come_from(calls, source) {
+            return self.faulty(faults::NO_SEAT);
+        }
+        let from_there = call_words::with_source(calls, source);
+        let all_said = sources::with_said(sourced, count - 1);
+        let mut said = self;
+        said.calls = from_there;
+        said.sourced = all_said;
         said
     }
 
@@ -446,6 +474,9 @@ impl Said {
             20..=22 => self.wanting(i - 10),
             23 | 24 => self.with_double_wind(i == 23),
             25 => self.with_help(),
+            27 => self.with_source(1),
+            28 => self.with_source(2),
+            29 => self.with_source(3),
             _ => self,
         }
     }
@@ -453,7 +484,7 @@ impl Said {
     // A word that may be anything.
     fn with_any(self, word: &[u8]) -> Said {
         let i = known_words::known(word);
-        if i < 27 {
+        if i < 30 {
             return self.with_known(i);
         }
         self.with_pieces(word)

@@ -7,18 +7,18 @@
 //   1..128     the text: what is played, in words
 //   128..162   the counts
 //   162        number of calls
-//   163..171   four melds, each its tile and its kind
-//   171..206   the win: type, winning tile, round wind, seat wind, eight flags as 0 or 1: riichi, double riichi, ippatsu, rinshan, chankan,
+//   163..175   four melds, each its tile, its kind and its source
+//   175..210   the win: type, winning tile, round wind, seat wind, eight flags as 0 or 1: riichi, double riichi, ippatsu, rinshan, chankan,
 //              last tile, tenhou, chiihou; the room's fu for a pair that is both round and seat wind; and the indicators of dora and of ura,
 //              each how many are shown and ten tiles
-//   206, 207   listing: the answer's number, the count of readings
-//   208, 209   scoring the win: the answer's number, the chosen reading
-//   210        how many readings are scored, at most 8
-//   211        the number that refuses the reading after them
-//   212        what is played: 0 a hand, 1 han and fu, 2 basic points
-//   213..216   han, fu, 1 where there is a yakuman
-//   216, 217   win type, 1 for the dealer
-//   218        payment: the answer's number
+//   210, 211   listing: the answer's number, the count of readings
+//   212, 213   scoring the win: the answer's number, the chosen reading
+//   214        how many readings are scored, at most 8
+//   215        the number that refuses the reading after them
+//   216        what is played: 0 a hand, 1 han and fu, 2 basic points
+//   217..220   han, fu, 1 where there is a yakuman
+//   220, 221   win type, 1 for the dealer
+//   222        payment: the answer's number
 //   256..1024  a slot of 96 bytes for each reading (of points the first one):
 //     0..47    its tallies
 //     47..53   its waits
@@ -89,7 +89,7 @@ fn is_unnamed(number: u8, a: win::WaitsAnswer) -> bool {
 fn list(rec: &[u8]) -> unit::Listing
     requires { ⌜ length (now rec) ≡ 1024 ⌝ }
 {
-    let mut buf = [0u8; 1467];
+    let mut buf = [0u8; hand::ALWAYS_ENOUGH];
     unit::list_readings(&rec[128..162], called(rec), &mut buf)
 }
 
@@ -99,9 +99,9 @@ fn same_listing(rec: &[u8]) -> bool
 {
     let listing = list(rec);
     match listing {
-        unit::Listing::Refused(n) => (0 < n) & (n == rec[206]) & (rec[207] == 0),
-        unit::Listing::Listed(readings, _) => (rec[206] == 0)
-            & (readings == stored::wide(rec[207])),
+        unit::Listing::Refused(n) => (0 < n) & (n == rec[210]) & (rec[211] == 0),
+        unit::Listing::Listed(readings, _) => (rec[210] == 0)
+            & (readings == stored::wide(rec[211])),
     }
 }
 
@@ -109,7 +109,7 @@ fn same_listing(rec: &[u8]) -> bool
 fn score_of(rec: &[u8]) -> choice::ScoreAnswer
     requires { ⌜ length (now rec) ≡ 1024 ⌝ }
 {
-    win::score_win(&rec[128..162], called(rec), stored::win_at(rec, 171))
+    win::score_win(&rec[128..162], called(rec), stored::win_at(rec, 175))
 }
 
 // Does scoring the win answer what the record says?
@@ -117,8 +117,8 @@ fn same_win(rec: &[u8]) -> bool
     requires { ⌜ length (now rec) ≡ 1024 ⌝ }
 {
     let a = score_of(rec);
-    let number = rec[208];
-    let chosen = stored::wide(rec[209]);
+    let number = rec[212];
+    let chosen = stored::wide(rec[213]);
     if number != 0 {
         return is_refused(number, a);
     }
@@ -133,7 +133,7 @@ fn same_reading(rec: &[u8], k: usize) -> bool
     requires { ⌜ (length (now rec) ≡ 1024) × (k < 8) ⌝ }
 {
     let calls = called(rec);
-    let w = stored::win_at(rec, 171);
+    let w = stored::win_at(rec, 175);
     let a = win::score_reading(&rec[128..162], calls, w, k);
     let waits = win::name_waits(&rec[128..162], calls, w, k);
     let at = 256 + 96 * k;
@@ -159,8 +159,8 @@ fn same_next(rec: &[u8], n: usize) -> bool
     requires { ⌜ length (now rec) ≡ 1024 ⌝ }
 {
     let calls = called(rec);
-    let w = stored::win_at(rec, 171);
-    let number = rec[211];
+    let w = stored::win_at(rec, 175);
+    let number = rec[215];
     let a = win::score_reading(&rec[128..162], calls, w, n);
     let waits = win::name_waits(&rec[128..162], calls, w, n);
     is_refused(number, a) & is_unnamed(number, waits)
@@ -170,7 +170,7 @@ fn same_next(rec: &[u8], n: usize) -> bool
 fn same_hand(rec: &[u8]) -> bool
     requires { ⌜ length (now rec) ≡ 1024 ⌝ }
 {
-    let n = stored::wide(rec[210]);
+    let n = stored::wide(rec[214]);
     if n > 8 {
         return false;
     }
@@ -183,17 +183,17 @@ fn same_hand(rec: &[u8]) -> bool
 fn basic_of(rec: &[u8]) -> u32
     requires { ⌜ length (now rec) ≡ 1024 ⌝ }
 {
-    if rec[212] == 2 {
+    if rec[216] == 2 {
         return stored::u32_at(rec, 316);
     }
-    scoring::calculate_basic_points(rec[213], rec[214], rec[215] == 1)
+    scoring::calculate_basic_points(rec[217], rec[218], rec[219] == 1)
 }
 
 // Who pays what for them.
 fn payment_of(rec: &[u8]) -> scoring::PaymentAnswer
     requires { ⌜ length (now rec) ≡ 1024 ⌝ }
 {
-    scoring::score_payment(basic_of(rec), rec[217] == 1, rec[216])
+    scoring::score_payment(basic_of(rec), rec[221] == 1, rec[220])
 }
 
 // Is the payment what the record says?
@@ -202,8 +202,8 @@ fn same_paid(rec: &[u8]) -> bool
 {
     let answer = payment_of(rec);
     match answer {
-        scoring::PaymentAnswer::Refused(n) => (0 < n) & (n == rec[218]),
-        scoring::PaymentAnswer::Paid(p) => (rec[218] == 0) & stored::same_payment(rec, 320, p),
+        scoring::PaymentAnswer::Refused(n) => (0 < n) & (n == rec[222]),
+        scoring::PaymentAnswer::Paid(p) => (rec[222] == 0) & stored::same_payment(rec, 320, p),
     }
 }
 
@@ -211,9 +211,9 @@ fn same_paid(rec: &[u8]) -> bool
 fn same_points(rec: &[u8]) -> bool
     requires { ⌜ length (now rec) ≡ 1024 ⌝ }
 {
-    let level = scoring::determine_score_level(rec[213], rec[214], rec[215] == 1);
+    let level = scoring::determine_score_level(rec[217], rec[218], rec[219] == 1);
     let basic = basic_of(rec) == stored::u32_at(rec, 316);
-    let leveled = (rec[212] == 2) | stored::same_level(rec, 312, level);
+    let leveled = (rec[216] == 2) | stored::same_level(rec, 312, level);
     basic & leveled & same_paid(rec)
 }
 
@@ -285,7 +285,7 @@ fn answer(rec: &[u8]) -> bool
 {
     print_text(rec);
     stored::print(b": ");
-    if rec[212] == 0 {
+    if rec[216] == 0 {
         print_win(rec);
         return same_hand(rec);
     }

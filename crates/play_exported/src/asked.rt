@@ -23,7 +23,7 @@ const VERSION: usize = 7;
 const DIFFER: usize = 8;
 
 // The version of the interface that is asked here.
-const WRITTEN_FOR: u32 = 5;
+const WRITTEN_FOR: u32 = 6;
 
 // ---- what is lent
 
@@ -40,26 +40,16 @@ pub fn lent(count: usize) -> usize
     count
 }
 
-// The meld in two bytes, tile and kind.
-fn meld_at(s: &[u8], at: usize) -> meld::Meld
-    requires { ⌜ at + 2 ≤ length (now s) ⌝ }
-{
-    meld::Meld {
-        tile: s[at],
-        kind: s[at + 1],
-    }
-}
-
-// The four melds in eight bytes, the last of them twice.
+// The four melds in twelve bytes, the last of them twice.
 pub fn five_at(s: &[u8], at: usize) -> [meld::Meld; 5]
-    requires { ⌜ at + 8 ≤ length (now s) ⌝ }
+    requires { ⌜ at + 12 ≤ length (now s) ⌝ }
 {
     [
-        meld_at(s, at),
-        meld_at(s, at + 2),
-        meld_at(s, at + 4),
-        meld_at(s, at + 6),
-        meld_at(s, at + 6),
+        stored::meld_at(s, at),
+        stored::meld_at(s, at + 3),
+        stored::meld_at(s, at + 6),
+        stored::meld_at(s, at + 9),
+        stored::meld_at(s, at + 9),
     ]
 }
 
@@ -150,13 +140,13 @@ pub fn same_waits(s: &[u8], at: usize, number: u8, v: answers::WaitsValues) -> b
 
 // Is this the length of a record: seven pairs, thirteen orphans, or melds and a pair?
 fn is_length(size: usize) -> bool {
-    (size == 11) | (size == 5) | (size == 13)
+    (size == 11) | (size == 5) | (size == hand::STANDARD_BYTES)
 }
 
 // Does the buffer hold the records of so many readings in so many bytes, one after the other, each with its length first, and is the byte
 // after them as before? A refused listing holds none.
-pub fn same_records(buf: &[u8; 1468], readings: usize, bytes: usize) -> bool {
-    if bytes > 1467 {
+pub fn same_records(buf: &[u8; hand::ALWAYS_ENOUGH + 1], readings: usize, bytes: usize) -> bool {
+    if bytes > hand::ALWAYS_ENOUGH {
         return false;
     }
     let mut at = 0;

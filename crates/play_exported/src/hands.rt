@@ -8,11 +8,11 @@ use crate::asked;
 fn list_hand(rec: &[u8], row: &[u8], t: stored::Tally) -> stored::Tally
     requires { ⌜ length (now rec) ≡ 1024 ⌝ }
 {
-    let mut buf = [asked::FILLED; 1468];
+    let mut buf = [asked::FILLED; hand::ALWAYS_ENOUGH + 1];
     let calls = asked::lent(stored::wide(rec[162]));
     let a = lending::list(&rec[128..162], asked::five_at(rec, 163), calls, &mut buf);
-    let agrees = (a.number == asked::number(rec[206]))
-        & (a.readings == stored::wide(rec[207]))
+    let agrees = (a.number == asked::number(rec[210]))
+        & (a.readings == stored::wide(rec[211]))
         & asked::same_records(&buf, a.readings, a.bytes);
     asked::count(t, asked::LIST, agrees, row)
 }
@@ -22,7 +22,7 @@ fn ask_hand(rec: &[u8], k: usize) -> lending::Asked
     requires { ⌜ length (now rec) ≡ 1024 ⌝ }
 {
     let calls = asked::lent(stored::wide(rec[162]));
-    let win = stored::win_at(rec, 171);
+    let win = stored::win_at(rec, 175);
     lending::ask(&rec[128..162], asked::five_at(rec, 163), calls, win, k)
 }
 
@@ -30,7 +30,7 @@ fn ask_hand(rec: &[u8], k: usize) -> lending::Asked
 fn is_scored(rec: &[u8], at: usize, k: usize, v: answers::ScoreValues) -> bool
     requires { ⌜ (length (now rec) ≡ 1024) × (at + 96 ≤ 1024) ⌝ }
 {
-    let settlement = asked::settlement_of(0, stored::win_at(rec, 171));
+    let settlement = asked::settlement_of(0, stored::win_at(rec, 175));
     (v.number == 0)
         & (v.reading == k)
         & asked::same_values(rec, at, at + 53, at + 60, settlement, v)
@@ -49,8 +49,8 @@ fn is_refused(number: u8, v: answers::ScoreValues) -> bool {
 fn same_win(rec: &[u8], v: answers::ScoreValues) -> bool
     requires { ⌜ length (now rec) ≡ 1024 ⌝ }
 {
-    let number = rec[208];
-    let chosen = stored::wide(rec[209]);
+    let number = rec[212];
+    let chosen = stored::wide(rec[213]);
     if number != 0 {
         return is_refused(number, v);
     }
@@ -69,7 +69,7 @@ fn ask_next(rec: &[u8], k: usize, row: &[u8], t: stored::Tally) -> stored::Tally
     let win = a.win;
     let reading = a.reading;
     let waits = a.waits;
-    let number = rec[211];
+    let number = rec[215];
     let won = asked::count(t, asked::WIN, same_win(rec, win), row);
     let read = asked::count(won, asked::READING, is_refused(number, reading), row);
     asked::count(
@@ -84,7 +84,7 @@ fn ask_next(rec: &[u8], k: usize, row: &[u8], t: stored::Tally) -> stored::Tally
 fn ask_points(rec: &[u8], at: usize, row: &[u8], t: stored::Tally) -> stored::Tally
     requires { ⌜ (length (now rec) ≡ 1024) × (at + 96 ≤ 1024) ⌝ }
 {
-    let win = stored::win_at(rec, 171);
+    let win = stored::win_at(rec, 175);
     let leveled = asked::ask_level(rec, at + 53, at + 56, at + 60, row, t);
     asked::ask_payment(
         rec,
@@ -132,7 +132,7 @@ fn ask_readings(rec: &[u8], n: usize, row: &[u8], t: stored::Tally) -> stored::T
 fn play_hand(rec: &[u8], row: &[u8], t: stored::Tally) -> stored::Tally
     requires { ⌜ length (now rec) ≡ 1024 ⌝ }
 {
-    let n = stored::wide(rec[210]);
+    let n = stored::wide(rec[214]);
     if n > 8 {
         return t.answer(false);
     }
@@ -145,12 +145,12 @@ fn play_hand(rec: &[u8], row: &[u8], t: stored::Tally) -> stored::Tally
 fn play_points(rec: &[u8], row: &[u8], t: stored::Tally) -> stored::Tally
     requires { ⌜ length (now rec) ≡ 1024 ⌝ }
 {
-    let dealer = rec[217] == 1;
-    if rec[212] == 2 {
-        return asked::ask_payment(rec, 316, rec[218], dealer, rec[216], row, t);
+    let dealer = rec[221] == 1;
+    if rec[216] == 2 {
+        return asked::ask_payment(rec, 316, rec[222], dealer, rec[220], row, t);
     }
-    let leveled = asked::ask_level(rec, 213, 312, 316, row, t);
-    asked::ask_payment(rec, 316, rec[218], dealer, rec[216], row, leveled)
+    let leveled = asked::ask_level(rec, 217, 312, 316, row, t);
+    asked::ask_payment(rec, 316, rec[222], dealer, rec[220], row, leveled)
 }
 
 // The length of a text, at most 127.
@@ -169,7 +169,7 @@ pub fn play(rec: &[u8], t: stored::Tally) -> stored::Tally
 {
     let size = text_length(rec[0]);
     let next = t.record(true);
-    if rec[212] == 0 {
+    if rec[216] == 0 {
         return play_hand(rec, &rec[1..1 + size], next);
     }
     play_points(rec, &rec[1..1 + size], next)

@@ -12,7 +12,7 @@ fn same_buffer(rec: &[u8], bytes: usize, buf: &[u8; 120]) -> bool
     let mut i = 0;
     while i < 120 {
         let right = if i < bytes {
-            rec[60 + i]
+            rec[64 + i]
         } else {
             asked::FILLED
         };
@@ -28,9 +28,9 @@ fn same_buffer(rec: &[u8], bytes: usize, buf: &[u8; 120]) -> bool
 fn same_answer(rec: &[u8], a: answers::ListingAnswer) -> bool
     requires { ⌜ length (now rec) ≡ 256 ⌝ }
 {
-    (a.number == asked::number(rec[53]))
-        & (a.readings == stored::u16_at(rec, 54))
-        & (a.bytes == stored::u16_at(rec, 56))
+    (a.number == asked::number(rec[57]))
+        & (a.readings == stored::u16_at(rec, 58))
+        & (a.bytes == stored::u16_at(rec, 60))
 }
 
 // The listing of the record's hand, into the first bytes of the buffer.
@@ -47,7 +47,7 @@ fn list_stored(rec: &[u8], counts: &[u8], lent: usize, t: stored::Tally) -> stor
 {
     let mut buf = [asked::FILLED; 120];
     let a = list(rec, counts, lent, &mut buf);
-    let agrees = same_answer(rec, a) & same_buffer(rec, stored::u16_at(rec, 56), &buf);
+    let agrees = same_answer(rec, a) & same_buffer(rec, stored::u16_at(rec, 60), &buf);
     asked::count(t, asked::LIST, agrees, b"a listing")
 }
 
@@ -56,7 +56,7 @@ pub fn replay(rec: &[u8], t: stored::Tally) -> stored::Tally
     requires { ⌜ length (now rec) ≡ 256 ⌝ }
 {
     let size = stored::wide(rec[0]);
-    let lent = stored::u16_at(rec, 51);
+    let lent = stored::u16_at(rec, 55);
     let next = t.record(true);
     if size > 40 {
         return next.answer(false);

@@ -8,7 +8,7 @@ use crate::asked;
 fn same_answer(rec: &[u8], at: usize, v: answers::ScoreValues) -> bool
     requires { ⌜ (length (now rec) ≡ 256) × (at + 76 ≤ 256) ⌝ }
 {
-    let settlement = asked::settlement_of(rec[at], stored::win_at(rec, 51));
+    let settlement = asked::settlement_of(rec[at], stored::win_at(rec, 55));
     (v.number == asked::number(rec[at]))
         & (v.reading == stored::wide(rec[at + 1]))
         & asked::same_values(rec, at + 2, at + 49, at + 56, settlement, v)
@@ -19,11 +19,11 @@ fn same_answer(rec: &[u8], at: usize, v: answers::ScoreValues) -> bool
 fn list_win(rec: &[u8], counts: &[u8], row: &[u8], t: stored::Tally) -> stored::Tally
     requires { ⌜ length (now rec) ≡ 256 ⌝ }
 {
-    let mut buf = [asked::FILLED; 1468];
+    let mut buf = [asked::FILLED; hand::ALWAYS_ENOUGH + 1];
     let calls = asked::lent(stored::u16_at(rec, 41));
     let a = lending::list(counts, asked::five_at(rec, 43), calls, &mut buf);
     let written = asked::same_records(&buf, a.readings, a.bytes);
-    let number = asked::number(rec[88]);
+    let number = asked::number(rec[92]);
     if number > 0 && number < 7 {
         let refused = (a.number == number) & (a.readings == 0) & written;
         return asked::count(t, asked::LIST, refused, row);
@@ -38,13 +38,13 @@ fn ask_win(rec: &[u8], counts: &[u8]) -> lending::Asked
     requires { ⌜ length (now rec) ≡ 256 ⌝ }
 {
     let calls = asked::lent(stored::u16_at(rec, 41));
-    let win = stored::win_at(rec, 51);
+    let win = stored::win_at(rec, 55);
     lending::ask(
         counts,
         asked::five_at(rec, 43),
         calls,
         win,
-        stored::u16_at(rec, 86),
+        stored::u16_at(rec, 90),
     )
 }
 
@@ -55,12 +55,12 @@ fn count_win(rec: &[u8], a: lending::Asked, row: &[u8], t: stored::Tally) -> sto
     let win = a.win;
     let reading = a.reading;
     let waits = a.waits;
-    let won = asked::count(t, asked::WIN, same_answer(rec, 88, win), row);
-    let read = asked::count(won, asked::READING, same_answer(rec, 164, reading), row);
+    let won = asked::count(t, asked::WIN, same_answer(rec, 92, win), row);
+    let read = asked::count(won, asked::READING, same_answer(rec, 168, reading), row);
     asked::count(
         read,
         asked::WAITS,
-        asked::same_waits(rec, 241, rec[240], waits),
+        asked::same_waits(rec, 245, rec[244], waits),
         row,
     )
 }
@@ -69,12 +69,12 @@ fn count_win(rec: &[u8], a: lending::Asked, row: &[u8], t: stored::Tally) -> sto
 fn ask_win_points(rec: &[u8], row: &[u8], t: stored::Tally) -> stored::Tally
     requires { ⌜ length (now rec) ≡ 256 ⌝ }
 {
-    if rec[88] != 0 {
+    if rec[92] != 0 {
         return t;
     }
-    let win = stored::win_at(rec, 51);
-    let leveled = asked::ask_level(rec, 137, 140, 144, row, t);
-    asked::ask_payment(rec, 144, 0, win.seat_wind == 27, win.win_type, row, leveled)
+    let win = stored::win_at(rec, 55);
+    let leveled = asked::ask_level(rec, 141, 144, 148, row, t);
+    asked::ask_payment(rec, 148, 0, win.seat_wind == 27, win.win_type, row, leveled)
 }
 
 // The tally after a win with these counts, which the number of its record names.

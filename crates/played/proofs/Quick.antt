@@ -14,7 +14,7 @@ use Rattle.context.specs.declared.GameContext.{GameContext}
 use Rattle.hand.specs.Counts.{held}
 use Rattle.hand.specs.Reading.{Reading, standard}
 use Rattle.hand.specs.Readings.{find, fits, lessPair, meldLists, standardsAt, sevenPairs, thirteenOrphans, uncalled, readings}
-use Rattle.hand.specs.Records.{records}
+use Rattle.hand.specs.Records.{alwaysEnough, records}
 use Rattle.wait.specs.Wait.{waits}
 use Rattle.checks.specs.declared.Calls.{Calls}
 use Rattle.checks.specs.Checks.{called, handCheck}
@@ -79,7 +79,7 @@ module _ (R : List ℕ → Calls → List Reading) where
   abbrev pub listingFrom : List ℕ → Calls → Listing
   listingFrom cs k =
       cond (eqb (handCheck cs k) 0)
-      (cond (leb (length (records (R cs k))) 1467) (Listed (length (R cs k)) (length (records (R cs k)))) (Refused 7))
+      (cond (leb (length (records (R cs k))) alwaysEnough) (Listed (length (R cs k)) (length (records (R cs k)))) (Refused 7))
       (Refused (handCheck cs k))
 
   abbrev pub scoresFrom : List ℕ → Calls → GameContext → List ScoringResult

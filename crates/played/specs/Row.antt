@@ -8,7 +8,7 @@ use Rattle.lists.specs.Fold.{any, count, every, one}
 use Rattle.meld.specs.declared.Meld.{Meld}
 use Rattle.context.specs.declared.GameContext.{GameContext}
 use Rattle.hand.specs.Readings.{meldLists, standardsAt, sevenPairs, thirteenOrphans, readings}
-use Rattle.hand.specs.Records.{recordOf}
+use Rattle.hand.specs.Records.{recordOf, alwaysEnough}
 use Rattle.wait.specs.Wait.{pinfu, waits}
 use Rattle.tile_yaku.specs.Tiles.{tanyao, honroutou, tsuuiisou, chinroutou, ryuuiisou, honitsu, chinitsu, nineGates, pureWait, tileYaku}
 use Rattle.set_yaku.specs.Sets.{toitoi, kans, sanAnkou, sanshokuDoukou, suuankou, suuKantsu}
@@ -200,9 +200,9 @@ unfoldable pub holds : Row → Bool
 unfolding meldLists standardsAt sevenPairs thirteenOrphans readings recordOf pinfu waits tanyao honroutou tsuuiisou chinroutou ryuuiisou honitsu chinitsu nineGates pureWait tileYaku toitoi kans yakuhai dragons winds sanAnkou ittsu sanshokuDoujun sanshokuDoukou peikou chanta junchan shousangen suuankou daisangen shousuushii daisuushii suuKantsu names oneHan moreHan isYakuman ordinary tallies hanOf han standardFu fu level basicPoints payment paymentAnswer check handCheck handReadings handRecords listing doraOf doraIn totalHan result scoreOf rank chooseBy choice numbered orThen winCheck scoreIn scores scoreReading scoreWin nameWaits
 holds (won cs ms w vs o) =
     let k = callsOf ms in
-    answers vs o (winCheck cs k w) (listing cs k 1467) (scoreReading cs k w) (scoreWin cs k w)
+    answers vs o (winCheck cs k w) (listing cs k alwaysEnough) (scoreReading cs k w) (scoreWin cs k w)
 holds (waiting cs ms w wss) = eachWaits (nameWaits cs (callsOf ms) w) 0 wss
-holds (listed cs ms n) = listsTo (chooses 0) n (listing cs (callsOf ms) 1467)
+holds (listed cs ms n) = listsTo (chooses 0) n (listing cs (callsOf ms) alwaysEnough)
 holds (valued h f y l n) = same (leveled (level h f y)) (leveled l) && eqb (basicPoints h f y) n
 holds (paid h f y by dealer p) = same (settled (payment (eqb by 1) dealer (basicPoints h f y))) (settled p)
 holds (asked n by dealer a) = same (answered (paymentAnswer n dealer by)) (answered a)

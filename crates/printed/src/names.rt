@@ -134,7 +134,7 @@ const REFUSALS: [[u8; 53]; 15] = [
     *b"accepted                                             ",
     *b"the counts are not 34 long                           ",
     *b"more than four calls                                 ",
-    *b"a call's kind or tile is not that of a call          ",
+    *b"a call's kind, tile or source is not that of a call  ",
     *b"more than four of a tile in the hand                 ",
     *b"hand and calls together hold more than four of a kind",
     *b"the hand has not the right number of tiles           ",

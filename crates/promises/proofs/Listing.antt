@@ -12,7 +12,7 @@ use Rattle.lists.specs.Order.{Nodup, Pairwise}
 use Rattle.tile.specs.Tile.{tiles}
 use Rattle.hand.specs.Counts.{held}
 use Rattle.hand.specs.Reading.{Reading, Admits}
-use Rattle.hand.specs.Records.{Before}
+use Rattle.hand.specs.Records.{Before, alwaysEnough}
 use Rattle.complete.proofs.Sound.{listed-admitted}
 use Rattle.complete.proofs.Complete.{admitted-listed}
 use Rattle.complete.proofs.Once.{readings-once}
@@ -50,8 +50,8 @@ module _ (cs : List ℕ) (k : Calls) (four : length (k .melds) ≡ 4) (passes : 
   unfolding handReadings
   ascending = readings-ascend (held cs) (called k)
 
-  -- 1,467 bytes are always enough
-  pub room : length (handRecords cs k) ≤ 1467
+  -- 1,915 bytes are always enough
+  pub room : length (handRecords cs k) ≤ alwaysEnough
   unfolding handRecords handReadings
   room =
       let h = passed cs k passes in
@@ -62,8 +62,8 @@ module _ (cs : List ℕ) (k : Calls) (four : length (k .melds) ≡ 4) (passes : 
   pub fits : (lent : ℕ) → length (handRecords cs k) ≤ lent → listing cs k lent ≡ Listed (length (handReadings cs k)) (length (handRecords cs k))
   fits lent h = sym (listed-answer cs k passes lent (length (handReadings cs k)) (length (handRecords cs k)) h refl refl)
 
-  -- with 1,467 bytes lent the hand is listed, whatever it is
-  pub accepted : (lent : ℕ) → 1467 ≤ lent → listing cs k lent ≡ Listed (length (handReadings cs k)) (length (handRecords cs k))
+  -- with 1,915 bytes lent the hand is listed, whatever it is
+  pub accepted : (lent : ℕ) → alwaysEnough ≤ lent → listing cs k lent ≡ Listed (length (handReadings cs k)) (length (handRecords cs k))
   accepted lent h = let r = room in fits lent (omega arith)
 
   -- refused with 7 where they do not

@@ -1,6 +1,6 @@
 -- Records read back: what is read from the bytes of records are the readings that they stand for; and picking a reading by its
 -- number is reading the record at that place. Assumes nothing.
-use mathlib.Core.Path.{_≡_, refl, sym, subst, ap, ap₂, _∙_}
+use mathlib.Core.Path.{_≡_, refl, sym, subst, ap, _∙_}
 use mathlib.Core.List.{List, [], _∷_, _++_, append-assoc, List·Memᴰ, List·Memᴰ·head, List·Memᴰ·tail}
 use Prim.Native.Nat.{ℕ, zero, suc, _+_, _<_}
 use native.Mathlib.Omega.{arith}
@@ -8,6 +8,7 @@ use lib.ListN.{length, length-append}
 use lib.Seq.{getD-append-add}
 use Rattle.meld.specs.declared.Meld.{Meld}
 use Rattle.meld.specs.Meld.{meld}
+use Rattle.meld.proofs.Melds.{meld-path}
 use Rattle.hand.specs.Reading.{Reading, pairs, orphans, standard}
 use Rattle.hand.specs.Records.{recordOf, records}
 use Rattle.lists.proofs.Elements.{four}
@@ -27,7 +28,7 @@ module _ (front s : List ℕ) where
   byte-behind i k e = ap (byteAt (front ++ s)) e ∙ getD-append-add front s k 0
 
   meld-behind : (k : ℕ) → meldAt (front ++ s) (length front + k) ≡ meldAt s k
-  meld-behind k = ap₂ (λ (t n : ℕ). meld t n) (byte-behind _ k refl) (byte-behind _ (k + 1) (omega arith))
+  meld-behind k = meld-path (byte-behind _ k refl) (byte-behind _ (k + 1) (omega arith)) (byte-behind _ (k + 2) (omega arith))
 
   tiles-behind : (k : ℕ) → tilesAt (front ++ s) (length front + k) ≡ tilesAt s k
   tiles-behind k =
@@ -44,7 +45,7 @@ module _ (front s : List ℕ) where
   pub reading-behind : readingAt (front ++ s) (length front) ≡ readingAt s 0
   unfolding readingAt
   reading-behind =
-      simp (tiles-behind 4, meld-behind 5, meld-behind 7, meld-behind 9, meld-behind 11)
+      simp (tiles-behind 4, meld-behind 5, meld-behind 8, meld-behind 11, meld-behind 14)
       (simp (byte-behind (length front + 2) 2 refl, byte-behind (length front + 4) 4 refl))
 
 -- ---- one record

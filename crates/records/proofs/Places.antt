@@ -19,7 +19,7 @@ module _ (b : List ℕ) (i : ℕ) where
 
   pub reads-standard :
       (byteAt b (i + 2) ≡ 1 → ⊥) → (byteAt b (i + 2) ≡ 2 → ⊥)
-      → readingAt b i ≡ standard (byteAt b (i + 4)) (meldAt b (i + 5) ∷ meldAt b (i + 7) ∷ meldAt b (i + 9) ∷ meldAt b (i + 11) ∷ [])
+      → readingAt b i ≡ standard (byteAt b (i + 4)) (meldAt b (i + 5) ∷ meldAt b (i + 8) ∷ meldAt b (i + 11) ∷ meldAt b (i + 14) ∷ [])
   unfolding readingAt
   reads-standard e f = simp (ne-eqb (byteAt b (i + 2)) 1 e, ne-eqb (byteAt b (i + 2)) 2 f)
 

@@ -12,9 +12,9 @@ use Rattle.hand.specs.Reading.{Reading, pairs, orphans, standard}
 abbrev pub byteAt : List ℕ → ℕ → ℕ
 byteAt b i = getD b i 0
 
--- the meld whose tile and kind stand at the place i
+-- the meld whose tile, kind and source stand at the place i
 abbrev pub meldAt : List ℕ → ℕ → Meld
-meldAt b i = record { tile = byteAt b i; kind = byteAt b (i + 1) }
+meldAt b i = record { tile = byteAt b i; kind = byteAt b (i + 1); source = byteAt b (i + 2) }
 
 -- the seven tiles from the place i on
 abbrev pub tilesAt : List ℕ → ℕ → List ℕ
@@ -27,7 +27,7 @@ readingAt b i =
     cond (eqb (byteAt b (i + 2)) 1)
     (pairs (tilesAt b (i + 4)))
     (cond (eqb (byteAt b (i + 2)) 2) (orphans (byteAt b (i + 4)))
-    (standard (byteAt b (i + 4)) (meldAt b (i + 5) ∷ meldAt b (i + 7) ∷ meldAt b (i + 9) ∷ meldAt b (i + 11) ∷ [])))
+    (standard (byteAt b (i + 4)) (meldAt b (i + 5) ∷ meldAt b (i + 8) ∷ meldAt b (i + 11) ∷ meldAt b (i + 14) ∷ [])))
 
 -- the readings of n records, the first at the place i; a record's first byte is its length
 abbrev pub readingsIn : List ℕ → ℕ → ℕ → List Reading

@@ -11,7 +11,7 @@ fn byte_at(b: &[u8], i: usize) -> u8
     if i < b.len() { b[i] } else { 0 }
 }
 
-// The meld whose tile and kind stand at a place.
+// The meld whose tile, kind and source stand at a place.
 fn meld_at(b: &[u8], i: usize) -> meld::Meld
     requires { ⌜ i ≤ 1000000 ⌝ }
     ensures { λ r. ⌜ r ≡ meldAt (now (b .entry)) i ⌝ }
@@ -19,6 +19,7 @@ fn meld_at(b: &[u8], i: usize) -> meld::Meld
     meld::Meld {
         tile: byte_at(b, i),
         kind: byte_at(b, i + 1),
+        source: byte_at(b, i + 2),
     }
 }
 
@@ -55,9 +56,9 @@ pub fn reading_at(b: &[u8], i: usize) -> structure::Hand
         pair,
         [
             meld_at(b, i + 5),
-            meld_at(b, i + 7),
-            meld_at(b, i + 9),
+            meld_at(b, i + 8),
             meld_at(b, i + 11),
+            meld_at(b, i + 14),
         ],
     )
 }

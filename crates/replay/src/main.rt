@@ -4,12 +4,12 @@
 //   0         length of the counts, at most 40
 //   1..41     the counts
 //   41..43    number of calls
-//   43..51    four melds, each its tile and its kind
-//   51..53    number of bytes lent, at most 120
-//   53        the answer's number: 0 accepted, 1 to 7 refused
-//   54..56    the answer's count of readings, 0 where it is refused
-//   56..58    the answer's count of bytes, 0 where it is refused
-//   60..180   the buffer after the call, as far as it is lent
+//   43..55    four melds, each its tile, its kind and its source
+//   55..57    number of bytes lent, at most 120
+//   57        the answer's number: 0 accepted, 1 to 7 refused
+//   58..60    the answer's count of readings, 0 where it is refused
+//   60..62    the answer's count of bytes, 0 where it is refused
+//   64..184   the buffer after the call, as far as it is lent
 // The other bytes are zero. Before the call, byte i of the buffer is (7 i + 3) mod 256.
 ghost use mathlib.Core.Path.{_≡_};
 ghost use Prim.Native.Nat.{_≤_, _<_};
@@ -47,7 +47,7 @@ fn same_buffer(rec: &[u8], lent: usize, buf: &[u8; 120]) -> bool
 {
     let mut i = 0;
     while i < 120 {
-        let right = if i < lent { rec[60 + i] } else { pattern_at(i) };
+        let right = if i < lent { rec[64 + i] } else { pattern_at(i) };
         if buf[i] != right {
             return false;
         }
@@ -60,9 +60,9 @@ fn same_buffer(rec: &[u8], lent: usize, buf: &[u8; 120]) -> bool
 fn same_answer(rec: &[u8], listing: unit::Listing) -> bool
     requires { ⌜ length (now rec) ≡ 256 ⌝ }
 {
-    let number = rec[53];
-    let readings = stored::u16_at(rec, 54);
-    let bytes = stored::u16_at(rec, 56);
+    let number = rec[57];
+    let readings = stored::u16_at(rec, 58);
+    let bytes = stored::u16_at(rec, 60);
     match listing {
         unit::Listing::Refused(n) => (0 < n)
             & (n < 8)
@@ -103,7 +103,7 @@ fn replay(rec: &[u8], t: stored::Tally) -> stored::Tally
     requires { ⌜ length (now rec) ≡ 256 ⌝ }
 {
     let size = stored::wide(rec[0]);
-    let lent = stored::u16_at(rec, 51);
+    let lent = stored::u16_at(rec, 55);
     if size > 40 {
         return t.record(false);
     }

@@ -3,18 +3,18 @@
 // The file is a row of records of 160 bytes:
 //   0         kind of the reading: 1 seven pairs, 2 thirteen orphans, 3 standard
 //   1         tile of the pair, or the doubled tile
-//   2..10     four melds, each its tile and its kind
-//   10..17    the tiles of seven pairs
-//   17..51    the counts of hand and calls together
-//   51..86    the win: type, winning tile, round wind, seat wind, eight flags as 0 or 1: riichi, double riichi, ippatsu, rinshan, chankan,
+//   2..14     four melds, each its tile, its kind and its source
+//   14..21    the tiles of seven pairs
+//   21..55    the counts of hand and calls together
+//   55..90    the win: type, winning tile, round wind, seat wind, eight flags as 0 or 1: riichi, double riichi, ippatsu, rinshan, chankan,
 //             last tile, tenhou, chiihou; the room's fu for a pair that is both round and seat wind; and the indicators of dora and of ura,
 //             each how many are shown and ten tiles
-//   86        1 where the hand is open
-//   87..134   the answer's 47 tallies
-//   134..140  its 6 waits
-//   140       the han of its yaku, without dora
-//   141       its fu
-//   142       1 where it has a yakuman
+//   90        1 where the hand is open
+//   91..138   the answer's 47 tallies
+//   138..144  its 6 waits
+//   144       the han of its yaku, without dora
+//   145       its fu
+//   146       1 where it has a yakuman
 // The other bytes are zero.
 ghost use mathlib.Core.Path.{_≡_};
 ghost use lib.ListN.{length};
@@ -33,13 +33,13 @@ fn reading_of(rec: &[u8]) -> structure::Hand
     let pair = tile::Tile(rec[1]);
     if kind == 1 {
         return structure::Hand::chiitoitsu([
-            rec[10],
-            rec[11],
-            rec[12],
-            rec[13],
             rec[14],
             rec[15],
             rec[16],
+            rec[17],
+            rec[18],
+            rec[19],
+            rec[20],
         ]);
     }
     if kind == 2 {
@@ -53,16 +53,16 @@ fn replay(rec: &[u8], t: stored::Tally) -> stored::Tally
     requires { ⌜ length (now rec) ≡ 160 ⌝ }
 {
     let hand = reading_of(rec);
-    let win = stored::win_at(rec, 51);
-    let opened = rec[86] == 1;
-    let tiles = tile_yaku::tile_yaku(&rec[17..51], win.winning_tile);
+    let win = stored::win_at(rec, 55);
+    let opened = rec[90] == 1;
+    let tiles = tile_yaku::tile_yaku(&rec[21..55], win.winning_tile);
     let found = yaku::detect_yaku_with_context(hand, tiles, win, opened);
     let tallies = found.tallies;
     let waits = wait::detect_wait_types(hand, tile::Tile(win.winning_tile));
     let fu = fu::calculate_fu(hand, win, opened);
-    let agrees = stored::same_tallies(rec, 87, tallies)
-        & stored::same_waits(rec, 134, waits)
-        & stored::same_numbers(rec, 140, found.han, fu, found.is_yakuman);
+    let agrees = stored::same_tallies(rec, 91, tallies)
+        & stored::same_waits(rec, 138, waits)
+        & stored::same_numbers(rec, 144, found.han, fu, found.is_yakuman);
     t.record(agrees)
         .kind_if(YAKUMAN, found.is_yakuman)
         .kind_if(WITHOUT, found.han == 0)

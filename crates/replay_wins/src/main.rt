@@ -5,15 +5,15 @@
 //   0         length of the counts, at most 40
 //   1..41     the counts
 //   41..43    number of calls
-//   43..51    four melds, each its tile and its kind
-//   51..86    the win: type, winning tile, round wind, seat wind, eight flags as 0 or 1: riichi, double riichi, ippatsu, rinshan, chankan,
+//   43..55    four melds, each its tile, its kind and its source
+//   55..90    the win: type, winning tile, round wind, seat wind, eight flags as 0 or 1: riichi, double riichi, ippatsu, rinshan, chankan,
 //             last tile, tenhou, chiihou; the room's fu for a pair that is both round and seat wind; and the indicators of dora and of ura,
 //             each how many are shown and ten tiles
-//   86..88    the number of a reading
-//   88..164   the score of the win
-//   164..240  the score of that reading
-//   240       the number answered where its waits are asked for
-//   241..247  their 6 tallies
+//   90..92    the number of a reading
+//   92..168   the score of the win
+//   168..244  the score of that reading
+//   244       the number answered where its waits are asked for
+//   245..251  their 6 tallies
 // The other bytes are zero. A score is the answer's number, the number of the reading, 47 tallies, han, fu, 1 where it has a yakuman, the
 // level, how many times a yakuman counts, the dora and the ura, each in one byte; then, in four bytes each, basic points, what each non-dealer,
 // the dealer and the discarder pays, and the total. A refusal has its number alone.
@@ -46,8 +46,8 @@ fn ask_win(rec: &[u8], counts: &[u8], t: stored::Tally) -> stored::Tally
     requires { ⌜ length (now rec) ≡ 256 ⌝ }
 {
     let calls = stored::calls_at(rec, 41);
-    let a = win::score_win(counts, calls, stored::win_at(rec, 51));
-    let agrees = same_answer(rec, 88, a);
+    let a = win::score_win(counts, calls, stored::win_at(rec, 55));
+    let agrees = same_answer(rec, 92, a);
     t.kind(stored::wide(a.number)).record(agrees)
 }
 
@@ -55,10 +55,10 @@ fn ask_win(rec: &[u8], counts: &[u8], t: stored::Tally) -> stored::Tally
 fn ask_reading(rec: &[u8], counts: &[u8], t: stored::Tally) -> stored::Tally
     requires { ⌜ length (now rec) ≡ 256 ⌝ }
 {
-    let n = stored::u16_at(rec, 86);
+    let n = stored::u16_at(rec, 90);
     let calls = stored::calls_at(rec, 41);
-    let a = win::score_reading(counts, calls, stored::win_at(rec, 51), n);
-    let agrees = same_answer(rec, 164, a);
+    let a = win::score_reading(counts, calls, stored::win_at(rec, 55), n);
+    let agrees = same_answer(rec, 168, a);
     t.kind_if(READINGS, a.number == 0)
         .kind_if(MISSING, a.number == 12)
         .answer(agrees)
@@ -68,11 +68,11 @@ fn ask_reading(rec: &[u8], counts: &[u8], t: stored::Tally) -> stored::Tally
 fn ask_waits(rec: &[u8], counts: &[u8], t: stored::Tally) -> stored::Tally
     requires { ⌜ length (now rec) ≡ 256 ⌝ }
 {
-    let n = stored::u16_at(rec, 86);
+    let n = stored::u16_at(rec, 90);
     let calls = stored::calls_at(rec, 41);
-    let a = win::name_waits(counts, calls, stored::win_at(rec, 51), n);
+    let a = win::name_waits(counts, calls, stored::win_at(rec, 55), n);
     let waits = a.waits;
-    t.answer((a.number == rec[240]) & stored::same_waits(rec, 241, waits))
+    t.answer((a.number == rec[244]) & stored::same_waits(rec, 245, waits))
 }
 
 // The tally after a record. One with a length out of range differs, and nothing is asked.

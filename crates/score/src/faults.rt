@@ -5,7 +5,7 @@ use printed::text;
 use tile_words::faults;
 
 // What each fault means, after the word at fault, in the order of the numbers in `tile_words::faults`.
-const FAULTS: [[u8; 111]; 25] = [
+const FAULTS: [[u8; 111]; 27] = [
     *b"has no fault                                                                                                   ",
     *b"is not a known word; 'score help' lists them                                                                   ",
     *b"which is no suit: m, p, s or z follows numbers (honors: 1z to 7z, or e s w n wh g r)                           ",
@@ -22,7 +22,7 @@ const FAULTS: [[u8; 111]; 25] = [
     *b"is not one tile: the winning tile is one, as in ron 8s                                                         ",
     *b"is a second winning tile: ron or tsumo is said once                                                            ",
     *b"is no wind: east, south, west or north, or e, s, w, n                                                          ",
-    *b"is said twice: there is one round wind, one seat wind and one double wind setting                              ",
+    *b"is said twice: there is one round wind, one seat wind, one double wind setting, and one player for each call   ",
     *b"is longer than 512 letters                                                                                     ",
     *b"is the last word, and another belongs behind it, as in ron 8s, chi 123m, seat east                             ",
     *b"no winning tile: say ron or tsumo, then the tile, as in ron 8s                                                 ",
@@ -31,18 +31,20 @@ const FAULTS: [[u8; 111]; 25] = [
     *b"houtei is the last discard by ron; the last tile by tsumo is haitei                                            ",
     *b"makes more than 136 tiles, and there are no more                                                               ",
     *b"has a red five: none is counted, so the han would be too few; write 5 for 0, and add a han for each in the hand",
+    *b"says who a call came from, and there is no call before it: it stands behind one, as in pon 111m across         ",
+    *b"cannot be: a chi is called from the left alone, a closed kan from nobody                                       ",
 ];
 
 // The row of a fault.
 fn fault_row(i: usize) -> [u8; 111]
-    requires { ⌜ i < 25 ⌝ }
+    requires { ⌜ i < 27 ⌝ }
 {
     FAULTS[i]
 }
 
 // Writes what a fault means.
 fn say_fault(number: u8) {
-    if 24 < number {
+    if 26 < number {
         return;
     }
     let row = fault_row(number as usize);

@@ -1,5 +1,6 @@
 // The hand as it was understood, in words that can be given again.
 ghost use Prim.Native.Nat.{_<_};
+use crate::calls;
 use notation::said;
 use printed::print;
 use printed::text;
@@ -11,39 +12,6 @@ pub fn say_word(i: usize)
     let row = known_words::word_row(i);
     text::say_byte(b' ');
     text::say_row(&row);
-}
-
-// The number of the known word for the kind of a call.
-fn word_of_kind(kind: u8) -> usize
-    ensures { λ r. ⌜ r < 17 ⌝ }
-{
-    match kind {
-        1 => 0,
-        3 => 1,
-        5 => 2,
-        4 => 3,
-        _ => 4,
-    }
-}
-
-// Writes a call, if it is there.
-fn say_call(m: meld::Meld, there: bool) {
-    if !there {
-        return;
-    }
-    say_word(word_of_kind(m.kind));
-    text::say_byte(b' ');
-    print::say_tiles_of(m);
-}
-
-// Writes the calls, at most four.
-fn say_calls(k: checks::Calls) {
-    let melds = k.melds;
-    let count = k.count;
-    say_call(melds[0], 0 < count);
-    say_call(melds[1], 1 < count);
-    say_call(melds[2], 2 < count);
-    say_call(melds[3], 3 < count);
 }
 
 // Writes how it was won, and on which tile.
@@ -110,10 +78,11 @@ fn has_lost(s: said::Said) -> bool {
     (4 < calls.count) | ((10 < dora.count) | (10 < ura.count))
 }
 
-// Writes the hand as it was understood; nothing where a call or an indicator was not kept, as such a line could not be given again.
+// Writes the hand as it was understood, and what was assumed of its calls; nothing where a call or an indicator was not kept, as such a line could
+// not be given again.
 pub fn say_hand(s: said::Said) {
     let counts = s.counts;
-    let calls = s.calls;
+    let k = s.calls;
     let flags = s.flags;
     let dora = s.dora;
     let ura = s.ura;
@@ -122,7 +91,7 @@ pub fn say_hand(s: said::Said) {
     }
     text::say(b"hand:");
     print::say_counts(&counts);
-    say_calls(calls);
+    calls::say_calls(k);
     say_won(s);
     text::say(b" round ");
     say_wind(s.round);
@@ -133,5 +102,6 @@ pub fn say_hand(s: said::Said) {
     say_indicators(b" dora ", dora);
     say_indicators(b" ura ", ura);
     text::say_byte(b'\n');
-    say_opened(calls);
+    calls::say_assumed(s);
+    say_opened(k);
 }

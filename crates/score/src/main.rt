@@ -3,6 +3,7 @@
 // A program cannot set an exit status: the last line says how it ended. Whatever the arguments are, it begins with 'answer: reading',
 // 'answer: refused', 'bad input' or 'help'.
 mod answer;
+mod calls;
 mod faults;
 mod flags;
 mod hand_line;

@@ -167,7 +167,7 @@ pub fn say_all(
         return;
     }
     let chosen = chosen_of(scored);
-    let mut buffer = [0u8; 1467];
+    let mut buffer = [0u8; hand::ALWAYS_ENOUGH];
     let n = unit::write_all(counts, k, &mut buffer);
     say_readings(&buffer, n, chosen, counts, k, w);
     text::say_byte(b'\n');

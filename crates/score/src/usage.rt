@@ -12,6 +12,9 @@ fn say_tiles() {
         b"CALL   chi 123m, pon 111m, kan 1111m (open), ankan 1111m (closed), kakan 1111m (added)\n",
     );
     text::say(b"       or in brackets: '(123m)', '(111m)', '(1111m)' open, '[1111m]' closed\n");
+    text::say(
+        b"       then who the tile came from: left, across or right (kamicha, toimen, shimocha); without: left\n",
+    );
 }
 
 // Writes which words there are beside them.
@@ -54,7 +57,7 @@ pub fn say_usage() {
     say_words();
     say_dora();
     text::say(b"score 222333444m567p88s ron 8s\n");
-    text::say(b"score 22m567p345s chi 234m pon 555z tsumo 5s dealer\n");
-    text::say(b"score '22m 567p 345s (234m) (555z) tsumo 5s dealer'\n");
+    text::say(b"score 22m567p345s chi 234m pon 555z across tsumo 5s dealer\n");
+    text::say(b"score '22m 567p 345s (234m) (555z) across tsumo 5s dealer'\n");
     text::say(b"score 123m55m456p234678s ron 8s riichi dora 4m ura 1z\n\n");
 }

@@ -16,9 +16,9 @@ use Rattle.lists.proofs.Permuted.{every-perm, map-perm}
 use Rattle.lists.proofs.Members.{perm-mem, perm-eq, append-swap, length-perm, all-mem}
 use Rattle.meld.specs.declared.Meld.{Meld}
 use Rattle.meld.specs.Meld.{isMeld, key, melds, sorted}
-use Rattle.meld.proofs.Melds.{arrange-same, arrange-id, meld-kind, meld-tile, melds-nodup, in-melds, melds-ascend}
+use Rattle.meld.proofs.Melds.{arrange-same, arrange-id, meld-kind, meld-tile, meld-source, melds-nodup, in-melds, melds-ascend}
 use Rattle.hand.specs.Reading.{standard}
-use Rattle.hand.specs.Records.{meldBytes, recordOf, records}
+use Rattle.hand.specs.Records.{meldBytes, recordOf, standardBytes, records}
 use Rattle.hand.proofs.Records.{meldBytes-length}
 use Rattle.search.specs.Slots.{put, putAll, slotsOf, slotBytes, slotRecord, recordsWith}
 
@@ -143,7 +143,7 @@ empty-stays zero = refl
 empty-stays (suc j) = ap (λ (r : List ℕ). 65535 ∷ r) (empty-stays j)
 
 key-small : (m : Meld) → T (isMeld m) → key m ≤ 65535
-key-small m v = let h = meld-kind m v in let g = meld-tile m v in omega arith
+key-small m v = let h = meld-kind m v in let g = meld-tile m v in let i = meld-source m v in omega arith
 
 key-cond : (b : Bool) (m x : Meld) → cond b (key m) (key x) ≡ key (cond b m x)
 key-cond true m x = refl
@@ -187,25 +187,28 @@ slots-inserted k l v w e =
     ∙ append-nil (map key (inserted k l))
 
 -- ---- the bytes
-key-tile : (m : Meld) → T (isMeld m) → key m / 7 % 256 ≡ m .tile
-key-tile m v = let h = meld-kind m v in let g = meld-tile m v in omega arith
+key-tile : (m : Meld) → T (isMeld m) → key m / 32 % 256 ≡ m .tile
+key-tile m v = let h = meld-kind m v in let g = meld-tile m v in let i = meld-source m v in omega arith
 
-key-kind : (m : Meld) → T (isMeld m) → key m % 7 ≡ m .kind
-key-kind m v = let h = meld-kind m v in omega arith
+key-kind : (m : Meld) → T (isMeld m) → key m / 4 % 8 ≡ m .kind
+key-kind m v = let h = meld-kind m v in let i = meld-source m v in omega arith
+
+key-source : (m : Meld) → T (isMeld m) → key m % 4 ≡ m .source
+key-source m v = let i = meld-source m v in omega arith
 
 slot-bytes : (ms : List Meld) → T (all isMeld ms) → slotBytes (map key ms) ≡ meldBytes ms
 unfolding slotBytes
 slot-bytes [] v = refl
 slot-bytes (m ∷ ms) v =
     let good = and-left (isMeld m) _ v in
-    ap₂ _∷_ (key-tile m good) (ap₂ _∷_ (key-kind m good) (slot-bytes ms (and-right (isMeld m) _ v)))
+    ap₂ _∷_ (key-tile m good) (ap₂ _∷_ (key-kind m good) (ap₂ _∷_ (key-source m good) (slot-bytes ms (and-right (isMeld m) _ v))))
 
 record-four : (p : ℕ) (ms : List Meld) → T (all isMeld ms) → length ms ≡ 4 → slotRecord p (map key ms) ≡ recordOf (standard p ms)
 unfolding slotRecord recordOf
 record-four p ms v e =
     let h = meldBytes-length ms in
-    let n : length (p ∷ meldBytes ms) + 4 ≡ 13 = omega arith in
-    ap (λ (r : List ℕ). 13 ∷ (0 ∷ (3 ∷ (0 ∷ (p ∷ r))))) (slot-bytes ms v)
+    let n : length (p ∷ meldBytes ms) + 4 ≡ standardBytes = omega arith in
+    ap (λ (r : List ℕ). standardBytes ∷ (0 ∷ (3 ∷ (0 ∷ (p ∷ r))))) (slot-bytes ms v)
     ∙ ap (λ (s : ℕ). s % 256 ∷ (s / 256 ∷ (3 ∷ (0 ∷ (p ∷ meldBytes ms))))) (sym n)
 
 -- the slots, with the calls and then a hand's melds put in, are the record of the standard reading

@@ -13,6 +13,7 @@ use Rattle.lists.proofs.Finite.{true→T}
 use Rattle.meld.specs.declared.Meld.{Meld}
 use Rattle.meld.specs.Meld.{key, meld}
 use Rattle.hand.specs.Readings.{meldLists, minus}
+use Rattle.hand.specs.Records.{standardBytes}
 use Rattle.hand.proofs.Lowest.{by-lowest, few, none-left, none-left-needed, some-left}
 use Rattle.search.specs.Remaining.{Split, left, Fair, noneLeft, AtLowest, hasSequence, hasTriplet}
 use Rattle.search.specs.Slots.{put, putAll, slotRecord, recordsWith}
@@ -153,14 +154,14 @@ module _ (p : ℕ) (slots out₀ : List ℕ) (at : ℕ) where
   left-out b n m c out pos e f g = wrote-none (part b n m c) out pos (part-left b n m c e) f g
 
   -- the one record where no meld is to be found
-  pub end-room : (l : List (List Meld)) → l ≡ [] ∷ [] → length slots ≡ 4 → length (recordsWith p slots l) ≡ 13
+  pub end-room : (l : List (List Meld)) → l ≡ [] ∷ [] → length slots ≡ 4 → length (recordsWith p slots l) ≡ standardBytes
   end-room l e h = ap length (one-record p slots l e) ∙ record-length p slots h
 
   pub wrote-end : (l : List (List Meld)) (out : List ℕ) → l ≡ [] ∷ [] → length slots ≡ 4 → out ≡ sets out₀ at (slotRecord p slots)
       → length out ≡ length out₀
-      → Wrote p slots out₀ at l out (at + 13)
+      → Wrote p slots out₀ at l out (at + standardBytes)
   wrote-end l out e h f g =
-      wrote-as l (slotRecord p slots) out (at + 13) (one-record p slots l e) (ap (λ (k : ℕ). at + k) (sym (record-length p slots h))) f g
+      wrote-as l (slotRecord p slots) out (at + standardBytes) (one-record p slots l e) (ap (λ (k : ℕ). at + k) (sym (record-length p slots h))) f g
 
   -- those that go on from a meld
   pub wrote-part : (b : Bool) (n k : ℕ) (m : Meld) (c d : ℕ → ℕ) (slots′ out : List ℕ) (pos : ℕ)

@@ -9,6 +9,7 @@ use lib.Dec.{leb}
 use lib.ListN.{length, getD, set}
 use lib.Seq.{sets}
 use Rattle.lists.proofs.Elements.{four}
+use Rattle.hand.specs.Records.{standardBytes}
 use Rattle.search.specs.Slots.{put, slotBytes, slotRecord}
 
 -- a number put in from slot to slot: y, z, w are what is handed on
@@ -26,12 +27,34 @@ put-is x y z w p q r s l h e f g i j k m = let u = ap (put x) (four l 0 h) in cc
 
 -- the bytes of a record, slot by slot
 pub four-bytes : (p : ℕ) (l : List ℕ) → length l ≡ 4
-    → slotRecord p l ≡ 13 ∷ 0 ∷ 3 ∷ 0 ∷ p ∷ getD l 0 0 / 7 % 256 ∷ getD l 0 0 % 7 ∷ getD l 1 0 / 7 % 256 ∷ getD l 1 0 % 7
-    ∷ getD l 2 0 / 7 % 256 ∷ getD l 2 0 % 7 ∷ getD l 3 0 / 7 % 256 ∷ getD l 3 0 % 7 ∷ []
+    → slotRecord p l ≡ standardBytes ∷ 0 ∷ 3 ∷ 0 ∷ p
+    ∷ getD l 0 0 / 32 % 256 ∷ getD l 0 0 / 4 % 8 ∷ getD l 0 0 % 4
+    ∷ getD l 1 0 / 32 % 256 ∷ getD l 1 0 / 4 % 8 ∷ getD l 1 0 % 4
+    ∷ getD l 2 0 / 32 % 256 ∷ getD l 2 0 / 4 % 8 ∷ getD l 2 0 % 4
+    ∷ getD l 3 0 / 32 % 256 ∷ getD l 3 0 / 4 % 8 ∷ getD l 3 0 % 4 ∷ []
 unfolding slotRecord slotBytes
 four-bytes p l e = ap (slotRecord p) (four l 0 e)
 
-pub record-length : (p : ℕ) (l : List ℕ) → length l ≡ 4 → length (slotRecord p l) ≡ 13
+-- twelve numbers that are the tiles, kinds and sources of the slots are the record's bytes
+pub record-is :
+    (p : ℕ) (l : List ℕ) → length l ≡ 4 → (t₀ k₀ s₀ t₁ k₁ s₁ t₂ k₂ s₂ t₃ k₃ s₃ : ℕ)
+    → t₀ ≡ getD l 0 0 / 32 % 256
+    → k₀ ≡ getD l 0 0 / 4 % 8
+    → s₀ ≡ getD l 0 0 % 4
+    → t₁ ≡ getD l 1 0 / 32 % 256
+    → k₁ ≡ getD l 1 0 / 4 % 8
+    → s₁ ≡ getD l 1 0 % 4
+    → t₂ ≡ getD l 2 0 / 32 % 256
+    → k₂ ≡ getD l 2 0 / 4 % 8
+    → s₂ ≡ getD l 2 0 % 4
+    → t₃ ≡ getD l 3 0 / 32 % 256
+    → k₃ ≡ getD l 3 0 / 4 % 8
+    → s₃ ≡ getD l 3 0 % 4
+    → standardBytes ∷ 0 ∷ 3 ∷ 0 ∷ p ∷ t₀ ∷ k₀ ∷ s₀ ∷ t₁ ∷ k₁ ∷ s₁ ∷ t₂ ∷ k₂ ∷ s₂ ∷ t₃ ∷ k₃ ∷ s₃ ∷ [] ≡ slotRecord p l
+record-is p l h t₀ k₀ s₀ t₁ k₁ s₁ t₂ k₂ s₂ t₃ k₃ s₃ et₀ ek₀ es₀ et₁ ek₁ es₁ et₂ ek₂ es₂ et₃ ek₃ es₃ =
+    (λ i. standardBytes ∷ 0 ∷ 3 ∷ 0 ∷ p ∷ et₀ i ∷ ek₀ i ∷ es₀ i ∷ et₁ i ∷ ek₁ i ∷ es₁ i ∷ et₂ i ∷ ek₂ i ∷ es₂ i ∷ et₃ i ∷ ek₃ i ∷ es₃ i ∷ []) ∙ sym (four-bytes p l h)
+
+pub record-length : (p : ℕ) (l : List ℕ) → length l ≡ 4 → length (slotRecord p l) ≡ standardBytes
 record-length p l e = ap length (four-bytes p l e)
 
 -- ---- runs of stores

@@ -6,6 +6,7 @@ ghost use Prim.Native.Nat.{_+_, _*_, _/_, _%_, _≤_};
 ghost use lib.Dec.{leb};
 ghost use lib.ListN.{length};
 ghost use lib.Seq.{sets};
+ghost use Rattle.hand.specs.Records.{standardBytes};
 ghost use Rattle.hand.specs.Readings.{meldLists};
 ghost use Rattle.meld.specs.Meld.{meld};
 ghost use Rattle.search.specs.Remaining.{split, left, Fair, noneLeft, AtLowest, hasSequence, hasTriplet, Less};
@@ -54,11 +55,11 @@ impl Remaining {
         }
     }
 
-    // The number of the sequence from the tile, in the order of melds. That of the tile's triplet is higher by 2.
+    // The number of the sequence from the tile, in the order of melds. That of the tile's triplet is higher by 8.
     pub fn key(self) -> u16
-        ensures { λ r. ⌜ r ≡ split self .tile * 7 ⌝ }
+        ensures { λ r. ⌜ r ≡ split self .tile * 32 ⌝ }
     {
-        (self.behind % 64 * 7) as u16
+        (self.behind % 64 * 32) as u16
     }
 
     // Is the sequence from the tile there? One of the tile itself is.
@@ -161,21 +162,28 @@ pub fn put_in(slots: [u16; 4], x: u16) -> [u16; 4]
 
 // The tile of a meld, by its number.
 fn tile_of(x: u16) -> u8
-    ensures { λ r. ⌜ r ≡ x / 7 % 256 ⌝ }
+    ensures { λ r. ⌜ r ≡ x / 32 % 256 ⌝ }
 {
-    (x / 7 % 256) as u8
+    (x / 32 % 256) as u8
 }
 
 // The kind of a meld, by its number.
 fn kind_of(x: u16) -> u8
-    ensures { λ r. ⌜ r ≡ x % 7 ⌝ }
+    ensures { λ r. ⌜ r ≡ x / 4 % 8 ⌝ }
 {
-    (x % 7) as u8
+    (x / 4 % 8) as u8
+}
+
+// The source of a meld, by its number.
+fn source_of(x: u16) -> u8
+    ensures { λ r. ⌜ r ≡ x % 4 ⌝ }
+{
+    (x % 4) as u8
 }
 
 // Writes the record of a standard reading: the pair and the melds in the slots.
 pub fn write_standard(out: &mut [u8], at: usize, pair: u8, slots: [u16; 4])
-    requires { ⌜ at + 13 ≤ length (now out) ⌝ }
+    requires { ⌜ at + standardBytes ≤ length (now out) ⌝ }
     ensures { λ _. ⌜ now (out .exit) ≡ sets (now (out .entry)) at (slotRecord pair slots) ⌝ }
 {
     let a = slots[0];
@@ -186,19 +194,23 @@ pub fn write_standard(out: &mut [u8], at: usize, pair: u8, slots: [u16; 4])
         out,
         at,
         &[
-            13,
+            hand::STANDARD_BYTES as u8,
             0,
             3,
             0,
             pair,
             tile_of(a),
             kind_of(a),
+            source_of(a),
             tile_of(b),
             kind_of(b),
+            source_of(b),
             tile_of(c),
             kind_of(c),
+            source_of(c),
             tile_of(d),
             kind_of(d),
+            source_of(d),
         ],
     );
 }
@@ -210,7 +222,7 @@ fn write_end(s: Remaining, pair: u8, slots: [u16; 4], out: &mut [u8], at: usize)
 {
     if s.is_empty() {
         write_standard(out, at, pair, slots);
-        return at + 13;
+        return at + hand::STANDARD_BYTES;
     }
     at
 }
@@ -268,7 +280,7 @@ pub fn write_meld_combinations(
     }
     if low.has_triplet() {
         let rest = low.without_triplet();
-        pos = write_with(rest, needed - 1, pair, slots, key + 2, out, pos);
+        pos = write_with(rest, needed - 1, pair, slots, key + 8, out, pos);
     }
     pos
 }

@@ -28,31 +28,32 @@ pub fn u32_at(s: &[u8], at: usize) -> u32
     (u16_at(s, at) + u16_at(s, at + 2) * 65536) as u32
 }
 
-// The meld in two bytes, tile and kind.
-fn meld_at(s: &[u8], at: usize) -> meld::Meld
-    requires { ⌜ at + 2 ≤ length (now s) ⌝ }
+// The meld in three bytes, tile, kind and source.
+pub fn meld_at(s: &[u8], at: usize) -> meld::Meld
+    requires { ⌜ at + 3 ≤ length (now s) ⌝ }
 {
     meld::Meld {
         tile: s[at],
         kind: s[at + 1],
+        source: s[at + 2],
     }
 }
 
-// The four melds in eight bytes.
+// The four melds in twelve bytes.
 pub fn melds_at(s: &[u8], at: usize) -> [meld::Meld; 4]
-    requires { ⌜ at + 8 ≤ length (now s) ⌝ }
+    requires { ⌜ at + 12 ≤ length (now s) ⌝ }
 {
     [
         meld_at(s, at),
-        meld_at(s, at + 2),
-        meld_at(s, at + 4),
+        meld_at(s, at + 3),
         meld_at(s, at + 6),
+        meld_at(s, at + 9),
     ]
 }
 
-// So many calls, with the four melds in eight bytes.
+// So many calls, with the four melds in twelve bytes.
 pub fn calls_of(count: usize, s: &[u8], at: usize) -> checks::Calls
-    requires { ⌜ at + 8 ≤ length (now s) ⌝ }
+    requires { ⌜ at + 12 ≤ length (now s) ⌝ }
 {
     checks::Calls {
         count: count,
@@ -60,9 +61,9 @@ pub fn calls_of(count: usize, s: &[u8], at: usize) -> checks::Calls
     }
 }
 
-// The calls in ten bytes: their number in two, and the four melds.
+// The calls in 14 bytes: their number in two, and the four melds.
 pub fn calls_at(s: &[u8], at: usize) -> checks::Calls
-    requires { ⌜ at + 10 ≤ length (now s) ⌝ }
+    requires { ⌜ at + 14 ≤ length (now s) ⌝ }
 {
     calls_of(u16_at(s, at), s, at + 2)
 }

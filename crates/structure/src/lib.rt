@@ -17,10 +17,26 @@ pub struct Hand {
 }
 
 const NO_MELDS: [meld::Meld; 4] = [
-    meld::Meld { tile: 0, kind: 0 },
-    meld::Meld { tile: 0, kind: 0 },
-    meld::Meld { tile: 0, kind: 0 },
-    meld::Meld { tile: 0, kind: 0 },
+    meld::Meld {
+        tile: 0,
+        kind: 0,
+        source: 0,
+    },
+    meld::Meld {
+        tile: 0,
+        kind: 0,
+        source: 0,
+    },
+    meld::Meld {
+        tile: 0,
+        kind: 0,
+        source: 0,
+    },
+    meld::Meld {
+        tile: 0,
+        kind: 0,
+        source: 0,
+    },
 ];
 
 impl Hand {

@@ -44,7 +44,7 @@ pub const TWO_WINS: u8 = 14;
 // the word behind round or seat is no wind
 pub const NO_WIND: u8 = 15;
 
-// the round, the seat or the double wind setting is said twice
+// the round, the seat, the double wind setting or whom a call came from is said twice
 pub const TWICE: u8 = 16;
 
 // an argument that is empty or too long
@@ -71,5 +71,11 @@ pub const TOO_MANY: u8 = 23;
 // a red five: 0m, 0p or 0s
 pub const RED_FIVE: u8 = 24;
 
+// a word for whom a call came from, with no call before it
+pub const NO_CALL_BEFORE: u8 = 25;
+
+// a call that cannot come from there
+pub const NO_SEAT: u8 = 26;
+
 // how many numbers there are, 0 among them
-pub const FAULTS: usize = 25;
+pub const FAULTS: usize = 27;

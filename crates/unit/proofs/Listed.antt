@@ -15,7 +15,7 @@ use Rattle.tile.specs.Tile.{tiles}
 use Rattle.meld.specs.Meld.{isCall, isMeld}
 use Rattle.hand.specs.Counts.{held}
 use Rattle.hand.specs.Reading.{pairs, orphans}
-use Rattle.hand.specs.Records.{recordOf, records}
+use Rattle.hand.specs.Records.{recordOf, standardBytes, records}
 use Rattle.hand.specs.Readings.{twos, isPairs, sevenPairs, standardsAt, readings}
 use Rattle.hand.proofs.Lowest.{flat-append}
 use Rattle.search.specs.Slots.{slotsOf}
@@ -89,8 +89,8 @@ module _ (cs : List ℕ) (k : Calls) (ok : handCheck cs k ≡ 0) (long : length 
   pub records-length : length (handRecords cs k) ≡ length (records (specials cs k)) + length (standardRecords (held cs) k)
   records-length = ap length records-found ∙ length-append (records (specials cs k)) (standardRecords (held cs) k)
 
-  -- 13 bytes for each of the standard ones
-  standards-length : length (standardRecords (held cs) k) ≡ 13 * length (foundWith (4 - k .count) (held cs) tiles)
+  -- so many bytes for each of the standard ones
+  standards-length : length (standardRecords (held cs) k) ≡ standardBytes * length (foundWith (4 - k .count) (held cs) tiles)
   unfolding standardRecords
   standards-length = over-length (4 - k .count) (held cs) (slotsOf (called k)) (slots-length (called k)) tiles
 
@@ -154,7 +154,7 @@ module _ (cs : List ℕ) (k : Calls) (ok : handCheck cs k ≡ 0) (long : length 
   -- the number of readings, from where the records begin and end
   pub all-counted :
       (start end n : ℕ) → end ≡ start + length (standardRecords (inWords h) k) → n ≡ length (specials cs k) → n ≤ 2
-      → ((end - start) / 13 + n ≡ length (handReadings cs k)) × ((end - start) / 13 + n ≤ 2178)
+      → ((end - start) / standardBytes + n ≡ length (handReadings cs k)) × ((end - start) / standardBytes + n ≤ 2178)
   all-counted start end n f g few =
       let a = ap length same-standards in
       let b = standards-length cs k ok long in

@@ -1,11 +1,11 @@
 -- What refuses a listing, by examples: the room that is lent, one byte too few and just enough; and a check of the hand before it. Assumes nothing.
 use mathlib.Core.Path.{_≡_, refl}
 use mathlib.Core.List.{List, [], _∷_, _++_}
-use Prim.Native.Nat.{ℕ}
+use Prim.Native.Nat.{ℕ, _-_}
 use lib.ListN.{take}
 use Rattle.tile.specs.Named.{mans, pins, sous}
 use Rattle.hand.specs.Named.{hand}
-use Rattle.hand.specs.Records.{recordOf}
+use Rattle.hand.specs.Records.{recordOf, standardBytes}
 use Rattle.hand.specs.Readings.{readings, sevenPairs, thirteenOrphans, standardsAt, meldLists}
 use Rattle.checks.specs.declared.Calls.{Calls}
 use Rattle.checks.specs.Checks.{check, handCheck}
@@ -15,22 +15,22 @@ use Rattle.unit.specs.Listing.{numberOf, handReadings, handRecords, list
 abbrev nothingCalled : Calls
 nothingCalled = record { count = 0; melds = [] }
 
--- the counts of 123 55 man, 456 pin, 234 678 sou: one reading, and its record has 13 bytes
+-- the counts of 123 55 man, 456 pin, 234 678 sou: one reading, a standard one
 abbrev played : List ℕ
 played = hand (mans 12355 ++ (pins 456 ++ sous 234678))
 
 -- ---- 7: fewer bytes are lent than the records need
-pub one-byte-short : numberOf (listing played nothingCalled 12) ≡ 7
+pub one-byte-short : numberOf (listing played nothingCalled (standardBytes - 1)) ≡ 7
 unfolding listing handRecords handReadings readings sevenPairs thirteenOrphans standardsAt meldLists recordOf handCheck check
 one-byte-short = refl
 
 -- just enough
-pub just-enough : listing played nothingCalled 13 ≡ Listed 1 13
+pub just-enough : listing played nothingCalled standardBytes ≡ Listed 1 standardBytes
 unfolding listing handRecords handReadings readings sevenPairs thirteenOrphans standardsAt meldLists recordOf handCheck check
 just-enough = refl
 
 -- ---- 1: the counts are not 34 long, though there is room
-pub one-count-short : listing (take 33 played) nothingCalled 13 ≡ Refused 1
+pub one-count-short : listing (take 33 played) nothingCalled standardBytes ≡ Refused 1
 unfolding listing handCheck check
 one-count-short = refl
 

@@ -1,4 +1,4 @@
--- The records of the standard readings are those that the loop over the pairs writes, 13 bytes each. Assumes nothing.
+-- The records of the standard readings are those that the loop over the pairs writes, all equally long. Assumes nothing.
 use mathlib.Core.Path.{_≡_, refl, sym, ap, ap₂, _∙_}
 use mathlib.Core.Bool.{Bool, true, false, cond}
 use mathlib.Core.List.{List, [], _∷_, _++_, map, List·Memᴰ}
@@ -13,7 +13,7 @@ use Rattle.lists.proofs.Members.{all-mem, all-intro}
 use Rattle.meld.specs.declared.Meld.{Meld}
 use Rattle.meld.specs.Meld.{isMeld, isHandMeld, key, sorted}
 use Rattle.hand.specs.Reading.{standard}
-use Rattle.hand.specs.Records.{recordOf, records}
+use Rattle.hand.specs.Records.{recordOf, standardBytes, records}
 use Rattle.hand.specs.Readings.{lessPair, meldLists, standardsAt}
 use Rattle.hand.proofs.Lowest.{flat-append, few, lists-length, lists-melds}
 use Rattle.search.specs.Slots.{put, putAll, slotsOf, slotRecord, recordsWith}
@@ -72,7 +72,7 @@ module _ (c : ℕ → ℕ) (k : List Meld) (calls : T (all isMeld k)) (four : le
       let e = standard-count ps in
       omega arith
 
--- ---- 13 bytes each
+-- ---- equally many bytes each
 put-length : (x : ℕ) (l : List ℕ) → length (put x l) ≡ length l
 unfolding put
 put-length x [] = refl
@@ -83,7 +83,7 @@ unfolding putAll
 putAll-length [] l = refl
 putAll-length (x ∷ xs) l = putAll-length xs (put x l) ∙ put-length x l
 
-with-length : (p : ℕ) (slots : List ℕ) → length slots ≡ 4 → (ls : List (List Meld)) → length (recordsWith p slots ls) ≡ 13 * length ls
+with-length : (p : ℕ) (slots : List ℕ) → length slots ≡ 4 → (ls : List (List Meld)) → length (recordsWith p slots ls) ≡ standardBytes * length ls
 unfolding recordsWith
 with-length p slots e [] = refl
 with-length p slots e (l ∷ ls) =
@@ -92,7 +92,7 @@ with-length p slots e (l ∷ ls) =
     let d = with-length p slots e ls in
     omega arith
 
-pub over-length : (n : ℕ) (c : ℕ → ℕ) (slots : List ℕ) → length slots ≡ 4 → (ps : List ℕ) → length (recordsOver n c slots ps) ≡ 13 * length (foundWith n c ps)
+pub over-length : (n : ℕ) (c : ℕ → ℕ) (slots : List ℕ) → length slots ≡ 4 → (ps : List ℕ) → length (recordsOver n c slots ps) ≡ standardBytes * length (foundWith n c ps)
 unfolding recordsOver foundWith
 over-length n c slots e [] = refl
 over-length n c slots e (p ∷ ps) =

@@ -9,7 +9,7 @@ use lib.ListN.{length}
 use Rattle.tile.specs.Tile.{tiles}
 use Rattle.hand.specs.Counts.{held}
 use Rattle.hand.specs.Reading.{Reading, orphans}
-use Rattle.hand.specs.Records.{recordOf, records}
+use Rattle.hand.specs.Records.{recordOf, standardBytes, records}
 use Rattle.hand.specs.Readings.{isPairs, sevenPairs, thirteenOrphans, uncalled}
 use Rattle.search.specs.Slots.{put, slotsOf}
 use Rattle.decompose.specs.Pairs.{foundWith, recordsOver}
@@ -38,7 +38,7 @@ abbrev pub readingsFound : Found → ℕ
 readingsFound f = f .standard + readingsIn (f .special)
 
 abbrev pub bytesFound : Found → ℕ
-bytesFound f = f .standard * 13 + bytesIn (f .special)
+bytesFound f = f .standard * standardBytes + bytesIn (f .special)
 
 -- the records of seven pairs and of thirteen orphans, where they were found
 abbrev pub sevenRecords : List ℕ → Bool → List ℕ

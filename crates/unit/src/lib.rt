@@ -73,7 +73,7 @@ impl Found {
         ensures { λ r. ⌜ r ≡ bytesFound self ⌝ }
     {
         let special = self.special;
-        self.standard * 13 + special.bytes()
+        self.standard * hand::STANDARD_BYTES + special.bytes()
     }
 }
 
@@ -217,7 +217,7 @@ pub fn write_all(counts: &[u8], k: checks::Calls, out: &mut [u8]) -> usize
     let h = decompose::pack(counts);
     let places = decompose::pair_places(counts);
     let end = write_standards(h, places, k, out, start);
-    (end - start) / 13 + special.readings
+    (end - start) / hand::STANDARD_BYTES + special.readings
 }
 
 // Lists the readings of a finished hand. A refusal answers its number and leaves the buffer as it was.

@@ -1,5 +1,5 @@
 -- What Pinfu means, in a player's words, and that nothing else is asked. Assumes nothing.
-use mathlib.Core.Path.{_≡_, ap}
+use mathlib.Core.Path.{_≡_, refl, ap}
 use mathlib.Core.Bool.{Bool, true, false, _||_, not}
 use mathlib.Core.List.{List, [], _∷_, List·Memᴰ}
 use Prim.Native.Nat.{ℕ, _+_, _≤_}
@@ -82,7 +82,7 @@ sequence-no-set m s t =
 
 no-set-sequence : (m : Meld) → T (isMeld m) → (T (isTripletOrKan m) → ⊥) → T (isSequence m)
 no-set-sequence m v f =
-    or-elim (isSequence m) (isTripletOrKan m) (melds-at (λ m. isSequence m || isTripletOrKan m) tt m v) (λ s. s) (λ t. absurd (f t))
+    or-elim (isSequence m) (isTripletOrKan m) (melds-at (λ m. isSequence m || isTripletOrKan m) (λ m. refl) tt m v) (λ s. s) (λ t. absurd (f t))
 
 module _ (w : GameContext) (opened : Bool) (p : ℕ) (ms : List Meld) where
   pub pinfu-means : T (pinfu w opened (standard p ms)) → Pinfu w opened p ms

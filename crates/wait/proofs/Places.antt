@@ -1,6 +1,6 @@
 -- What the waits within a sequence mean: which tiles would have served besides; that each meld that the tile can have completed is tallied once;
 -- and that a tile of the hand is a wait of every reading. Assumes nothing.
-use mathlib.Core.Path.{_≡_, ap}
+use mathlib.Core.Path.{_≡_, refl, sym, ap, _∙_}
 use mathlib.Core.Bool.{Bool, true, false, _&&_, _||_, not, cond, Bool·beq}
 use mathlib.Core.List.{List, [], _∷_, _++_, List·Permᴰ, List·Permᴰ·trans}
 use Prim.Native.Nat.{ℕ, zero, suc, _+_, _<_, _≤_}
@@ -14,8 +14,9 @@ use Rattle.lists.proofs.Permuted.{total-perm, map-perm}
 use Rattle.lists.proofs.Sums.{sum-append}
 use Rattle.tile.specs.Tile.{isStart, tiles}
 use Rattle.meld.specs.declared.Meld.{Meld}
-use Rattle.meld.specs.Meld.{isMeld, isHandMeld, uses}
+use Rattle.meld.specs.Meld.{isMeld, isHandMeld, uses, butSource}
 use Rattle.meld.proofs.Melds.{allMelds, melds-at, closed-melds, sorted-perm}
+use Rattle.meld.proofs.Sorts.{but-hand}
 use Rattle.hand.specs.Reading.{AdmitsStandard, standard}
 use Rattle.wait.specs.Wait.{within, twoSided, edge, middle, closedRun, closedTriplet, waits}
 
@@ -67,14 +68,18 @@ waitsIn t m = one (closedRun twoSided t m) + (one (closedRun middle t m) + (one 
 abbrev pub completed : ℕ → Meld → Bool
 completed t m = isHandMeld m && leb 1 (uses m t)
 
+pub completed-but : (t : ℕ) (m : Meld) → T (isMeld m) → completed t m ≡ completed t (butSource m)
+completed-but t m v = ap (λ (b : Bool). b && leb 1 (uses m t)) (but-hand m v)
+
 one-wait-test : T (allMelds (λ m. allBelow 34 (λ t. eqb (waitsIn t m) (one (completed t m)))))
 one-wait-test = tt
 
 pub one-wait : (t : ℕ) (m : Meld) → t < 34 → T (isMeld m) → waitsIn t m ≡ one (completed t m)
 one-wait t m h v =
     eqb→eq (waitsIn t m) _
-    (at 34 (λ t. eqb (waitsIn t m) (one (completed t m)))
-    (melds-at (λ m. allBelow 34 (λ t. eqb (waitsIn t m) (one (completed t m)))) one-wait-test m v) t h)
+    (at 34 (λ t. eqb (waitsIn t m) (one (completed t (butSource m))))
+    (melds-at (λ m. allBelow 34 (λ t. eqb (waitsIn t m) (one (completed t (butSource m))))) (λ m. refl) one-wait-test m v) t h)
+    ∙ ap one (sym (completed-but t m v))
 
 -- so the tallies together count the melds that the tile can have completed, and the pair
 pub waits-total :

@@ -1,5 +1,5 @@
 -- What a tile completes stays when it and the meld are renamed: a wait is the same from either side, in each suit. Assumes nothing.
-use mathlib.Core.Path.{_≡_, sym, subst}
+use mathlib.Core.Path.{_≡_, refl, sym, subst}
 use mathlib.Core.Bool.{Bool, _&&_}
 use Prim.Native.Nat.{ℕ, _<_}
 use lib.Dec.{T, eqb, ltb, leb, eqb→eq}
@@ -16,7 +16,7 @@ use Rattle.wait.specs.Wait.{within, twoSided, edge, middle, closedRun, c
 closed-law :
     (p : ℕ → ℕ → Bool) → T (onMelds (λ k. eqb k 0) (λ t m. p t (m .tile)))
     → (ρ : Renaming) (t : ℕ) → t < 34 → (m : Meld) → T (isMeld m) → closedRun p (ren ρ t) (renMeld ρ m) ≡ closedRun p t m
-closed-law p ok ρ t h m v = and-cong (eqb (m .kind) 0) (λ i. meld-tile-law (λ k. eqb k 0) (λ t m. p t (m .tile)) ok ρ m v i t h)
+closed-law p ok ρ t h m v = and-cong (eqb (m .kind) 0) (λ i. meld-tile-law (λ k. eqb k 0) (λ t m. p t (m .tile)) (λ t m. refl) ok ρ m v i t h)
 
 -- how a question of a tile and a meld moves
 abbrev TileStays : (ℕ → Meld → Bool) → Type 0

@@ -15,14 +15,14 @@ use Rattle.lists.proofs.Sums.{count-le}
 use Rattle.tile.specs.Tile.{isDragon}
 use Rattle.context.specs.declared.GameContext.{GameContext}
 use Rattle.meld.specs.declared.Meld.{Meld}
-use Rattle.meld.specs.Meld.{isOpen, isKan, meld}
+use Rattle.meld.specs.Meld.{isOpen, isKan, meldFrom}
 use Rattle.hand.specs.Reading.{standard}
 use Rattle.wait.specs.Wait.{closedRun, closedTriplet, twoSided, middle, edge, waits, weight}
 
 -- ---- open melds and kans
 -- a kind that passes a test is not one that fails it
-other-kind : (p : Meld → Bool) (m : Meld) (k : ℕ) → T (p m) → (T (p (meld (m .tile) k)) → ⊥) → eqb (m .kind) k ≡ false
-other-kind p m k t f = ne-eqb (m .kind) k (λ e. f (subst (λ (n : ℕ). T (p (meld (m .tile) n))) e t))
+other-kind : (p : Meld → Bool) (m : Meld) (k : ℕ) → T (p m) → (T (p (meldFrom (m .tile) k (m .source))) → ⊥) → eqb (m .kind) k ≡ false
+other-kind p m k t f = ne-eqb (m .kind) k (λ e. f (subst (λ (n : ℕ). T (p (meldFrom (m .tile) n (m .source)))) e t))
 
 pub open-no-wait : (q : ℕ → ℕ → Bool) (t : ℕ) (m : Meld) → T (isOpen m) → closedRun q t m ≡ false
 open-no-wait q t m o = ap (λ (b : Bool). b && q t (m .tile)) (other-kind isOpen m 0 o (λ x. x))

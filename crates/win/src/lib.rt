@@ -94,7 +94,7 @@ pub fn score_win(counts: &[u8], k: checks::Calls, w: context::GameContext) -> ch
     if number != 0 {
         return choice::refused(number);
     }
-    let mut buffer = [0u8; 1467];
+    let mut buffer = [0u8; hand::ALWAYS_ENOUGH];
     let n = unit::write_all(counts, k, &mut buffer);
     if n == 0 {
         return choice::refused(10);
@@ -116,7 +116,7 @@ pub fn score_reading(
     if number != 0 {
         return choice::refused(number);
     }
-    let mut buffer = [0u8; 1467];
+    let mut buffer = [0u8; hand::ALWAYS_ENOUGH];
     let readings = unit::write_all(counts, k, &mut buffer);
     if readings <= n {
         return choice::refused(12);
@@ -147,7 +147,7 @@ pub fn name_waits(counts: &[u8], k: checks::Calls, w: context::GameContext, n: u
     if number != 0 {
         return refused_waits(number);
     }
-    let mut buffer = [0u8; 1467];
+    let mut buffer = [0u8; hand::ALWAYS_ENOUGH];
     let count = unit::write_all(counts, k, &mut buffer);
     if count <= n {
         return refused_waits(12);

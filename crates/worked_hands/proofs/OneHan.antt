@@ -2,7 +2,7 @@
 use lib.Dec.{T}
 use Rattle.played.specs.Row.{holds}
 use Rattle.played.proofs.Quick.{quick}
-use Rattle.worked_hands.specs.OneHan.{riichiClosed, riichiWithClosedKan, riichiOpen, riichiNotDeclared, ippatsuAfterRiichi, ippatsuWithoutRiichi, ippatsuAfterKan, tsumoClosed, tsumoWithClosedKan, tsumoOpen, tanyaoClosed, tanyaoOpen, tanyaoTerminal, tanyaoTerminalCalled, tanyaoHonorPair, pinfuOtherWind, pinfuOtherWindTsumo, pinfuSeatWind, pinfuRoundWind, pinfuDragonPair, pinfuMiddle, pinfuEdge, pinfuLowEdge, pinfuPairWait, pinfuTriplet, pinfuOpen, pinfuEdgeOrSides, pinfuPairOrSides, iipeikouTwice, iipeikouWithClosedKan, iipeikouOpen, iipeikouTwoSuits, yakuhaiRoundEast, yakuhaiEastElsewhere, yakuhaiSeatSouth, yakuhaiRoundSouth, yakuhaiSouthElsewhere, yakuhaiSeatWest, yakuhaiRoundWest, yakuhaiWestElsewhere, yakuhaiSeatNorth, yakuhaiRoundNorth, yakuhaiNorthElsewhere, yakuhaiEastTwice, yakuhaiSouthTwice, yakuhaiWestTwice, yakuhaiNorthTwice, yakuhaiWhite, yakuhaiGreen, yakuhaiRed, yakuhaiClosedTriplet, yakuhaiKan, yakuhaiWhitePair, yakuhaiGreenPair, yakuhaiRedPair, rinshanClosed, rinshanOpen, rinshanByRon, chankanAlone, chankanClosed, chankanByTsumo, haiteiAlone, haiteiClosed, haiteiAfterKan, houteiAlone, houteiClosed, houteiAndChankan, houteiEarlier}
+use Rattle.worked_hands.specs.OneHan.{riichiClosed, riichiWithClosedKan, riichiOpen, riichiNotDeclared, ippatsuAfterRiichi, ippatsuWithoutRiichi, ippatsuAfterKan, tsumoClosed, tsumoWithClosedKan, tsumoOpen, tanyaoClosed, tanyaoOpen, tanyaoTerminal, tanyaoTerminalCalled, tanyaoHonorPair, pinfuOtherWind, pinfuOtherWindTsumo, pinfuSeatWind, pinfuRoundWind, pinfuDragonPair, pinfuMiddle, pinfuEdge, pinfuLowEdge, pinfuPairWait, pinfuTriplet, pinfuOpen, pinfuEdgeOrSides, pinfuPairOrSides, iipeikouTwice, iipeikouWithClosedKan, iipeikouOpen, iipeikouTwoSuits, yakuhaiRoundEast, yakuhaiEastElsewhere, yakuhaiSeatSouth, yakuhaiRoundSouth, yakuhaiSouthElsewhere, yakuhaiSeatWest, yakuhaiRoundWest, yakuhaiWestElsewhere, yakuhaiSeatNorth, yakuhaiRoundNorth, yakuhaiNorthElsewhere, yakuhaiEastTwice, yakuhaiSouthTwice, yakuhaiWestTwice, yakuhaiNorthTwice, yakuhaiWhite, yakuhaiWhiteAcross, yakuhaiWhiteRight, yakuhaiGreen, yakuhaiRed, yakuhaiClosedTriplet, yakuhaiKan, yakuhaiWhitePair, yakuhaiGreenPair, yakuhaiRedPair, rinshanClosed, rinshanOpen, rinshanByRon, chankanAlone, chankanClosed, chankanByTsumo, haiteiAlone, haiteiClosed, haiteiAfterKan, houteiAlone, houteiClosed, houteiAndChankan, houteiEarlier}
 
 -- ---- Riichi
 pub riichi-closed : T (holds riichiClosed)
@@ -202,6 +202,14 @@ yakuhai-north-twice = quick yakuhaiNorthTwice tt
 pub yakuhai-white : T (holds yakuhaiWhite)
 unfolding holds
 yakuhai-white = quick yakuhaiWhite tt
+
+pub yakuhai-white-across : T (holds yakuhaiWhiteAcross)
+unfolding holds
+yakuhai-white-across = quick yakuhaiWhiteAcross tt
+
+pub yakuhai-white-right : T (holds yakuhaiWhiteRight)
+unfolding holds
+yakuhai-white-right = quick yakuhaiWhiteRight tt
 
 pub yakuhai-green : T (holds yakuhaiGreen)
 unfolding holds

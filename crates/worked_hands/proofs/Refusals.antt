@@ -2,7 +2,7 @@
 use lib.Dec.{T}
 use Rattle.played.specs.Row.{holds}
 use Rattle.played.proofs.Quick.{quick}
-use Rattle.worked_hands.specs.Refusals.{fiveCalls, fiveCallsFiveTiles, sequenceFromEight, sequenceOfHonors, fiveInHand, fiveWithCalls, fiveWithKan, fifteenTiles, elevenTiles, kanThreePlaces, elevenTilesNoSetting, noSuchWinType, whiteAsSeat, whiteAsRound, noSetting, settingThree, settingBeforeTile, seatBeforeTile, indicatorAbove33, uraAbove33, indicatorBeforeTile, seatBeforeIndicator, tileNotInHand, tileInCallOnly, tileAbove33, noReading, oneTileAway, closedWithoutYaku, basicWinType}
+use Rattle.worked_hands.specs.Refusals.{fiveCalls, fiveCallsFiveTiles, sequenceFromEight, sequenceOfHonors, sequenceFromRight, sequenceFromAcross, closedKanFromLeft, fiveInHand, fiveWithCalls, fiveWithKan, fifteenTiles, elevenTiles, kanThreePlaces, elevenTilesNoSetting, noSuchWinType, whiteAsSeat, whiteAsRound, noSetting, settingThree, settingBeforeTile, seatBeforeTile, indicatorAbove33, uraAbove33, indicatorBeforeTile, seatBeforeIndicator, tileNotInHand, tileInCallOnly, tileAbove33, noReading, oneTileAway, closedWithoutYaku, basicWinType}
 
 -- ---- 2 more than four calls
 pub five-calls : T (holds fiveCalls)
@@ -13,7 +13,7 @@ pub five-calls-five-tiles : T (holds fiveCallsFiveTiles)
 unfolding holds
 five-calls-five-tiles = quick fiveCallsFiveTiles tt
 
--- ---- 3 a call's tile does not fit its kind
+-- ---- 3 a call's tile or source does not fit its kind
 pub sequence-from-eight : T (holds sequenceFromEight)
 unfolding holds
 sequence-from-eight = quick sequenceFromEight tt
@@ -21,6 +21,18 @@ sequence-from-eight = quick sequenceFromEight tt
 pub sequence-of-honors : T (holds sequenceOfHonors)
 unfolding holds
 sequence-of-honors = quick sequenceOfHonors tt
+
+pub sequence-from-right : T (holds sequenceFromRight)
+unfolding holds
+sequence-from-right = quick sequenceFromRight tt
+
+pub sequence-from-across : T (holds sequenceFromAcross)
+unfolding holds
+sequence-from-across = quick sequenceFromAcross tt
+
+pub closed-kan-from-left : T (holds closedKanFromLeft)
+unfolding holds
+closed-kan-from-left = quick closedKanFromLeft tt
 
 -- ---- 4 a count above four
 pub five-in-hand : T (holds fiveInHand)

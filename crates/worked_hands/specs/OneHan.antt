@@ -2,7 +2,7 @@
 -- nothing else is said. These are definitions.
 use mathlib.Core.List.{[], _∷_, _++_}
 use Rattle.tile.specs.Named.{man, pin, sou, East, South, West, North, White, Green, Red, mans, pins, sous}
-use Rattle.meld.specs.Named.{chi, pon, closedKan, openKan}
+use Rattle.meld.specs.Named.{chi, pon, closedKan, openKan, fromRight, fromAcross}
 use Rattle.context.specs.Named.{byRon, byTsumo, riichi, ippatsu, rinshan, chankan, lastTile, win, southWins, dealerWins, ron, tsumo}
 use Rattle.hand.specs.Named.{hand}
 use Rattle.yaku.specs.declared.names.Yaku.the-variants.{Riichi, Ippatsu, MenzenTsumo, Tanyao, Pinfu, Iipeikou, RinshanKaihou, Chankan, HaiteiRaoyue, HouteiRaoyui}
@@ -282,6 +282,17 @@ yakuhaiNorthTwice =
 abbrev pub yakuhaiWhite : Row
 yakuhaiWhite =
     scored (hand (mans 234 ++ pins 567 ++ sous 67899)) (pon White ∷ []) (ron (sou 8))
+    (yakuhaiName White ∷ []) 1 30 Normal (Ron 1000)
+
+-- the same from the player across, and from the one on the right
+abbrev pub yakuhaiWhiteAcross : Row
+yakuhaiWhiteAcross =
+    scored (hand (mans 234 ++ pins 567 ++ sous 67899)) (fromAcross (pon White) ∷ []) (ron (sou 8))
+    (yakuhaiName White ∷ []) 1 30 Normal (Ron 1000)
+
+abbrev pub yakuhaiWhiteRight : Row
+yakuhaiWhiteRight =
+    scored (hand (mans 234 ++ pins 567 ++ sous 67899)) (fromRight (pon White) ∷ []) (ron (sou 8))
     (yakuhaiName White ∷ []) 1 30 Normal (Ron 1000)
 
 -- Green, called

@@ -1,7 +1,7 @@
 -- What is turned down, and with which number. The winner is seat South in the round East, if nothing else is said. These are definitions.
 use mathlib.Core.List.{[], _∷_, _++_}
 use Rattle.tile.specs.Named.{man, sou, East, South, White, mans, pins, sous}
-use Rattle.meld.specs.Named.{chi, pon, closedKan}
+use Rattle.meld.specs.Named.{chi, pon, closedKan, fromRight, fromAcross, fromLeft}
 use Rattle.context.specs.Context.{inRoom}
 use Rattle.context.specs.Named.{byRon, riichi, win, southWins, ron, showing}
 use Rattle.hand.specs.Named.{hand}
@@ -19,7 +19,7 @@ abbrev pub fiveCallsFiveTiles : Row
 fiveCallsFiveTiles =
     won (hand (White ∷ White ∷ White ∷ White ∷ White ∷ [])) (chi (man 1) ∷ chi (man 1) ∷ chi (man 1) ∷ chi (man 1) ∷ chi (man 1) ∷ []) (ron White) [] (refuses 2)
 
--- ---- 3 a call's kind or tile is not that of a call
+-- ---- 3 a call's kind, tile or source is not that of a call
 -- a sequence that would start at 8
 abbrev pub sequenceFromEight : Row
 sequenceFromEight =
@@ -29,6 +29,20 @@ sequenceFromEight =
 abbrev pub sequenceOfHonors : Row
 sequenceOfHonors =
     won (hand (mans 55 ++ pins 456 ++ sous 234678)) (chi East ∷ []) (ron (sou 8)) [] (refuses 3)
+
+-- a sequence from another player than the one on the left
+abbrev pub sequenceFromRight : Row
+sequenceFromRight =
+    won (hand (mans 55 ++ pins 456 ++ sous 234678)) (fromRight (chi (man 7)) ∷ []) (ron (sou 8)) [] (refuses 3)
+
+abbrev pub sequenceFromAcross : Row
+sequenceFromAcross =
+    won (hand (mans 55 ++ pins 456 ++ sous 234678)) (fromAcross (chi (man 7)) ∷ []) (ron (sou 8)) [] (refuses 3)
+
+-- a closed kan that came from somebody
+abbrev pub closedKanFromLeft : Row
+closedKanFromLeft =
+    won (hand (mans 55 ++ pins 456 ++ sous 234678)) (fromLeft (closedKan White) ∷ []) (ron (sou 8)) [] (refuses 3)
 
 -- ---- 4 a count above four
 abbrev pub fiveInHand : Row

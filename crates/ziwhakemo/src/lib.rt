@@ -9,7 +9,7 @@ ghost use Rattle.win.specs.Win.{scoreWin, scoreReading, nameWaits};
 ghost use Rattle.answers.specs.Answers.{version, listingAnswer, levelAnswer, paymentValues, scoreValues, waitsValues};
 
 // The version of this interface.
-const VERSION: u32 = 5;
+const VERSION: u32 = 6;
 
 // The version of this interface, for a caller that was written for one.
 #[no_mangle]

@@ -10,7 +10,7 @@ use compare::agari_wins::AgariWin;
 use compare::answers;
 use compare::arguments;
 use compare::hand::Hand;
-use compare::library::{list_readings, score_win};
+use compare::library::{ALWAYS_ENOUGH, list_readings, score_win};
 use compare::oracle::Expected;
 use std::hint::black_box;
 use std::process::ExitCode;
@@ -19,9 +19,8 @@ const USAGE: &str = "usage: bench [readings | wins | dora | worst]
        bench profile readings|wins CASE N
 where CASE is mixture, several, flush, none or changing";
 const NUMBER: usize = 20_000;
-/// The buffer lent to the library; it is not cleared between hands.
-const LENT: usize = 1467;
 
+/// Lists into a buffer that is not cleared between hands.
 fn list(hand: &Hand, out: &mut [u8]) {
     black_box(list_readings(hand.counts(), hand.calls, black_box(out)));
 }
@@ -56,7 +55,7 @@ fn measure_readings() {
             .iter()
             .map(|hand| (hand.counts(), agari::called_melds(hand.called())))
             .collect();
-        let mut out = [0; LENT];
+        let mut out = [0; ALWAYS_ENOUGH];
         timing::compare(
             &theirs,
             |(counts, called)| {
@@ -113,7 +112,7 @@ fn profile(operation: &str, name: &str, times: usize) -> Option<()> {
     let case = CASES.iter().find(|case| case.name == name)?;
     let wins = case.wins(times.clamp(1, NUMBER));
     let wins = wins.iter().cycle().take(times);
-    let mut out = [0; LENT];
+    let mut out = [0; ALWAYS_ENOUGH];
     match operation {
         "readings" => wins.for_each(|won| list(&won.hand, &mut out)),
         "wins" => wins.for_each(score),

@@ -68,7 +68,7 @@ fn print_worst(name: &str, wins: &[Won]) {
     }
 }
 
-/// The tiles in the usual notation, the calls as their tile and kind, and how it was won.
+/// The tiles in the usual notation, the calls as their tile, kind and source, and how it was won.
 fn text(won: &Won) -> String {
     let mut text = String::new();
     for (first, letter) in [(0, 'm'), (9, 'p'), (18, 's'), (27, 'z')] {
@@ -82,7 +82,7 @@ fn text(won: &Won) -> String {
         }
     }
     for meld in won.hand.called() {
-        text += &format!(" (tile {} kind {})", meld.tile, meld.kind);
+        text += &format!(" {meld}");
     }
     let how = ["ron", "tsumo"][usize::from(won.win.win_type)];
     format!("{text}, {how} on tile {}", won.win.winning_tile)

@@ -1,4 +1,4 @@
--- `meld_at` meets its contract: its two bytes are those that the calls answer. Assumes nothing.
+-- `meld_at` meets its contract: its three bytes are those that the calls answer. Assumes nothing.
 use borrow.Author.Needs.{needs}
 use Rattle.records.proofs.meld_at.Statement.{statement}
 use Rattle.records.proofs.meld_at.Tie as tie
@@ -12,8 +12,14 @@ add-byte-at c = search needs
 byte-at-requires-2 : tie.Need-byte-at-requires-2
 byte-at-requires-2 c κs = search needs
 
+add-byte-at-2 : tie.Need-add-byte-at-2
+add-byte-at-2 c = search needs
+
+byte-at-requires-3 : tie.Need-byte-at-requires-3
+byte-at-requires-3 c κs = search needs
+
 returns : tie.Need-returns
-returns c = simp (c .before .byte-at .ensures, c .byte-at2 .ensures)
+returns c = simp (c .before .before .byte-at .ensures, c .before .byte-at2 .ensures, c .byte-at3 .ensures)
 
 pub meld-at-spec : {M : Type 1} → statement M
-meld-at-spec = tie.close (tie.spec byte-at-requires add-byte-at byte-at-requires-2 returns)
+meld-at-spec = tie.close (tie.spec byte-at-requires add-byte-at byte-at-requires-2 add-byte-at-2 byte-at-requires-3 returns)

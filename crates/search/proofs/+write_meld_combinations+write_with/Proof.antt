@@ -201,7 +201,7 @@ module _ (t : ℕ) where
           (
             r .ensures .fair,
             room-second (a .pair) (a .slots) (a .out .now) (a .at) (a .needed) (split (a .s)) (split (l .lowest .result)) (going l) (s .pre .1 .1 .1)
-                (k .result + 2) (left (split (r .result))) (put (k .result + 2) (a .slots)) refl
+                (k .result + 8) (left (split (r .result))) (put (k .result + 8) (a .slots)) refl
                 (sym (c .before .before .before .has-triplet .ensures) ∙ c .before .before .if4 .taken)
                 (r .ensures .same) (omega (arith, k .ensures)) (j .if3 .out) (j .if3 .pos) (first-wrote j),
           ),
@@ -228,8 +228,8 @@ module _ (t : ℕ) where
       let q = split (l .lowest .result) in
       wrote-all (a .pair) (a .slots) (a .out .now) (a .at) (a .needed) (split (a .s)) q (going l) (j .if3 .out) (d .last .1 .1 .1 .1 .1 .0) (j .if3 .pos)
       (d .result) (first-wrote j)
-      (wrote-part (a .pair) (a .slots) (j .if3 .out) (j .if3 .pos) (hasTriplet q) (a .needed - 1) (k .result + 2) (meld (q .tile) 2)
-      (left q) (left (split (r .result))) (put (k .result + 2) (a .slots)) (d .last .1 .1 .1 .1 .1 .0) (d .result)
+      (wrote-part (a .pair) (a .slots) (j .if3 .out) (j .if3 .pos) (hasTriplet q) (a .needed - 1) (k .result + 8) (meld (q .tile) 2)
+      (left q) (left (split (r .result))) (put (k .result + 8) (a .slots)) (d .last .1 .1 .1 .1 .1 .0) (d .result)
       (sym (h .ensures) ∙ c .before .before .before .if4 .taken) (r .ensures .same) (omega (arith, k .ensures)) refl (d .ensures .0) (d .ensures .1)
       (d .kept .1 .1 .1 .1 .1 .0))
 

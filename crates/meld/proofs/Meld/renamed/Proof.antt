@@ -27,8 +27,8 @@ is-sequence-requires c κs = search needs
 is-start-requires : tie.Need-is-start-requires
 is-start-requires c κs = search needs
 
-add-t10 : tie.Need-add-t10
-add-t10 c =
+add-at-tile : tie.Need-add-at-tile
+add-at-tile c =
     omega (arith, low (c .before .before .before .is-sequence .result) (c .before .before .is-start .result) (c .before .before .before .before .before .args .self .tile) (c .before .before .is-start .ensures) (c .before .if1 .taken))
 
 renamed-requires-2 : tie.Need-renamed-requires-2
@@ -37,15 +37,27 @@ renamed-requires-2 c κs = search needs
 lower-requires : tie.Need-lower-requires
 lower-requires c κs = search needs
 
+at-tile-requires : tie.Need-at-tile-requires
+at-tile-requires c κs = search needs
+
 returns : tie.Need-returns
 returns c =
-    let t = simp (c .before .before .before .before .before .is-sequence .ensures, c .before .before .before .before .is-start .ensures) at (c .before .before .before .if1 .taken) in
-    simp (t, c .lower .ensures, c .before .renamed2 .ensures, c .before .before .before .before .before .before .renamed .ensures)
+    let t = simp (c .before .before .before .before .before .before .is-sequence .ensures, c .before .before .before .before .before .is-start .ensures) at (c .before .before .before .before .if1 .taken) in
+    simp (
+      t,
+      c .at-tile .ensures,
+      c .before .lower .ensures,
+      c .before .before .renamed2 .ensures,
+      c .before .before .before .before .before .before .before .renamed .ensures,
+    )
+
+at-tile-requires-2 : tie.Need-at-tile-requires-2
+at-tile-requires-2 c κs = search needs
 
 returns-2 : tie.Need-returns-2
 returns-2 c =
-    let t = simp (c .before .before .is-sequence .ensures, c .before .is-start .ensures) at (c .if1 .left) in
-    simp (t, c .before .before .before .renamed .ensures)
+    let t = simp (c .before .before .before .is-sequence .ensures, c .before .before .is-start .ensures) at (c .before .if1 .left) in
+    simp (t, c .at-tile2 .ensures, c .before .before .before .before .renamed .ensures)
 
 pub renamed-spec : {M : Type 1} → statement M
 renamed-spec =
@@ -54,8 +66,10 @@ renamed-spec =
     renamed-requires
     is-sequence-requires
     is-start-requires
-    add-t10
+    add-at-tile
     renamed-requires-2
     lower-requires
+    at-tile-requires
     returns
+    at-tile-requires-2
     returns-2)

@@ -1,12 +1,13 @@
--- `play_exported::asked::same_records` is safe and ends. The measure is what is left of the readings; no place is beyond 67000, since a
+-- `play_exported::asked::same_records` is safe and ends. The measure is what is left of the readings; no place is beyond 70000, since a
 -- record begins within the buffer and its length is in two bytes. Assumes nothing.
 use Prim.Native.Nat.{_≤_, _-_}
 use borrow.Author.Needs.{needs}
+use Rattle.hand.specs.Records.{alwaysEnough}
 use Rattle.play_exported.proofs.asked.same_records.Statement.{statement}
 use Rattle.play_exported.proofs.asked.same_records.Tie as tie
 
 abbrev Inv-loop : tie.InvT-loop
-Inv-loop buf readings bytes at₀ n₀ at n = (n ≤ readings) × ((at ≤ 67000) × (bytes ≤ 1467))
+Inv-loop buf readings bytes at₀ n₀ at n = (n ≤ readings) × ((at ≤ 70000) × (bytes ≤ alwaysEnough))
 
 abbrev μ-loop : tie.MeasureT-loop
 μ-loop buf readings bytes at₀ n₀ at n = readings - n

@@ -1,0 +1,10 @@
+pub mod Readings
+pub mod Waits
+pub mod Fu
+pub mod Yaku
+pub mod Scored
+pub mod Checked
+pub mod Alike
+pub mod Lent
+pub mod Calls
+pub mod Examples
