@@ -11,11 +11,18 @@ fn byte_at(b: &[u8], i: usize) -> u8
     if i < b.len() { b[i] } else { 0 }
 }
 
-// The meld whose tile, kind and source stand at a place.
+// The meld whose tile, kind and source stand at a place. That all three are there is asked at once.
 fn meld_at(b: &[u8], i: usize) -> meld::Meld
     requires { ⌜ i ≤ 1000000 ⌝ }
     ensures { λ r. ⌜ r ≡ meldAt (now (b .entry)) i ⌝ }
 {
+    if i + 2 < b.len() {
+        return meld::Meld {
+            tile: b[i],
+            kind: b[i + 1],
+            source: b[i + 2],
+        };
+    }
     meld::Meld {
         tile: byte_at(b, i),
         kind: byte_at(b, i + 1),

@@ -124,13 +124,16 @@ fn put_call(slots: [u16; 4], m: meld::Meld, called: bool) -> [u16; 4]
     slots
 }
 
-// The calls in ascending order, in slots.
+// The calls in ascending order, in slots. Most often nothing is called.
 fn slots_of(k: checks::Calls) -> [u16; 4]
     requires { ⌜ k .count ≤ 4 ⌝ }
     ensures { λ r. ⌜ r ≡ slotsOf (called k) ⌝ }
 {
     let melds = k.melds;
     let count = k.count;
+    if count == 0 {
+        return [65535, 65535, 65535, 65535];
+    }
     let one = put_call([65535, 65535, 65535, 65535], melds[0], 0 < count);
     let two = put_call(one, melds[1], 1 < count);
     let three = put_call(two, melds[2], 2 < count);

@@ -22,12 +22,15 @@ fn is_open_call(m: meld::Meld, there: bool) -> bool
     there & m.is_open()
 }
 
-// Is some call made from another player?
+// Is some call made from another player? Most often nothing is called.
 pub fn is_opened(k: checks::Calls) -> bool
     ensures { λ r. ⌜ r ≡ isOpened k ⌝ }
 {
     let melds = k.melds;
     let count = k.count;
+    if count == 0 {
+        return false;
+    }
     is_open_call(melds[0], 0 < count)
         | (is_open_call(melds[1], 1 < count)
             | (is_open_call(melds[2], 2 < count) | is_open_call(melds[3], 3 < count)))

@@ -1,13 +1,19 @@
 -- `unit::slots_of` meets its contract. Assumes nothing.
 use mathlib.Core.Path.{sym, ap, _∙_}
+use Prim.Native.Nat.{ℕ}
 use lib.Dec.{ltb}
-use lib.ListN.{getD, length-map}
+use lib.ListN.{getD, length-map, take}
 use Rattle.meld.specs.Meld.{key, meld}
+use Rattle.search.specs.Slots.{putAll, slotsOf}
 use Rattle.unit.specs.FirstPass.{putCall}
 use Rattle.unit.proofs.Special.{slots-are}
 use borrow.Author.Needs.{needs}
 use Rattle.unit.proofs.slots_of.Statement.{statement}
 use Rattle.unit.proofs.slots_of.Tie as tie
+
+returns : tie.Need-returns
+unfolding slotsOf putAll
+returns c = sym (ap (λ (n : ℕ). slotsOf (take n (c .before .before .args .k .melds))) (c .if1 .taken))
 
 array-copy-out-put-call : tie.Need-array-copy-out-put-call
 array-copy-out-put-call c = search needs
@@ -33,9 +39,9 @@ array-copy-out-put-call-4 c = search needs
 put-call-requires-4 : tie.Need-put-call-requires-4
 put-call-requires-4 c κs = search needs
 
-returns : tie.Need-returns
-returns c =
-    let s = c .before .before .before .before .before .before .before .before .before in
+returns-2 : tie.Need-returns-2
+returns-2 c =
+    let s = c .before .before .before .before .before .before .before .before .before .before in
     let k = s .args .k in
     let long = sym (length-map (k .melds) _) ∙ s .good .0 .1 .1 .1 .0 .1 .0 .1 in
     c .put-call4 .ensures
@@ -50,6 +56,7 @@ pub slots-of-spec : {M : Type 1} → statement M
 slots-of-spec =
     tie.close
     (tie.spec
+    returns
     array-copy-out-put-call
     put-call-requires
     array-copy-out-put-call-2
@@ -58,4 +65,4 @@ slots-of-spec =
     put-call-requires-3
     array-copy-out-put-call-4
     put-call-requires-4
-    returns)
+    returns-2)

@@ -7,6 +7,9 @@ use borrow.Author.Needs.{needs}
 use Rattle.win.proofs.is_opened.Statement.{statement}
 use Rattle.win.proofs.is_opened.Tie as tie
 
+returns : tie.Need-returns
+returns c = simp (c .if1 .taken)
+
 array-copy-out-is-open-call : tie.Need-array-copy-out-is-open-call
 array-copy-out-is-open-call c = search needs
 
@@ -31,9 +34,9 @@ array-copy-out-is-open-call-4 c = search needs
 is-open-call-requires-4 : tie.Need-is-open-call-requires-4
 is-open-call-requires-4 c κs = search needs
 
-returns : tie.Need-returns
-returns c =
-    let s = c .before .before .before .before .before .before .before .before .before in
+returns-2 : tie.Need-returns-2
+returns-2 c =
+    let s = c .before .before .before .before .before .before .before .before .before .before in
     let k = s .args .k in
     let long = sym (length-map (k .melds) _) ∙ s .good .0 .1 .1 .1 .0 .1 .0 .1 in
     simp (
@@ -48,6 +51,7 @@ pub is-opened-spec : {M : Type 1} → statement M
 is-opened-spec =
     tie.close
     (tie.spec
+    returns
     array-copy-out-is-open-call
     is-open-call-requires
     array-copy-out-is-open-call-2
@@ -56,4 +60,4 @@ is-opened-spec =
     is-open-call-requires-3
     array-copy-out-is-open-call-4
     is-open-call-requires-4
-    returns)
+    returns-2)
