@@ -1,6 +1,6 @@
 -- Melds: questions about one meld, and the melds there are. Kinds: 0 closed sequence, 1 open sequence, 2 closed triplet,
--- 3 open triplet, 4 closed kan, 5 open kan, 6 added kan. The source is the player from whom the tile was called, in seats onward from the
--- one who called it: 1 the next to play, on the right; 2 the one across; 3 the one who plays before, on the left; 0 where no tile was called.
+-- 3 open triplet, 4 closed kan, 5 open kan, 6 added kan. The source (the papers' own word) is the player from whom the tile was called, in seats
+-- onward from the one who called it: 1 the next to play, on the right; 2 the one across; 3 the one who plays before, on the left; 0 where no tile was called.
 -- These are definitions.
 use mathlib.Core.Bool.{Bool, _&&_, _||_, not, cond}
 use mathlib.Core.List.{List, [], _∷_, _++_}
@@ -35,7 +35,8 @@ isOpen m = eqb (m .kind) 1 || (eqb (m .kind) 3 || (eqb (m .kind) 5 || eqb (m .ki
 abbrev pub isShaped : Meld → Bool
 isShaped m = ltb (m .kind) 7 && (ltb (m .tile) 34 && (leb 2 (m .kind) || isStart (m .tile)))
 
--- whom a tile of an open meld can come from: of a triplet or kan any of the three others, of a sequence the player before alone
+-- whom a tile of an open meld can come from, from how many seats onward at least, and 3 at most: of a triplet or kan any of the three others, of a
+-- sequence the player before alone
 abbrev pub nearest : Bool → ℕ
 nearest sequence = cond sequence 3 1
 
