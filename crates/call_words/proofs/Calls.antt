@@ -13,7 +13,7 @@ use Rattle.lists.proofs.Members.{all-intro}
 use Rattle.tile.specs.Tile.{tiles}
 use Rattle.tile.proofs.Tiles.{tile-lt}
 use Rattle.meld.specs.declared.Meld.{Meld}
-use Rattle.meld.specs.Meld.{isMeld, isCall, isOpen, meldFrom, meld, butSource, uses}
+use Rattle.meld.specs.Meld.{isMeld, isCall, isOpen, meld, butSource, uses}
 use Rattle.meld.proofs.Melds.{but-isMeld}
 use Rattle.hand.specs.Counts.{held}
 use Rattle.checks.proofs.Added.{uses-first}
@@ -27,10 +27,6 @@ use Rattle.call_words.proofs.Least.{made, lowest-own}
 -- a meld holds at most four of a tile
 few : (m : Meld) (t : ℕ) → uses m t ≤ 4
 few m t = let h = uses-first (m ∷ []) 1 t in omega arith
-
--- the meld as it is taken, by whether it is open
-pub left-is : (t k : ℕ) (b : Bool) → isOpen (meldFrom t k 0) ≡ b → meldFrom t k (cond b 3 0) ≡ meld t k
-left-is t k b e = ap (λ (o : Bool). meldFrom t k (cond o 3 0)) (sym e)
 
 -- a call but for its source is a call
 but-call : (m : Meld) → isCall m ≡ true → isCall (butSource m) ≡ true

@@ -2,7 +2,7 @@
 ghost use mathlib.Core.Path.{_≡_};
 ghost use Prim.Native.Nat.{_+_, _-_, min};
 ghost use lib.ListN.{getD, set};
-ghost use Rattle.meld.specs.Meld.{isOpen, fromSeat, meld};
+ghost use Rattle.meld.specs.Meld.{isOpen, meld};
 ghost use Rattle.call_words.specs.Calls.{madeOf, isKind, isAsked, IsLowest, IsCallOf, IsCallIn, withCall, withSource, canComeFrom};
 
 // A call that was looked for.
@@ -38,37 +38,11 @@ fn is_made_of(m: meld::Meld, counts: &[u8; 34]) -> bool
     good
 }
 
-// The meld with another source.
-fn from_seat(m: meld::Meld, source: u8) -> meld::Meld
-    ensures { λ r. ⌜ r ≡ fromSeat source m ⌝ }
-{
-    meld::Meld {
-        tile: m.tile,
-        kind: m.kind,
-        source: source,
-    }
-}
-
-// The meld of a tile and a kind: an open one from the left, from where each kind of them can come.
-fn from_left(tile: u8, kind: u8) -> meld::Meld
-    ensures { λ r. ⌜ r ≡ meld tile kind ⌝ }
-{
-    let closed = meld::Meld {
-        tile: tile,
-        kind: kind,
-        source: 0,
-    };
-    if closed.is_open() {
-        return from_seat(closed, 3);
-    }
-    closed
-}
-
 // The call of a kind that has exactly these tiles, from the left; nothing where there is none.
 fn call_of(counts: &[u8; 34], kind: u8) -> Found
     ensures { λ r. ⌜ IsCallOf (isKind kind) (now (counts .entry)) r ⌝ }
 {
-    let m = from_left(lowest(counts), kind);
+    let m = meld::Meld::from_left(lowest(counts), kind);
     if !m.is_call() {
         return Found::Nothing;
     }
@@ -167,7 +141,7 @@ pub fn can_come_from(k: checks::Calls, source: u8) -> bool
 {
     let melds = k.melds;
     let count = k.count;
-    let m = from_seat(at_place(melds, last_place(count)), source);
+    let m = at_place(melds, last_place(count)).from_seat(source);
     (4 < count) | m.is_sourced()
 }
 
@@ -180,6 +154,6 @@ pub fn with_source(k: checks::Calls, source: u8) -> checks::Calls
     let i = last_place(count);
     checks::Calls {
         count: count,
-        melds: kept(melds, i, from_seat(at_place(melds, i), source)),
+        melds: kept(melds, i, at_place(melds, i).from_seat(source)),
     }
 }

@@ -4,7 +4,7 @@
 // Any bytes may stand in it: is_valid says whether it is one.
 ghost use mathlib.Core.Path.{_≡_};
 ghost use Prim.Native.Nat.{min};
-ghost use Rattle.meld.specs.Meld.{isSequence, isTripletOrKan, isKan, isConcealed, isOpen, nearest, isSeat, isSourced, isMeld, isCall, key, runUses, setSize, uses, atTile};
+ghost use Rattle.meld.specs.Meld.{isSequence, isTripletOrKan, isKan, isConcealed, isOpen, nearest, isSeat, isSourced, isMeld, isCall, key, runUses, setSize, uses, atTile, fromSeat, meld};
 ghost use Rattle.meld.specs.Renamed.{renMeld};
 
 #[repr(C)]
@@ -119,6 +119,32 @@ impl Meld {
             kind: self.kind,
             source: self.source,
         }
+    }
+
+    // The meld of the same tile and kind from another seat.
+    pub fn from_seat(self, source: u8) -> Meld
+        ensures { λ r. ⌜ r ≡ fromSeat source self ⌝ }
+    {
+        Meld {
+            tile: self.tile,
+            kind: self.kind,
+            source: source,
+        }
+    }
+
+    // The meld of a tile and a kind: an open one from the player before, on the left, from whom each kind of them can come.
+    pub fn from_left(tile: u8, kind: u8) -> Meld
+        ensures { λ r. ⌜ r ≡ meld tile kind ⌝ }
+    {
+        let closed = Meld {
+            tile: tile,
+            kind: kind,
+            source: 0,
+        };
+        if closed.is_open() {
+            return closed.from_seat(3);
+        }
+        closed
     }
 }
 
