@@ -4,7 +4,8 @@
  *
  * It lists every reading of a finished hand, scores a win by the reading that pays most, scores any
  * reading by its number, names its waits, and gives level, basic points and payments. Dora are
- * counted by the indicators that come with a win. Each function is proved to answer as its
+ * counted by the indicators that come with a win. The game is that of four players; that of three
+ * has functions of its own (see "Three players"). Each function is proved to answer as its
  * definition says on every input: every call comes back, and malformed input gets a number (see
  * "Refusals") instead of a score. This file is not part of the proof; examples/c/boundary.c and the
  * tests in rust/ hold it to the library. ziwhakemo_names.h, which nobody has to use, has names to
@@ -70,8 +71,11 @@ extern "C" {
  *       bytes long instead of 13, so that ZIWHAKEMO_ALWAYS_ENOUGH is 1,915 instead of 1,467. Every
  *       caller has to be compiled again, and one with calls has to set it: an open meld with 0 is
  *       refused with 3. A caller that sets it gets the scores and waits of version 5.
+ *   7   Three players: ziwhakemo_three_list_readings, ziwhakemo_three_score_win,
+ *       ziwhakemo_three_score_reading, ziwhakemo_three_name_waits and ziwhakemo_three_payment. No
+ *       struct and no number changed, and the other functions answer as in version 6.
  */
-#define ZIWHAKEMO_VERSION 6
+#define ZIWHAKEMO_VERSION 7
 
 /* The version of the archive. An archive of version 1 does not have this function. */
 uint32_t ziwhakemo_version(void);
@@ -116,7 +120,8 @@ enum {
  * With seats from 0 to 3 in the order of play that is (from + 4 - caller) % 4. A closed meld, of kind
  * 0, 2 or 4, has the source 0. An open sequence has 3, as it is called from the left alone. Any other
  * open meld has 1, 2 or 3; an added kan keeps that of its triplet. A call with another source than
- * these is refused with 3.
+ * these is refused with 3. With three players the seat on the left has another number: see
+ * ZIWHAKEMO_THREE_FROM_LEFT.
  *
  * Two lists of calls that differ in sources alone, and both pass, have as many readings in as many
  * bytes; reading n of the one is reading n of the other but for the sources; and scores and waits are
@@ -195,25 +200,30 @@ typedef struct ziwhakemo_game_context {
  * An answer that may be a refusal begins with `number`: 0 where the call is accepted, else the first
  * that applies of those that stand beside the function, in the order in which they stand there. That
  * is the order of the numbers, but for 14, which comes after 8 and before 9. A refusal has its
- * number, and 0 in every other field.
+ * number, and 0 in every other field. What is refused with three players alone stands here behind
+ * "three:".
  */
 enum {
     ZIWHAKEMO_ACCEPTED = 0,
     ZIWHAKEMO_REFUSED_COUNTS_LENGTH = 1,    /* the counts are not 34 long */
     ZIWHAKEMO_REFUSED_TOO_MANY_CALLS = 2,   /* more than four calls */
-    ZIWHAKEMO_REFUSED_NOT_A_CALL = 3,       /* a call's kind, tile or source is not that of a call */
-    ZIWHAKEMO_REFUSED_COUNT_ABOVE_FOUR = 4, /* a count above 4 */
+    ZIWHAKEMO_REFUSED_NOT_A_CALL = 3,       /* a call's kind, tile or source is not that of a call;
+                                             * three: an open sequence, a call of man 2 to 8, and
+                                             * the source 3 too */
+    ZIWHAKEMO_REFUSED_COUNT_ABOVE_FOUR = 4, /* a count above 4; three: one of man 2 to 8 above 0 too */
     ZIWHAKEMO_REFUSED_FIVE_OF_A_KIND = 5,   /* hand and calls hold more than four of a kind */
     ZIWHAKEMO_REFUSED_NUMBER_OF_TILES = 6,  /* the hand's tiles are not 14 - 3 * calls */
     ZIWHAKEMO_REFUSED_BUFFER_TOO_SHORT = 7, /* the records need more bytes than were lent */
     ZIWHAKEMO_REFUSED_OUT_OF_RANGE = 8,     /* win type, a wind or double_wind_fu out of range */
-    ZIWHAKEMO_REFUSED_WINNING_TILE = 9,     /* the winning tile is above 33 or not in the hand */
+    ZIWHAKEMO_REFUSED_WINNING_TILE = 9,     /* the winning tile is above 33 or not in the hand, where
+                                             * man 2 to 8 never are with three players */
     ZIWHAKEMO_REFUSED_NO_READING = 10,      /* the hand has no reading */
     ZIWHAKEMO_REFUSED_NO_YAKU = 11,         /* no reading has a yaku */
     ZIWHAKEMO_REFUSED_NO_SUCH_READING = 12, /* there are not more readings than that number */
     ZIWHAKEMO_REFUSED_BASIC_POINTS = 13,    /* basic points above 152,000 */
     ZIWHAKEMO_REFUSED_INDICATORS = 14       /* an indicator is above 33, or there are more than ten
-                                             * of a sort; comes after 8 and before 9 */
+                                             * of a sort; three: there is any of either sort; comes
+                                             * after 8 and before 9 */
 };
 
 /* ---- Listing readings ---------------------------------------------------------------------------
@@ -292,12 +302,13 @@ uint32_t ziwhakemo_basic_points(uint8_t han, uint8_t fu, bool is_yakuman);
 enum {
     ZIWHAKEMO_SETTLEMENT_NONE = 0,         /* a refusal: nobody pays */
     ZIWHAKEMO_SETTLEMENT_RON = 1,          /* the discarder pays `from_discarder` */
-    ZIWHAKEMO_SETTLEMENT_DEALER_TSUMO = 2, /* each of the three others pays `from_non_dealer` */
-    ZIWHAKEMO_SETTLEMENT_TSUMO = 3         /* the dealer pays `from_dealer`, and each of the two
-                                            * others `from_non_dealer` */
+    ZIWHAKEMO_SETTLEMENT_DEALER_TSUMO = 2, /* each of the others pays `from_non_dealer`: three, and
+                                            * with three players two */
+    ZIWHAKEMO_SETTLEMENT_TSUMO = 3         /* the dealer pays `from_dealer`, and each of the others
+                                            * `from_non_dealer`: two, and with three players one */
 };
 
-/* Who pays what, at a table of four; 0 for who does not pay. */
+/* Who pays what; 0 for who does not pay. */
 typedef struct ziwhakemo_payment_answer {
     uint32_t number;          /* 0, or the refusal */
     uint32_t settlement;      /* one of the settlements above */
@@ -437,6 +448,87 @@ typedef struct ziwhakemo_waits_answer {
 ziwhakemo_waits_answer ziwhakemo_name_waits(const uint8_t *counts, size_t counts_length,
                                             const ziwhakemo_meld *calls, size_t calls_length,
                                             ziwhakemo_game_context win, size_t reading);
+
+/* ---- Three players ------------------------------------------------------------------------------
+ *
+ * The game of three players (sanma) has five functions of its own. Each takes and answers the same
+ * structs as the function without "three" in its name, refuses with the same numbers in the same
+ * order, and means the same by every field, but for what differs between the two games:
+ *
+ *                        four players                     three players
+ *   tiles                all 34                           man 2 to 8, of tile numbers 1 to 7, are
+ *                                                         absent
+ *   calls                chi, pon and kans                pon and kans, and none of an absent tile
+ *   source of a pon, of  1 the next player, 2 the one     1 the next player, 2 the one before; 3 is
+ *   an open or added kan across, 3 the one before         refused
+ *   source of a closed   0                                0
+ *   kan
+ *   indicators           up to ten of dora and of ura     none of either
+ *                        dora each
+ *   who pays by tsumo    three players                    two players
+ *   total of a dealer's  3 * from_non_dealer              2 * from_non_dealer
+ *   tsumo
+ *   total of another's   from_dealer +                    from_dealer + from_non_dealer
+ *   tsumo                2 * from_non_dealer
+ *   ron                  from_discarder                   from_discarder
+ *
+ * What each payer pays is the same in both games; a tsumo is worth less with three, as one payer is
+ * missing. The choice among the readings goes by the total of the game that is played. Yaku, fu, han,
+ * levels and basic points are those of four players, and `double_wind_fu` has to be set here too.
+ * North is a wind like the others, as round and as seat wind too, and no tile is set aside
+ * (nukidora): every tile that the winner holds is in the counts or in a call. ziwhakemo_score_level
+ * and ziwhakemo_basic_points are of both games.
+ *
+ * Nothing that is lent says which game is played: a win without man 2 to 8, chi, the source 3 and
+ * indicators is scored by the functions of both games, and by tsumo with different totals. A table
+ * has to call those of its own game.
+ */
+
+/* The sources of called melds with three players, in seats onward from the player who called, as with
+ * four: with seats from 0 to 2 in the order of play that is (from + 3 - caller) % 3. Nobody sits
+ * across, and the player on the left sits two seats onward and not three: ZIWHAKEMO_FROM_LEFT is 3 and
+ * is refused with 3 here, and ZIWHAKEMO_FROM_ACROSS is 2 and is taken for the player on the left. A
+ * closed kan has ZIWHAKEMO_FROM_NOBODY. */
+enum {
+    ZIWHAKEMO_THREE_FROM_RIGHT = 1, /* the next player, on the right: shimocha */
+    ZIWHAKEMO_THREE_FROM_LEFT = 2   /* the player before, on the left: kamicha */
+};
+
+/* Lists the readings of a finished hand into a lent buffer, as ziwhakemo_list_readings does. Refuses
+ * with 1 to 7: with 3 an open sequence, a call of man 2 to 8 and the source 3 too, with 4 a count
+ * above 0 of man 2 to 8 too. ZIWHAKEMO_ALWAYS_ENOUGH bytes are enough here too. */
+ziwhakemo_listing_answer ziwhakemo_three_list_readings(const uint8_t *counts, size_t counts_length,
+                                                       const ziwhakemo_meld *calls,
+                                                       size_t calls_length, uint8_t *out,
+                                                       size_t out_length);
+
+/* Scores a win by the reading with a yaku that pays most, as ziwhakemo_score_win does: the greatest
+ * total, here of two payers by tsumo, then a yakuman before none, then more han, then more fu, then
+ * the earlier record. `regular_dora` and `ura_dora` are 0. Refuses with 1 to 6, 8, 14, 9, 10, 11:
+ * with 3 and 4 as ziwhakemo_three_list_readings does, with 14 any indicator of either sort, whatever
+ * tile it is (a `count` above 0), with 9 a winning tile from man 2 to 8 too, as no hand holds it. */
+ziwhakemo_score_answer ziwhakemo_three_score_win(const uint8_t *counts, size_t counts_length,
+                                                 const ziwhakemo_meld *calls, size_t calls_length,
+                                                 ziwhakemo_game_context win);
+
+/* Scores the reading with a number, counted from 0 in the order of the records, with a yaku or
+ * without, as ziwhakemo_score_reading does: one without has 0 han. Refuses with 1 to 6, 8, 14, 9, 12,
+ * each as ziwhakemo_three_score_win does. */
+ziwhakemo_score_answer ziwhakemo_three_score_reading(const uint8_t *counts, size_t counts_length,
+                                                     const ziwhakemo_meld *calls,
+                                                     size_t calls_length,
+                                                     ziwhakemo_game_context win, size_t reading);
+
+/* Names the waits of the reading with a number, counted from 0, as ziwhakemo_name_waits does. Refuses
+ * with 1 to 6, 8, 14, 9, 12, each as ziwhakemo_three_score_win does. */
+ziwhakemo_waits_answer ziwhakemo_three_name_waits(const uint8_t *counts, size_t counts_length,
+                                                  const ziwhakemo_meld *calls, size_t calls_length,
+                                                  ziwhakemo_game_context win, size_t reading);
+
+/* The payment of basic points, by ZIWHAKEMO_RON or ZIWHAKEMO_TSUMO, as ziwhakemo_payment gives it, but
+ * that the total of a tsumo is of two payers. Refuses with 8 (the win type) and 13. */
+ziwhakemo_payment_answer ziwhakemo_three_payment(uint32_t basic_points, bool is_dealer,
+                                                 uint8_t win_type);
 
 /* ---- Layout -------------------------------------------------------------------------------------
  *

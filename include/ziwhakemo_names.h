@@ -111,7 +111,7 @@ static inline const char *ziwhakemo_number_meaning(uint32_t number) {
         "the counts are not 34 long",
         "more than four calls",
         "a call's kind, tile or source is not that of a call",
-        "a count above 4",
+        "a count above 4, or with three players one of man 2 to 8 above 0",
         "hand and calls together hold more than four of a kind",
         "hand tiles are not 14 - 3 x calls",
         "the records need more bytes than were lent",
@@ -121,7 +121,7 @@ static inline const char *ziwhakemo_number_meaning(uint32_t number) {
         "no reading has a yaku",
         "there are not more readings than that number",
         "basic points above 152,000",
-        "an indicator is above 33, or there are more than ten"
+        "an indicator is above 33, there are more than ten, or one with three players"
     };
     return number <= ZIWHAKEMO_REFUSED_INDICATORS ? meanings[number] : "?";
 }

@@ -1,10 +1,12 @@
 //! agari's side: its types from the table's numbers, and the records of its readings.
 
+use crate::game::Game;
 use crate::hand::*;
 use crate::library;
 use crate::probe;
 use agari_core::hand::{HandStructure, KanType, Meld};
 use agari_core::parse::TileCounts;
+use agari_core::rules::Rules;
 use agari_core::tile::{Honor, Suit, Tile};
 
 const SUITS: [Suit; 3] = [Suit::Man, Suit::Pin, Suit::Sou];
@@ -17,6 +19,14 @@ const HONORS: [Honor; 7] = [
     Honor::Green,
     Honor::Red,
 ];
+
+/// agari's rules of a game, with no local yaku.
+pub fn rules(game: Game) -> Rules {
+    match game {
+        Game::Four => Rules::default(),
+        Game::Three => Rules::sanma(),
+    }
+}
 
 /// agari's tile of a number below 34.
 pub fn tile(number: u8) -> Tile {

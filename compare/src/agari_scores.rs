@@ -3,6 +3,7 @@
 use crate::agari;
 use crate::answers;
 use crate::differences::payment_refusal;
+use crate::game::Game;
 use crate::hand::*;
 use crate::library::{Indicators, Level, PaymentAnswer, RON, Score, WAITS, Win, YAKU};
 use crate::oracle;
@@ -84,22 +85,34 @@ pub struct ReadHand {
     /// The readings beside agari's, ascending by record, each once.
     pub readings: Vec<(Reading, HandStructure)>,
     agari_counts: TileCounts,
+    game: Game,
 }
 
 impl ReadHand {
+    /// A hand of four players.
     pub fn of(hand: &Hand) -> ReadHand {
+        ReadHand::in_game(Game::Four, hand)
+    }
+
+    pub fn in_game(game: Game, hand: &Hand) -> ReadHand {
         let counts = hand.with_calls().map(|count| count as u8);
         ReadHand {
             counts,
             is_open: hand.is_open(),
             readings: readings(hand),
             agari_counts: agari::tile_counts(&counts),
+            game,
         }
+    }
+
+    /// agari's circumstances of a win, under the rules of the game.
+    fn context(&self, win: &Win) -> GameContext {
+        context(win, self.is_open).with_rules(agari::rules(self.game))
     }
 
     /// agari's score of one of the readings, before points and without dora.
     pub fn score(&self, reading: &HandStructure, win: &Win) -> ReadingScore {
-        let context = context(win, self.is_open);
+        let context = self.context(win);
         let yaku = answers::yaku(reading, &self.agari_counts, &context);
         ReadingScore {
             tallies: yaku_tallies(&yaku.yaku_list),
@@ -119,7 +132,7 @@ impl ReadHand {
     }
 
     fn whole_score(&self, number: usize, reading: &HandStructure, win: &Win) -> Score {
-        let context = context(win, self.is_open);
+        let context = self.context(win);
         let yaku = answers::yaku(reading, &self.agari_counts, &context);
         let result = answers::score(reading, &yaku, &context, win.double_wind_fu);
         let level = level_numbers(result.score_level);
@@ -146,7 +159,7 @@ impl ReadHand {
 
     /// agari's fu of each reading.
     pub fn fu(&self, win: &Win) -> Vec<u8> {
-        let context = context(win, self.is_open);
+        let context = self.context(win);
         let readings = self.readings.iter();
         readings
             .map(|(_, reading)| answers::fu(reading, &context, win.double_wind_fu).total)
@@ -179,8 +192,8 @@ fn readings(hand: &Hand) -> Vec<(Reading, HandStructure)> {
         .collect()
 }
 
-/// agari's circumstances of a win that passes the checks, its indicators among them. The room's setting is
-/// none of them.
+/// agari's circumstances of a win that passes the checks, its indicators among them, under its default rules.
+/// The room's setting is none of them.
 pub fn context(win: &Win, is_open: bool) -> GameContext {
     let round_wind = agari::honor(win.round_wind);
     let seat_wind = agari::honor(win.seat_wind);
@@ -253,16 +266,40 @@ pub fn basic_points(han: u8, fu: u8, is_yakuman: bool) -> u32 {
     answers::basic_points(han, fu, is_yakuman)
 }
 
-/// agari's payment, or the refusal as the scope paper lists them.
+/// agari's payment between four players, or the refusal as the scope paper lists them.
 pub fn payment(basic_points: u32, is_dealer: bool, win_type: u8) -> PaymentAnswer {
+    payment_in_game(Game::Four, basic_points, is_dealer, win_type)
+}
+
+/// agari's payment in a game, or the refusal, which is the same in both.
+pub fn payment_in_game(
+    game: Game,
+    basic_points: u32,
+    is_dealer: bool,
+    win_type: u8,
+) -> PaymentAnswer {
     match payment_refusal(basic_points, win_type) {
         Some(number) => refused(number),
         None => paid(&answers::payment(
             basic_points,
             is_dealer,
             self::win_type(win_type),
+            &agari::rules(game),
         )),
     }
+}
+
+/// Basic points and agari's own payment of them in a game, of a reading whose yaku are said to have so many han.
+pub fn payment_of_han(
+    game: Game,
+    reading: &HandStructure,
+    (han, is_yakuman): (u8, bool),
+    win: &Win,
+    is_open: bool,
+) -> (u32, PaymentAnswer) {
+    let context = context(win, is_open).with_rules(agari::rules(game));
+    let (points, payment) = answers::payment_of_han(reading, han, is_yakuman, &context);
+    (points, paid(&payment))
 }
 
 /// The settlement by who pays in agari's payment.

@@ -5,6 +5,7 @@ use crate::agari;
 use crate::agari_scores;
 use crate::answers;
 use crate::differences;
+use crate::game::Game;
 use crate::hand::*;
 use crate::library::Win;
 use agari_core::context::GameContext;
@@ -23,14 +24,19 @@ pub struct AgariWin {
 }
 
 impl AgariWin {
+    /// A win of four players.
     pub fn of(hand: &Hand, win: &Win) -> AgariWin {
+        AgariWin::in_game(Game::Four, hand, win)
+    }
+
+    pub fn in_game(game: Game, hand: &Hand, win: &Win) -> AgariWin {
         let mut counts = [0; KINDS];
         counts.copy_from_slice(hand.counts());
         AgariWin {
             counts,
             with_calls: hand.with_calls().map(|count| count as u8),
             called: agari::called_melds(hand.called()),
-            context: agari_scores::context(win, hand.is_open()),
+            context: agari_scores::context(win, hand.is_open()).with_rules(agari::rules(game)),
             setting: win.double_wind_fu,
         }
     }

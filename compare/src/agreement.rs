@@ -2,9 +2,9 @@
 //! scores and payments the same.
 
 use crate::agari::Record;
-use crate::differences::bad_indicators;
+use crate::game::Game;
 use crate::hand::{Hand, KINDS};
-use crate::library::{self, Listing, Score, Waits, Win, YAKU};
+use crate::library::{Listing, Operations, Score, Waits, Win, YAKU};
 use crate::oracle::{self, TOO_SHORT};
 use crate::renaming::Renaming;
 use crate::rng::Rng;
@@ -67,20 +67,20 @@ struct Answers {
 }
 
 impl Answers {
-    /// The library's answers to a win, for so many numbers of readings.
-    fn of_library(hand: &Hand, win: &Win, readings: usize) -> Answers {
+    /// The answers of these operations to a win, for so many numbers of readings.
+    fn of_library(asked: &Operations, hand: &Hand, win: &Win, readings: usize) -> Answers {
         let (counts, calls) = (hand.counts(), hand.calls);
-        let score = |number| library::score_reading(counts, calls, *win, number);
-        let waits = |number| library::name_waits(counts, calls, *win, number);
+        let score = |number| (asked.score_reading)(counts, calls, *win, number);
+        let waits = |number| (asked.name_waits)(counts, calls, *win, number);
         Answers {
-            win: library::score_win(counts, calls, *win),
+            win: (asked.score_win)(counts, calls, *win),
             readings: (0..readings).map(|k| (score(k), waits(k))).collect(),
         }
     }
 
-    /// agari's, with the choice that the scope paper adds.
-    fn of_agari(hand: &Hand, win: &Win, readings: usize) -> Answers {
-        let expected = ExpectedWin::of(hand, win);
+    /// agari's in a game, with the choice that the scope paper adds.
+    fn of_agari(game: Game, hand: &Hand, win: &Win, readings: usize) -> Answers {
+        let expected = ExpectedWin::in_game(game, hand, win);
         let reading = |k| (expected.score_reading(k), expected.name_waits(k));
         Answers {
             win: expected.score_win(),
@@ -136,8 +136,10 @@ fn settled(score: &Score) -> Score {
     }
 }
 
-/// Two wins, the second of which is the first renamed.
+/// Two wins of one game, the second of which is the first renamed.
 pub struct Twins {
+    pub game: Game,
+    pub operations: Operations,
     pub hands: [Hand; 2],
     pub wins: [Win; 2],
     pub renaming: Renaming,
@@ -164,11 +166,18 @@ impl Outcome {
 }
 
 impl Twins {
-    /// A win that passes the checks or is refused with 14, beside its renamed one, each with its own noise
-    /// in what must not matter.
+    /// A win of four players that passes the checks or is refused with 14, beside its renamed one, each with
+    /// its own noise in what must not matter.
     pub fn new(rng: &mut Rng, hand: &Hand, win: &Win, renaming: Renaming) -> Twins {
-        let is_bad = bad_indicators(win).contains(&true);
+        Twins::in_game(Game::Four, rng, hand, win, renaming)
+    }
+
+    /// Likewise of a game, under a renaming that keeps its tiles.
+    pub fn in_game(game: Game, rng: &mut Rng, hand: &Hand, win: &Win, renaming: Renaming) -> Twins {
+        let [_, is_bad, _] = game.win_faults(hand, win);
         Twins {
+            game,
+            operations: game.operations(),
             hands: [*hand, renaming.hand(hand)].map(|hand| hand.with_noise(rng)),
             wins: [*win, renaming.win(win)].map(|win| win.with_noise(rng)),
             renaming,
@@ -190,8 +199,12 @@ impl Twins {
         let (listing, places, whole) = self.listings(old);
         let lent = rng.below(listing.bytes + 1);
         let (shorter, _, part) = self.listings(&old[..lent]);
-        let library = self.answers(Answers::of_library, places.len());
-        let agari = self.answers(Answers::of_agari, places.len());
+        let library = self.answers(places.len(), |hand, win, readings| {
+            Answers::of_library(&self.operations, hand, win, readings)
+        });
+        let agari = self.answers(places.len(), |hand, win, readings| {
+            Answers::of_agari(self.game, hand, win, readings)
+        });
         let [waits, scores, win] = self.agree(&library, &places);
         let [agari_waits, agari_scores, agari_win] = self.agree(&agari, &places);
         Outcome {
@@ -212,8 +225,8 @@ impl Twins {
     /// The answers to both wins, for their readings and for the number past the last.
     fn answers(
         &self,
-        ask: impl Fn(&Hand, &Win, usize) -> Answers,
         readings: usize,
+        ask: impl Fn(&Hand, &Win, usize) -> Answers,
     ) -> [Answers; 2] {
         [0, 1].map(|win| ask(&self.hands[win], &self.wins[win], readings + 1))
     }
@@ -234,7 +247,7 @@ impl Twins {
     /// its readings, renamed, among the second's, and whether the second is as it has to be: the same
     /// numbers, these readings' records alone, ascending, each once, and behind them the old bytes.
     fn listings(&self, old: &[u8]) -> (Listing, Vec<usize>, bool) {
-        let [(one, first), (other, second)] = self.hands.map(|hand| list(&hand, old));
+        let [(one, first), (other, second)] = self.hands.map(|hand| self.list(&hand, old));
         let read = records(&first[..one.bytes]);
         let mut renamed: Vec<Record> = read
             .iter()
@@ -249,13 +262,13 @@ impl Twins {
         let counted = one == other && one.readings == places.len();
         (one, places, counted && once && second == want)
     }
-}
 
-/// The answer to a listing into a buffer of these bytes, and the buffer behind it.
-fn list(hand: &Hand, old: &[u8]) -> (Listing, Vec<u8>) {
-    let mut buffer = old.to_vec();
-    let listing = library::list_readings(hand.counts(), hand.calls, &mut buffer);
-    (listing, buffer)
+    /// The answer to a listing into a buffer of these bytes, and the buffer behind it.
+    fn list(&self, hand: &Hand, old: &[u8]) -> (Listing, Vec<u8>) {
+        let mut buffer = old.to_vec();
+        let listing = (self.operations.list_readings)(hand.counts(), hand.calls, &mut buffer);
+        (listing, buffer)
+    }
 }
 
 /// Records that stand one behind the other.

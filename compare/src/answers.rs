@@ -5,6 +5,7 @@ use crate::differences;
 use agari_core::context::{GameContext, WinType};
 use agari_core::hand::{HandStructure, Meld, decompose_hand, decompose_hand_with_melds};
 use agari_core::parse::{ParsedHand, TileCounts, parse_hand_with_aka};
+use agari_core::rules::Rules;
 use agari_core::scoring::{
     FuResult, Payment, ScoreLevel, ScoringResult, calculate_basic_points, calculate_fu,
     calculate_payment, calculate_score, determine_score_level,
@@ -64,14 +65,50 @@ pub fn basic_points(han: u8, fu: u8, is_yakuman: bool) -> u32 {
     differences::basic_points(theirs, han, fu, is_yakuman)
 }
 
-/// The payment of basic points.
-pub fn payment(basic_points: u32, is_dealer: bool, win_type: WinType) -> Payment {
-    let theirs = calculate_payment(basic_points, is_dealer, win_type);
+/// The payment of basic points under these rules.
+pub fn payment(basic_points: u32, is_dealer: bool, win_type: WinType, rules: &Rules) -> Payment {
+    let theirs = at_table(basic_points, is_dealer, win_type, rules);
     differences::payment(theirs, basic_points, is_dealer, win_type)
 }
 
-/// The whole score of a reading in a room with this setting: agari's own, and where other fu or other
-/// basic points count here, what agari makes of these.
+/// The payment of any basic points at the table of these rules. agari tells it for four players alone, and
+/// for three inside `calculate_score`: what each pays is the same there, and one who is no dealer is not
+/// there to pay. A test holds it to `calculate_score`.
+fn at_table(basic_points: u32, is_dealer: bool, win_type: WinType, rules: &Rules) -> Payment {
+    let four = calculate_payment(basic_points, is_dealer, win_type);
+    let not_there = 4 - rules.players();
+    Payment {
+        total: four.total - not_there * four.from_non_dealer.unwrap_or(0),
+        ..four
+    }
+}
+
+/// Basic points and agari's own payment of them in a whole score, of a reading whose yaku are said to have so
+/// many han: the way to ask agari itself for payments at a table of three.
+pub fn payment_of_han(
+    reading: &HandStructure,
+    han: u8,
+    is_yakuman: bool,
+    context: &GameContext,
+) -> (u32, Payment) {
+    let yaku = YakuResult {
+        yaku_list: Vec::new(),
+        total_han: han,
+        dora_count: 0,
+        regular_dora: 0,
+        ura_dora: 0,
+        aka_dora: 0,
+        is_yakuman,
+        nuki_dora: 0,
+    };
+    let score = calculate_score(reading, &yaku, context);
+    let (points, is_dealer) = (score.basic_points, score.is_dealer);
+    let payment = differences::payment(score.payment, points, is_dealer, context.win_type);
+    (points, payment)
+}
+
+/// The whole score of a reading under the context's rules, in a room with this setting: agari's own, and
+/// where other fu or other basic points count here, what agari makes of these.
 pub fn score(
     reading: &HandStructure,
     yaku: &YakuResult,
@@ -81,10 +118,10 @@ pub fn score(
     let theirs = calculate_score(reading, yaku, context);
     let (han, is_yakuman, win_type) = (theirs.han, yaku.is_yakuman, context.win_type);
     let fu = differences::fu(theirs.fu.clone(), reading, context, setting);
-    let score = with_fu(theirs, fu, is_yakuman, win_type);
+    let score = with_fu(theirs, fu, is_yakuman, context);
     let fu = score.fu.total;
     let points = differences::basic_points(score.basic_points, han, fu, is_yakuman);
-    let mut score = with_points(score, points, win_type);
+    let mut score = with_points(score, points, context);
     score.score_level = differences::level(score.score_level, han, fu, is_yakuman);
     score.is_counted_yakuman = matches!(score.score_level, ScoreLevel::Yakuman(_)) && !is_yakuman;
     score.payment = differences::payment(score.payment, points, score.is_dealer, win_type);
@@ -96,7 +133,7 @@ fn with_fu(
     mut score: ScoringResult,
     fu: FuResult,
     is_yakuman: bool,
-    win_type: WinType,
+    context: &GameContext,
 ) -> ScoringResult {
     let (han, total) = (score.han, fu.total);
     let is_same = total == score.fu.total;
@@ -106,14 +143,14 @@ fn with_fu(
     }
     score.score_level = determine_score_level(han, total, is_yakuman);
     let points = calculate_basic_points(han, total, is_yakuman);
-    with_points(score, points, win_type)
+    with_points(score, points, context)
 }
 
 /// A score with these basic points.
-fn with_points(mut score: ScoringResult, points: u32, win_type: WinType) -> ScoringResult {
+fn with_points(mut score: ScoringResult, points: u32, context: &GameContext) -> ScoringResult {
     if points != score.basic_points {
         score.basic_points = points;
-        score.payment = calculate_payment(points, score.is_dealer, win_type);
+        score.payment = at_table(points, score.is_dealer, context.win_type, &context.rules);
     }
     score
 }
@@ -123,6 +160,7 @@ mod tests {
     use super::*;
     use crate::agari;
     use crate::agari_scores::context;
+    use crate::game::Game;
     use crate::random;
     use crate::rng::Rng;
     use crate::wins;
@@ -160,7 +198,9 @@ mod tests {
         for _ in 0..2000 {
             let hand = wins::hand(&mut rng);
             let tile = random::held_tile(&mut rng, &hand) as u8;
+            let game = rng.pick(&[Game::Four, Game::Three]);
             let context = context(&wins::win(&mut rng, &hand, tile), hand.is_open());
+            let context = context.with_rules(agari::rules(game));
             let all = agari::tile_counts(&hand.with_calls().map(|count| count as u8));
             let counts = agari::tile_counts(hand.counts());
             let (_, reading) = &readings(&counts, &agari::called_melds(hand.called()))[0];
@@ -172,15 +212,15 @@ mod tests {
                 total: fu + 10,
                 ..theirs.fu.clone()
             };
-            let other = with_fu(theirs.clone(), more, is_yakuman, win_type);
+            let other = with_fu(theirs.clone(), more, is_yakuman, &context);
             let level = determine_score_level(theirs.han, fu + 10, is_yakuman);
             let points = calculate_basic_points(theirs.han, fu + 10, is_yakuman);
-            let payment = calculate_payment(points, context.is_dealer(), win_type);
+            let payment = at_table(points, context.is_dealer(), win_type, &context.rules);
             assert_eq!((other.fu.total, other.score_level), (fu + 10, level));
             assert_eq!(other.basic_points, points);
             assert_eq!(format!("{:?}", other.payment), format!("{payment:?}"));
 
-            let back = with_fu(other, theirs.fu.clone(), is_yakuman, win_type);
+            let back = with_fu(other, theirs.fu.clone(), is_yakuman, &context);
             assert_eq!(format!("{back:?}"), format!("{theirs:?}"));
         }
     }

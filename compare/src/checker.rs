@@ -1,7 +1,8 @@
 //! One hand on both sides.
 
+use crate::game::Game;
 use crate::hand::Hand;
-use crate::library::{self, ALWAYS_ENOUGH};
+use crate::library::{ALWAYS_ENOUGH, Operations};
 use crate::oracle::Expected;
 use crate::rng::Rng;
 use crate::tally::Tally;
@@ -16,6 +17,8 @@ const PRINTED: u64 = 5;
 
 /// Compares hands, and counts what it saw.
 pub struct Checker {
+    game: Game,
+    operations: Operations,
     rng: Rng,
     /// Random bytes, of which the buffers are filled from a changing place.
     pattern: Vec<u8>,
@@ -25,10 +28,18 @@ pub struct Checker {
 }
 
 impl Checker {
+    /// Compares hands of four players.
     pub fn new(seed: u64) -> Checker {
+        Checker::in_game(Game::Four, Game::Four.operations(), seed)
+    }
+
+    /// Compares hands of a game with what these operations answer.
+    pub fn in_game(game: Game, operations: Operations, seed: u64) -> Checker {
         let mut rng = Rng::new(seed);
         let pattern = (0..2 * WHOLE).map(|_| rng.byte()).collect();
         Checker {
+            game,
+            operations,
             rng,
             pattern,
             got: [0; WHOLE],
@@ -44,7 +55,7 @@ impl Checker {
 
     /// Compares a hand twice: with a buffer that is long enough, and with one that may be too short.
     pub fn check(&mut self, hand: &Hand) {
-        let expected = Expected::of(hand);
+        let expected = Expected::in_game(self.game, hand);
         self.tally.count_hand(&expected);
         let need = expected.records.len();
         let enough = self.enough(need);
@@ -77,7 +88,7 @@ impl Checker {
         let want = expected.listing(lent);
         let given = hand.with_noise(&mut self.rng);
         let buffer = &mut self.got[MARGIN..][..lent];
-        let got = library::list_readings(given.counts(), given.calls, buffer);
+        let got = (self.operations.list_readings)(given.counts(), given.calls, buffer);
 
         self.tally.count_answer(&want);
         if got != want || self.got != self.want {

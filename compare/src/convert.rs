@@ -387,9 +387,10 @@ mod tests {
             assert_eq!(to_agari::score_level(turned), level);
             assert_eq!((turned.name(), text(turned)), (level.name(), text(level)));
         }
+        let rules = theirs::Rules::default();
         for win_type in [theirs::WinType::Ron, theirs::WinType::Tsumo] {
             for is_dealer in [false, true] {
-                let payment = answers::payment(1920, is_dealer, win_type);
+                let payment = answers::payment(1920, is_dealer, win_type, &rules);
                 let turned = to_ziwhakemo::payment(&payment);
                 let by_library = to_ziwhakemo::win_type(win_type);
                 let by_library = ours::calculate_payment(1920, is_dealer, by_library);

@@ -34,7 +34,8 @@ pub fn with_faults(rng: &mut Rng, earlier: usize, later: usize) -> Hand {
     hand
 }
 
-fn put_in(rng: &mut Rng, hand: &mut Hand, fault: usize) {
+/// Puts a fault of this number in. For 3 and 5 the hand needs a call.
+pub fn put_in(rng: &mut Rng, hand: &mut Hand, fault: usize) {
     match fault {
         1 => wrong_length(rng, hand),
         2 => too_many_calls(rng, hand),

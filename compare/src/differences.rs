@@ -9,6 +9,8 @@
 //! through here, once. The oracles, the makers of stored samples, the benchmark and the shadow run ask
 //! `answers.rs`; a test there reads the sources for it.
 //!
+//! Why a win of three players is refused stands in `three_checks.rs`, sentence by sentence of their request.
+//!
 //! Three rows lie in how agari is asked: row 'Keys with count 0' in `agari::tile_counts`, rows 'Whether
 //! the hand is open' and 'No winning tile' in `agari_scores::context`. One lies in the records of its
 //! readings: row 'Who the tile came from' in `oracle::readings`.

@@ -5,8 +5,10 @@ use crate::library::Meld;
 
 /// The counts of one suit's nine numbers.
 pub type SuitCounts = [u8; 9];
-/// The counts of the seven honours.
-pub type HonourCounts = [u8; 7];
+/// The seven honours.
+pub const HONOURS: [usize; 7] = [27, 28, 29, 30, 31, 32, 33];
+/// The tiles beside pin and sou of three players: man 1, man 9 and the honours.
+pub const BESIDE_OF_THREE: [usize; 9] = [0, 8, 27, 28, 29, 30, 31, 32, 33];
 
 /// All counts of one suit, none above four, that hold so many tiles.
 pub fn suit_counts(tiles: u8) -> Vec<SuitCounts> {
@@ -29,43 +31,50 @@ fn extend_suit(counts: SuitCounts, number: usize, left: u8, found: &mut Vec<Suit
     }
 }
 
-/// All counts of the honours made of so many pairs and so many triplets.
-pub fn honour_counts(pairs: usize, triplets: usize) -> Vec<HonourCounts> {
+/// All counts of so many kinds of tiles made of so many pairs and so many triplets.
+pub fn beside_counts<const N: usize>(pairs: usize, triplets: usize) -> Vec<[u8; N]> {
     let mut found = Vec::new();
-    extend_honours([0; 7], 0, pairs, triplets, &mut found);
+    extend_beside([0; N], 0, pairs, triplets, &mut found);
     found
 }
 
-fn extend_honours(
-    counts: HonourCounts,
-    honour: usize,
+fn extend_beside<const N: usize>(
+    counts: [u8; N],
+    kind: usize,
     pairs: usize,
     triplets: usize,
-    found: &mut Vec<HonourCounts>,
+    found: &mut Vec<[u8; N]>,
 ) {
-    if honour == 7 {
+    if kind == N {
         if pairs == 0 && triplets == 0 {
             found.push(counts);
         }
         return;
     }
-    extend_honours(counts, honour + 1, pairs, triplets, found);
+    extend_beside(counts, kind + 1, pairs, triplets, found);
     let mut next = counts;
     if pairs > 0 {
-        next[honour] = 2;
-        extend_honours(next, honour + 1, pairs - 1, triplets, found);
+        next[kind] = 2;
+        extend_beside(next, kind + 1, pairs - 1, triplets, found);
     }
     if triplets > 0 {
-        next[honour] = 3;
-        extend_honours(next, honour + 1, pairs, triplets - 1, found);
+        next[kind] = 3;
+        extend_beside(next, kind + 1, pairs, triplets - 1, found);
     }
 }
 
-/// The hand of these numbers of a suit and these honours, with no call.
-pub fn hand_of(suit: usize, numbers: &SuitCounts, honours: &HonourCounts) -> Hand {
+/// The hand of these numbers of a suit, with no call.
+pub fn hand_of(suit: usize, numbers: &SuitCounts) -> Hand {
     let mut hand = Hand::empty();
     hand.counts[9 * suit..][..9].copy_from_slice(numbers);
-    hand.counts[27..KINDS].copy_from_slice(honours);
+    hand
+}
+
+/// The same hand with these counts of other tiles.
+pub fn with_beside<const N: usize>(mut hand: Hand, tiles: &[usize; N], counts: &[u8; N]) -> Hand {
+    for (&tile, &count) in tiles.iter().zip(counts) {
+        hand.counts[tile] = count;
+    }
     hand
 }
 
@@ -85,6 +94,27 @@ pub fn calls_outside(suit: usize, calls: usize) -> Vec<Vec<Meld>> {
         Meld::new(upper + 4, CLOSED_KAN),
         Meld::new(upper + 1, OPEN_SEQUENCE),
         Meld::new(lower + 8, OPEN_TRIPLET),
+    ];
+    [ascending, descending]
+        .map(|list| list[..calls].to_vec())
+        .to_vec()
+}
+
+/// Likewise of three players: no sequence, no absent tile, and nothing from the left; man 1, man 9 and North
+/// among them.
+pub fn three_calls_outside(suit: usize, calls: usize) -> Vec<Vec<Meld>> {
+    let (lower, upper) = [(9, 18), (0, 18), (0, 9)][suit];
+    let ascending = [
+        Meld::new(lower, OPEN_TRIPLET).with_source(ACROSS),
+        Meld::new(lower + 8, CLOSED_KAN),
+        Meld::new(upper + 4, OPEN_KAN).with_source(RIGHT),
+        Meld::new(30, ADDED_KAN).with_source(RIGHT),
+    ];
+    let descending = [
+        Meld::new(33, OPEN_KAN).with_source(RIGHT),
+        Meld::new(30, OPEN_TRIPLET).with_source(ACROSS),
+        Meld::new(upper, CLOSED_KAN),
+        Meld::new(lower + 8, OPEN_TRIPLET).with_source(RIGHT),
     ];
     [ascending, descending]
         .map(|list| list[..calls].to_vec())

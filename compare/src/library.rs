@@ -4,7 +4,7 @@ use crate::hand::KINDS;
 use crate::rng::Rng;
 
 /// The version of the interface that is declared here.
-pub const VERSION: u32 = 6;
+pub const VERSION: u32 = 7;
 
 /// The number of yaku tallies: one for each entry of `Yaku`, Yakuhai apart for each honour, without
 /// the three local entries.
@@ -331,6 +331,38 @@ unsafe extern "C" {
     fn ziwhakemo_score_level(han: u8, fu: u8, is_yakuman: bool) -> Level;
     fn ziwhakemo_basic_points(han: u8, fu: u8, is_yakuman: bool) -> u32;
     fn ziwhakemo_payment(basic_points: u32, is_dealer: bool, win_type: u8) -> PaymentAnswer;
+    fn ziwhakemo_three_list_readings(
+        counts: *const u8,
+        counts_len: usize,
+        calls: *const Meld,
+        calls_len: usize,
+        out: *mut u8,
+        out_len: usize,
+    ) -> Listing;
+    fn ziwhakemo_three_score_win(
+        counts: *const u8,
+        counts_len: usize,
+        calls: *const Meld,
+        calls_len: usize,
+        win: Win,
+    ) -> Score;
+    fn ziwhakemo_three_score_reading(
+        counts: *const u8,
+        counts_len: usize,
+        calls: *const Meld,
+        calls_len: usize,
+        win: Win,
+        number: usize,
+    ) -> Score;
+    fn ziwhakemo_three_name_waits(
+        counts: *const u8,
+        counts_len: usize,
+        calls: *const Meld,
+        calls_len: usize,
+        win: Win,
+        number: usize,
+    ) -> Waits;
+    fn ziwhakemo_three_payment(basic_points: u32, is_dealer: bool, win_type: u8) -> PaymentAnswer;
 }
 
 // The library asks nothing of its input beyond slices that may be read, and one that may be written.
@@ -383,6 +415,35 @@ pub fn name_waits(counts: &[u8], calls: Calls, win: Win, number: usize) -> Waits
     })
 }
 
+/// Lists the readings of a hand of three players into `out`.
+fn three_list_readings(counts: &[u8], calls: Calls, out: &mut [u8]) -> Listing {
+    let (place, length) = (out.as_mut_ptr(), out.len());
+    lend(&calls, |melds, number| unsafe {
+        ziwhakemo_three_list_readings(counts.as_ptr(), counts.len(), melds, number, place, length)
+    })
+}
+
+/// Scores a win of three players.
+fn three_score_win(counts: &[u8], calls: Calls, win: Win) -> Score {
+    lend(&calls, |melds, called| unsafe {
+        ziwhakemo_three_score_win(counts.as_ptr(), counts.len(), melds, called, win)
+    })
+}
+
+/// Scores the reading with a number, counted from 0, of a win of three players.
+fn three_score_reading(counts: &[u8], calls: Calls, win: Win, number: usize) -> Score {
+    lend(&calls, |melds, called| unsafe {
+        ziwhakemo_three_score_reading(counts.as_ptr(), counts.len(), melds, called, win, number)
+    })
+}
+
+/// Names the waits of the reading with a number, counted from 0, of a win of three players.
+fn three_name_waits(counts: &[u8], calls: Calls, win: Win, number: usize) -> Waits {
+    lend(&calls, |melds, called| unsafe {
+        ziwhakemo_three_name_waits(counts.as_ptr(), counts.len(), melds, called, win, number)
+    })
+}
+
 /// The operations on a hand, so that a test may put others in their place.
 #[derive(Clone, Copy)]
 pub struct Operations {
@@ -392,12 +453,20 @@ pub struct Operations {
     pub name_waits: fn(&[u8], Calls, Win, usize) -> Waits,
 }
 
-/// The library's.
+/// The library's for four players.
 pub const OPERATIONS: Operations = Operations {
     list_readings,
     score_win,
     score_reading,
     name_waits,
+};
+
+/// The library's for three.
+pub const THREE_OPERATIONS: Operations = Operations {
+    list_readings: three_list_readings,
+    score_win: three_score_win,
+    score_reading: three_score_reading,
+    name_waits: three_name_waits,
 };
 
 pub fn level(han: u8, fu: u8, is_yakuman: bool) -> Level {
@@ -410,6 +479,10 @@ pub fn basic_points(han: u8, fu: u8, is_yakuman: bool) -> u32 {
 
 pub fn payment(basic_points: u32, is_dealer: bool, win_type: u8) -> PaymentAnswer {
     unsafe { ziwhakemo_payment(basic_points, is_dealer, win_type) }
+}
+
+pub fn three_payment(basic_points: u32, is_dealer: bool, win_type: u8) -> PaymentAnswer {
+    unsafe { ziwhakemo_three_payment(basic_points, is_dealer, win_type) }
 }
 
 #[cfg(test)]

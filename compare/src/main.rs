@@ -1,7 +1,7 @@
 //! Compares the proved library with agari-core.
 
 use compare::arguments::{self, Options};
-use compare::{points, readings, scored_wins, scores, sources, twins};
+use compare::{points, readings, scored_wins, scores, sources, three, twins};
 use std::process::ExitCode;
 use std::time::Duration;
 
@@ -10,7 +10,9 @@ const USAGE: &str = "usage: compare readings [--seed N] [--random N] [--suit] [-
        compare scores [--seed N] [--wins N]
        compare wins [--seed N] [--random N] [--suit] [--orphans] [--double-winds [N]] [--dora [N]]
        compare twins [--seed N] [--random N] [--winds [N]]
-       compare sources [--seed N] [--pairs N]";
+       compare sources [--seed N] [--pairs N]
+       compare three [--seed N] [--random N] [--damaged [N]] [--twins [N]]
+               [--payments] [--sources] [--suit] [--mixed SECONDS]";
 const SEED: u64 = 1;
 const RANDOM_HANDS: u64 = 5_000_000;
 const MIXED_SECONDS: u64 = 600;
@@ -21,6 +23,9 @@ const DORA_WINS: u64 = 20_000_000;
 const RANDOM_TWINS: u64 = 1_000_000;
 const WIND_TWINS: u64 = 4_000_000;
 const SOURCE_PAIRS: u64 = 2_000_000;
+const THREE_WINS: u64 = 5_000_000;
+const THREE_DAMAGED: u64 = 3_000_000;
+const THREE_TWINS: u64 = 1_000_000;
 
 fn main() -> ExitCode {
     arguments::run(USAGE, |words| {
@@ -43,6 +48,7 @@ fn compare(words: &[&str]) -> Option<u64> {
         "wins" => compare_wins(words),
         "twins" => compare_twins(words),
         "sources" => compare_sources(words),
+        "three" => compare_three(words),
         _ => None,
     }
 }
@@ -120,4 +126,37 @@ fn compare_sources(words: &[&str]) -> Option<u64> {
         seed: given.number("--seed").unwrap_or(SEED),
         pairs: given.number("--pairs").unwrap_or(SOURCE_PAIRS),
     }))
+}
+
+/// Where no class is named, all are compared.
+fn compare_three(words: &[&str]) -> Option<u64> {
+    let given = Options::read_with(
+        words,
+        &["--seed", "--random", "--mixed"],
+        &["--payments", "--sources", "--suit"],
+        &[("--damaged", THREE_DAMAGED), ("--twins", THREE_TWINS)],
+    )?;
+    let mut options = three::Options {
+        seed: given.number("--seed").unwrap_or(SEED),
+        random: given.number("--random"),
+        damaged: given.number("--damaged"),
+        twins: given.number("--twins"),
+        payments: given.has("--payments"),
+        sources: given.has("--sources"),
+        suit: given.has("--suit"),
+        mixed: given.number("--mixed").map(Duration::from_secs),
+    };
+    let is_random = options.random.or(options.damaged).or(options.twins);
+    let is_listed = options.suit || options.mixed.is_some();
+    let is_every = options.payments || options.sources || is_listed;
+    if is_random.is_none() && !is_every {
+        options.random = Some(THREE_WINS);
+        options.damaged = Some(THREE_DAMAGED);
+        options.twins = Some(THREE_TWINS);
+        options.payments = true;
+        options.sources = true;
+        options.suit = true;
+        options.mixed = Some(Duration::from_secs(MIXED_SECONDS));
+    }
+    Some(three::compare(&options))
 }

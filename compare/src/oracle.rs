@@ -2,7 +2,8 @@
 
 use crate::agari::{self, Record};
 use crate::answers;
-use crate::differences::{FAULTS, hand_faults};
+use crate::differences::FAULTS;
+use crate::game::Game;
 use crate::hand::Hand;
 use crate::library::Listing;
 use agari_core::hand::HandStructure;
@@ -21,8 +22,13 @@ pub struct Expected {
 }
 
 impl Expected {
+    /// For four players.
     pub fn of(hand: &Hand) -> Expected {
-        let faults = hand_faults(hand);
+        Expected::in_game(Game::Four, hand)
+    }
+
+    pub fn in_game(game: Game, hand: &Hand) -> Expected {
+        let faults = game.hand_faults(hand);
         let records = if faults.contains(&true) {
             Vec::new()
         } else {

@@ -9,24 +9,24 @@ use std::fmt::Debug;
 const PRINTED: u64 = 5;
 /// Basic points above the greatest and the first refused: the next, the least that overflow when
 /// they are multiplied, and the greatest.
-const FAR: [u32; 5] = [
+pub const FAR: [u32; 5] = [
     MOST_BASIC_POINTS + 2,
     u32::MAX / 6 + 1,
     u32::MAX / 4 + 1,
     u32::MAX / 2 + 1,
     u32::MAX,
 ];
-const WIN_TYPES: [u8; 4] = [0, 1, 2, 255];
+pub const WIN_TYPES: [u8; 4] = [0, 1, 2, 255];
 
 /// The inputs of an operation, and those on which the sides differ.
-struct Compared {
+pub struct Compared {
     name: &'static str,
     inputs: u64,
-    differ: u64,
+    pub differ: u64,
 }
 
 impl Compared {
-    fn new(name: &'static str) -> Compared {
+    pub fn new(name: &'static str) -> Compared {
         Compared {
             name,
             inputs: 0,
@@ -34,7 +34,7 @@ impl Compared {
         }
     }
 
-    fn check<T: PartialEq + Debug>(&mut self, input: impl Debug, want: T, got: T) {
+    pub fn check<T: PartialEq + Debug>(&mut self, input: impl Debug, want: T, got: T) {
         self.inputs += 1;
         if got != want {
             self.differ += 1;
@@ -45,7 +45,7 @@ impl Compared {
         }
     }
 
-    fn print(&self) {
+    pub fn print(&self) {
         println!(
             "{}: inputs {}, differ: {}",
             self.name, self.inputs, self.differ

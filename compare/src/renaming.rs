@@ -2,6 +2,7 @@
 //! them.
 
 use crate::agari::Record;
+use crate::game::Game;
 use crate::hand::*;
 use crate::library::{Indicators, Meld, Win};
 
@@ -49,6 +50,17 @@ impl Renaming {
             are_dragons_exchanged: number % 2 == 1,
             winds: ORDERS[number / Renaming::NO_WIND_MOVES],
         }
+    }
+
+    /// The numbers of the renamings that keep the tiles of a game: each that it has becomes one that it has.
+    pub fn numbers_in(game: Game) -> Vec<usize> {
+        let keeps = |renaming: Renaming| {
+            let mut tiles = (0..KINDS as u8).filter(|&tile| game.has_tile(tile.into()));
+            tiles.all(|tile| game.has_tile(renaming.tile(tile).into()))
+        };
+        let all = 0..Renaming::ALL;
+        all.filter(|&number| keeps(Renaming::numbered(number)))
+            .collect()
     }
 
     /// The number of the renaming that does the same to the suits, and no more.
@@ -168,6 +180,23 @@ mod tests {
             assert_eq!((tiles[27], tiles[32]), (27, 32));
             tiles.sort();
             assert!(tiles.into_iter().eq(0..KINDS as u8));
+        }
+    }
+
+    #[test]
+    fn of_144_renamings_48_keep_the_tiles_of_three_players() {
+        assert_eq!(Renaming::numbers_in(Game::Four).len(), 144);
+        let kept = Renaming::numbers_in(Game::Three);
+        assert_eq!(kept.len(), 48);
+        for number in 0..Renaming::ALL {
+            let renaming = Renaming::numbered(number);
+            let is_kept = kept.contains(&number);
+            assert_eq!(renaming.suits[0] == 0, is_kept);
+            for tile in (0..KINDS as u8).filter(|_| is_kept) {
+                let tiles = [tile, renaming.tile(tile)].map(usize::from);
+                let [before, after] = tiles.map(|tile| Game::Three.has_tile(tile));
+                assert_eq!(before, after);
+            }
         }
     }
 

@@ -185,7 +185,8 @@ impl fmt::Display for ScoreTally {
     }
 }
 
-fn fmt_counts(f: &mut fmt::Formatter, names: &[impl Debug], counts: &[u64]) -> fmt::Result {
+/// Writes counts with their names, a line for each.
+pub fn fmt_counts(f: &mut fmt::Formatter, names: &[impl Debug], counts: &[u64]) -> fmt::Result {
     for (name, count) in names.iter().zip(counts) {
         writeln!(f, "  {count:9}  {name:?}")?;
     }

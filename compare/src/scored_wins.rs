@@ -85,7 +85,7 @@ fn compare_suits(checker: &mut WinChecker, seed: u64) {
     let numbers = suit_counts(14);
     for suit in 0..3 {
         for numbers in &numbers {
-            let hand = hand_of(suit, numbers, &[0; 7]);
+            let hand = hand_of(suit, numbers);
             let expected = ExpectedHand::of(&hand);
             for tile in wins::held_tiles(&hand) {
                 for win_type in [RON, TSUMO] {

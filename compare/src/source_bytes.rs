@@ -2,6 +2,7 @@
 
 use crate::agreement::records;
 use crate::faults::listed_from;
+use crate::game::Game;
 use crate::hand::*;
 use crate::library::{ALWAYS_ENOUGH, Listing, Meld, Operations, RON, Waits, Win};
 use crate::random::add_meld;
@@ -13,6 +14,8 @@ use std::fmt;
 /// The sources that a call of each kind may have, as the request says it: 1, 2 or 3 for open kinds, 0 for
 /// closed ones, and only 3 for an open sequence. A closed sequence or triplet is no call.
 const ADMITTED: [&[u8]; 7] = [&[], &[3], &[], &[1, 2, 3], &[0], &[1, 2, 3], &[1, 2, 3]];
+/// Those with three players, as their request says it: no open sequence, and no source of 3.
+const ADMITTED_OF_THREE: [&[u8]; 7] = [&[], &[], &[], &[1, 2], &[0], &[1, 2], &[1, 2]];
 /// Kinds and tiles that are none.
 const NO_KINDS: [u8; 3] = [7, 8, 255];
 const NO_TILES: [u8; 2] = [34, 255];
@@ -24,14 +27,20 @@ pub const MOST_OTHERS: usize = 3;
 const STARTS: [u8; MOST_OTHERS] = [0, 3, 6];
 /// The pair's tile in that suit.
 const PAIR: u8 = 4;
+const EAST: u8 = 27;
+const WHITE: u8 = 31;
 const OPERATIONS: [&str; 4] = ["list_readings", "score_win", "score_reading", "name_waits"];
 
 /// Whether tile, kind and source are those of a call.
-fn is_admitted(meld: Meld) -> bool {
-    let sources = ADMITTED.get(usize::from(meld.kind));
+fn is_admitted(game: Game, meld: Meld) -> bool {
+    let admitted = match game {
+        Game::Four => ADMITTED,
+        Game::Three => ADMITTED_OF_THREE,
+    };
+    let sources = admitted.get(usize::from(meld.kind));
     let is_placed = match meld.kind {
         OPEN_SEQUENCE => starts_sequence(meld.tile),
-        _ => usize::from(meld.tile) < KINDS,
+        _ => game.has_tile(meld.tile.into()),
     };
     is_placed && sources.is_some_and(|sources| sources.contains(&meld.source))
 }
@@ -46,14 +55,21 @@ fn calls() -> impl Iterator<Item = Meld> {
 
 /// A hand with this call at a place among so many others, which passes the checks if the call does, and the
 /// winning tile: a straight of a suit that the call is not of, its sequences called or in the hand, and a
-/// pair of its fives.
-fn hand_around(call: Meld, others: usize, place: usize) -> (Hand, u8) {
-    let first = 9 * ((call.tile / 9 + 1) % 3);
+/// pair of its fives. With three players triplets of dragons or winds are called in their place.
+fn hand_around(game: Game, call: Meld, others: usize, place: usize) -> (Hand, u8) {
+    let first = match (game, call.tile / 9) {
+        (Game::Four, suit) => 9 * ((suit + 1) % 3),
+        (Game::Three, 1) => 18,
+        (Game::Three, _) => 9,
+    };
+    let honour = if call.tile < WHITE { WHITE } else { EAST };
     let (called, held) = STARTS.split_at(others);
-    let sequences = called
-        .iter()
-        .map(|start| Meld::new(first + start, OPEN_SEQUENCE));
-    let mut calls: Vec<Meld> = sequences.collect();
+    let beside = called.iter().zip(honour..);
+    let beside = beside.map(|(start, honour)| match game {
+        Game::Four => Meld::new(first + start, OPEN_SEQUENCE),
+        Game::Three => Meld::new(honour, OPEN_TRIPLET).with_source(ACROSS),
+    });
+    let mut calls: Vec<Meld> = beside.collect();
     calls.insert(place, call);
     let mut hand = Hand::empty();
     calls.into_iter().for_each(|call| hand.call(call));
@@ -65,18 +81,19 @@ fn hand_around(call: Meld, others: usize, place: usize) -> (Hand, u8) {
 }
 
 /// Tries every call alone and at each place beside up to so many others, and counts what differs.
-pub fn compare(seed: u64, operations: Operations, most_others: usize) -> ByteTally {
+pub fn compare(game: Game, seed: u64, operations: Operations, most_others: usize) -> ByteTally {
     let mut rng = Rng::new(seed);
     let old: Vec<u8> = (0..ALWAYS_ENOUGH).map(|_| rng.byte()).collect();
     let mut tally = ByteTally::default();
     for others in 0..=most_others {
         for place in 0..=others {
             for call in calls() {
-                let (hand, tile) = hand_around(call, others, place);
+                let (hand, tile) = hand_around(game, call, others, place);
                 let hand = hand.with_noise(&mut rng);
                 let win = Win::new(RON, tile, 27, 28).with_noise(&mut rng);
-                let differ = differ(&operations, &old, call, &hand, win);
-                tally.count(call, differ);
+                let is_admitted = is_admitted(game, call);
+                let differ = differ(&operations, &old, (call, is_admitted), &hand, win);
+                tally.count(call, is_admitted, differ);
                 if differ.contains(&true) {
                     tally.print(&hand, call);
                 }
@@ -91,7 +108,7 @@ pub fn compare(seed: u64, operations: Operations, most_others: usize) -> ByteTal
 fn differ(
     operations: &Operations,
     old: &[u8],
-    call: Meld,
+    (call, is_admitted): (Meld, bool),
     hand: &Hand,
     win: Win,
 ) -> [bool; OPERATIONS.len()] {
@@ -101,7 +118,7 @@ fn differ(
     let score = (operations.score_win)(counts, calls, win);
     let reading = (operations.score_reading)(counts, calls, win, 0);
     let waits = (operations.name_waits)(counts, calls, win, 0);
-    if is_admitted(call) {
+    if is_admitted {
         let is_listed = listing.number == 0 && has_call(&buffer[..listing.bytes], call);
         let [score, reading] = [score, reading].map(|score| score.number != 0);
         return [!is_listed, score, reading, waits.number != 0];
@@ -146,9 +163,9 @@ pub struct ByteTally {
 const PRINTED: u64 = 5;
 
 impl ByteTally {
-    fn count(&mut self, call: Meld, differ: [bool; OPERATIONS.len()]) {
+    fn count(&mut self, call: Meld, is_admitted: bool, differ: [bool; OPERATIONS.len()]) {
         let kind = usize::from(call.kind).min(ADMITTED.len());
-        match is_admitted(call) {
+        match is_admitted {
             true => self.admitted[kind] += 1,
             false => self.refused[kind] += 1,
         }
@@ -184,7 +201,6 @@ impl fmt::Display for ByteTally {
 #[cfg(test)]
 mod tests {
     use super::*;
-    use crate::differences::hand_faults;
     use crate::library::{self, Calls};
     use crate::oracle::Expected;
 
@@ -199,33 +215,46 @@ mod tests {
                     kind,
                     source,
                 };
-                assert_eq!(is_admitted(meld), is_dealt && is_call, "{meld}");
+                assert_eq!(is_admitted(Game::Four, meld), is_dealt && is_call, "{meld}");
             }
         }
     }
 
     #[test]
     fn the_hands_pass_where_the_call_does() {
-        for call in calls().filter(|call| call.source < 5) {
-            let (hand, tile) = hand_around(call, 2, 1);
-            let mut faults = hand_faults(&hand);
-            assert_eq!(faults[2], !is_admitted(call), "{hand}");
-            faults[2] = false;
-            assert_eq!(faults, [false; 6], "{hand}");
-            assert!(hand.counts[usize::from(tile)] >= 2);
+        for game in [Game::Four, Game::Three] {
+            for call in calls().filter(|call| call.source < 5) {
+                let (hand, tile) = hand_around(game, call, 2, 1);
+                let mut faults = game.hand_faults(&hand);
+                assert_eq!(faults[2], !is_admitted(game, call), "{hand}");
+                faults[2] = false;
+                assert_eq!(faults, [false; 6], "{hand}");
+                assert!(hand.counts[usize::from(tile)] >= 2);
+            }
         }
-        let (hand, _) = hand_around(Meld::new(33, OPEN_KAN), 3, 0);
+        let (hand, _) = hand_around(Game::Four, Meld::new(33, OPEN_KAN), 3, 0);
         assert_eq!(Expected::of(&hand).readings, 1);
     }
 
     #[test]
     fn every_byte_is_taken_or_refused_as_the_request_says() {
-        let tally = compare(1, library::OPERATIONS, 1);
+        let tally = compare(Game::Four, 1, library::OPERATIONS, 1);
         assert_eq!(tally.differ(), 0, "{tally}");
         // Three hands for each call: 21 starts of a sequence from one source, 34 tiles from three or one.
         let admitted = [0, 3 * 21, 0, 9 * 34, 3 * 34, 9 * 34, 9 * 34, 0];
         assert_eq!(tally.admitted, admitted);
         assert_eq!(tally.refused[7], 3 * 3 * 36 * 256);
+    }
+
+    #[test]
+    fn every_byte_is_taken_or_refused_with_three_players() {
+        let tally = compare(Game::Three, 1, library::THREE_OPERATIONS, 1);
+        assert_eq!(tally.differ(), 0, "{tally}");
+        // Three hands for each call: 27 tiles from two sources or one.
+        let admitted = [0, 0, 0, 6 * 27, 3 * 27, 6 * 27, 6 * 27, 0];
+        assert_eq!(tally.admitted, admitted);
+        let four = compare(Game::Three, 1, library::OPERATIONS, 0);
+        assert!(four.differ.iter().all(|&inputs| inputs > 0), "{four}");
     }
 
     /// The calls with their sources changed so.
@@ -293,7 +322,7 @@ mod tests {
             }),
         ];
         for (place, operations) in broken.into_iter().enumerate() {
-            let tally = compare(1, operations, 0);
+            let tally = compare(Game::Four, 1, operations, 0);
             assert!(tally.differ[0] > 0, "{place}: {tally}");
         }
     }

@@ -1,6 +1,7 @@
 //! The comparison of wins whose calls differ only in who the tile came from, and of every source byte.
 
 use crate::faults::{add_each, listed, listed_from};
+use crate::game::Game;
 use crate::hand::*;
 use crate::library::{self, Meld, Win};
 use crate::rng::Rng;
@@ -57,7 +58,7 @@ pub fn compare(options: &Options) -> u64 {
     let seed = options.seed;
     println!("every source byte of a call, with every kind and tile");
     let start = Instant::now();
-    let bytes = source_bytes::compare(seed, library::OPERATIONS, MOST_OTHERS);
+    let bytes = source_bytes::compare(Game::Four, seed, library::OPERATIONS, MOST_OTHERS);
     println!("{bytes}  {:.1} s\n", start.elapsed().as_secs_f64());
     println!("random wins and the same wins with calls from others, seed {seed}");
     let start = Instant::now();

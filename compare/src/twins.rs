@@ -2,8 +2,9 @@
 
 use crate::agreement::{ANSWERS, BAD, Class, Outcome, PARTS, Twins};
 use crate::faults::{listed, listed_from};
+use crate::game::Game;
 use crate::hand::Hand;
-use crate::library::{ALWAYS_ENOUGH, SETTINGS, Win};
+use crate::library::{ALWAYS_ENOUGH, Operations, SETTINGS, Win};
 use crate::renaming::Renaming;
 use crate::rng::Rng;
 use crate::scored_wins::random_wins;
@@ -50,11 +51,11 @@ pub fn compare(options: &Options) -> u64 {
     let mut differ = 0;
     if let Some(wins) = options.random {
         println!("random wins and the same wins renamed, seed {seed}");
-        differ += compare_class(seed, wins, random_wins);
+        differ += compare_class(TwinChecker::new(seed), seed, wins, random_wins);
     }
     if let Some(wins) = options.winds {
         println!("wins dealt for winds and the same wins renamed, seed {seed}");
-        differ += compare_class(seed, wins, |rng, _| {
+        differ += compare_class(TwinChecker::new(seed), seed, wins, |rng, _| {
             let (hand, win) = wins::windy(rng);
             (hand, vec![win])
         });
@@ -62,11 +63,28 @@ pub fn compare(options: &Options) -> u64 {
     differ
 }
 
+/// Compares so many wins of three players that are dealt so, each with one of the renamings that keep their tiles,
+/// and answers how many pairs differ.
+pub fn compare_three(
+    operations: Operations,
+    seed: u64,
+    wins: u64,
+    deal: impl Fn(&mut Rng, u64) -> (Hand, Vec<Win>),
+) -> u64 {
+    println!("random wins of three players and the same wins renamed, seed {seed}");
+    let checker = TwinChecker::in_game(Game::Three, operations, seed);
+    compare_class(checker, seed, wins, deal)
+}
+
 /// Compares so many wins that are dealt so, prints the tally, and answers how many pairs differ.
-fn compare_class(seed: u64, wins: u64, deal: impl Fn(&mut Rng, u64) -> (Hand, Vec<Win>)) -> u64 {
+fn compare_class(
+    mut checker: TwinChecker,
+    seed: u64,
+    wins: u64,
+    deal: impl Fn(&mut Rng, u64) -> (Hand, Vec<Win>),
+) -> u64 {
     let start = Instant::now();
     let mut rng = Rng::new(!seed);
-    let mut checker = TwinChecker::new(seed);
     let mut left = wins;
     while left > 0 {
         let (hand, wins) = deal(&mut rng, left);
@@ -82,6 +100,10 @@ fn compare_class(seed: u64, wins: u64, deal: impl Fn(&mut Rng, u64) -> (Hand, Ve
 
 /// Compares pairs, and counts what it saw.
 struct TwinChecker {
+    game: Game,
+    operations: Operations,
+    /// The numbers of the renamings that are tried by turns.
+    renamings: Vec<usize>,
     rng: Rng,
     /// What stands in the lent buffers before.
     old: Vec<u8>,
@@ -89,22 +111,33 @@ struct TwinChecker {
 }
 
 impl TwinChecker {
+    /// Compares wins of four players.
     fn new(seed: u64) -> TwinChecker {
+        TwinChecker::in_game(Game::Four, Game::Four.operations(), seed)
+    }
+
+    /// Compares what these operations answer to wins of a game.
+    fn in_game(game: Game, operations: Operations, seed: u64) -> TwinChecker {
         let mut rng = Rng::new(seed);
         let old = (0..ALWAYS_ENOUGH).map(|_| rng.byte()).collect();
+        let renamings = Renaming::numbers_in(game);
         TwinChecker {
+            tally: TwinTally::of(renamings.len()),
+            game,
+            operations,
+            renamings,
             rng,
             old,
-            tally: TwinTally::default(),
         }
     }
 
     /// Compares a win that passes the checks, or is refused with 14, with its renamed one. Where it has
     /// indicators and the renaming does more than exchange suits, the exchange alone is tried too.
     fn check(&mut self, hand: &Hand, win: &Win) {
-        let number = (self.tally.wins % Renaming::ALL as u64) as usize;
+        let turn = self.tally.wins % self.renamings.len() as u64;
+        let number = self.renamings[turn as usize];
         self.tally.wins += 1;
-        let expected = ExpectedWin::of(hand, win);
+        let expected = ExpectedWin::in_game(self.game, hand, win);
         let is_damaged = expected.faults.contains(&true);
         if is_damaged && expected.score_win().number != BAD {
             self.tally.damaged += 1;
@@ -118,7 +151,11 @@ impl TwinChecker {
 
     /// Compares a win with its renamed one by the renaming of this number, and answers their class.
     fn check_pair(&mut self, hand: &Hand, win: &Win, number: usize) -> Class {
-        let twins = Twins::new(&mut self.rng, hand, win, Renaming::numbered(number));
+        let renaming = Renaming::numbered(number);
+        let twins = Twins {
+            operations: self.operations,
+            ..Twins::in_game(self.game, &mut self.rng, hand, win, renaming)
+        };
         let class = twins.class;
         let outcome = twins.outcome(&mut self.rng, &self.old);
         let green = twins.are_green().iter().position(|&green| green);
@@ -150,6 +187,8 @@ fn print(twins: &Twins, outcome: &Outcome) {
 /// A pair is a win and the same win renamed.
 #[derive(Default)]
 struct TwinTally {
+    /// How many renamings are tried.
+    tried: usize,
     wins: u64,
     /// Wins that are refused with 1 to 6, 8 or 9, of which nothing is promised.
     damaged: u64,
@@ -179,6 +218,14 @@ struct TwinTally {
 }
 
 impl TwinTally {
+    /// Nothing counted yet, where so many renamings are tried.
+    fn of(tried: usize) -> TwinTally {
+        TwinTally {
+            tried,
+            ..TwinTally::default()
+        }
+    }
+
     fn count_green(&mut self, unit: usize, outcome: &Outcome) {
         self.green[unit] += 1;
         self.green_differ[unit] += u64::from(outcome.differ.contains(&true));
@@ -223,8 +270,12 @@ impl TwinTally {
 impl fmt::Display for TwinTally {
     fn fmt(&self, f: &mut fmt::Formatter) -> fmt::Result {
         let renamings = self.renamings.iter().flatten();
-        let occurred = renamings.clone().filter(|&&pairs| pairs > 0).count();
-        let rarest = renamings.clone().min().unwrap_or(&0);
+        let occurring = renamings.clone().filter(|&&pairs| pairs > 0);
+        let occurred = occurring.clone().count();
+        let rarest = match occurred < self.tried {
+            true => 0,
+            false => *occurring.min().unwrap_or(&0),
+        };
         let pairs: u64 = renamings.sum();
         let readings = listed_from(0, &self.readings);
         let answers = listed(&ANSWERS, &self.answers);
@@ -237,7 +288,7 @@ impl fmt::Display for TwinTally {
         writeln!(f, "of which differ: {first_differ}")?;
         write!(f, "  left out, second hand alone all green: {second}, ")?;
         writeln!(f, "of which differ: {second_differ}")?;
-        write!(f, "  renamings: {occurred} of {}, ", Renaming::ALL)?;
+        write!(f, "  renamings: {occurred} of {}, ", self.tried)?;
         writeln!(f, "the rarest in {rarest} pairs")?;
         let classes = counted(&CLASSES, &self.classes);
         writeln!(f, "  pairs: {classes}")?;

@@ -1,7 +1,7 @@
 //! One win on both sides.
 
 use crate::hand::Hand;
-use crate::library::{self, Win};
+use crate::library::{OPERATIONS, Operations, Win};
 use crate::rng::Rng;
 use crate::win_oracle::ExpectedWin;
 use crate::win_tally::{Operation, WinTally};
@@ -12,13 +12,21 @@ const PRINTED: u64 = 5;
 
 /// Compares wins, and counts what it saw.
 pub struct WinChecker {
+    operations: Operations,
     rng: Rng,
     tally: WinTally,
 }
 
 impl WinChecker {
+    /// Asks the library's operations for four players.
     pub fn new(seed: u64) -> WinChecker {
+        WinChecker::asking(OPERATIONS, seed)
+    }
+
+    /// Asks these operations.
+    pub fn asking(operations: Operations, seed: u64) -> WinChecker {
         WinChecker {
+            operations,
             rng: Rng::new(seed),
             tally: WinTally::default(),
         }
@@ -43,7 +51,7 @@ impl WinChecker {
         self.tally.count_win(hand, win, expected);
         let want = expected.score_win();
         self.tally.count_answer(Operation::ScoreWin, want.number);
-        let got = library::score_win(counts, calls, *win);
+        let got = (self.operations.score_win)(counts, calls, *win);
         self.hold(Operation::ScoreWin, hand, win, 0, want, got);
 
         let readings = expected.scores.len();
@@ -52,12 +60,12 @@ impl WinChecker {
             let want = expected.score_reading(number);
             self.tally
                 .count_answer(Operation::ScoreReading, want.number);
-            let got = library::score_reading(counts, calls, *win, number);
+            let got = (self.operations.score_reading)(counts, calls, *win, number);
             self.hold(Operation::ScoreReading, hand, win, number, want, got);
 
             let want = expected.name_waits(number);
             self.tally.count_answer(Operation::NameWaits, want.number);
-            let got = library::name_waits(counts, calls, *win, number);
+            let got = (self.operations.name_waits)(counts, calls, *win, number);
             self.hold(Operation::NameWaits, hand, win, number, want, got);
         }
     }

@@ -2,7 +2,8 @@
 //! scores of the readings, and the choice that the paper adds.
 
 use crate::agari_scores::ReadHand;
-use crate::differences::{self, FAULTS, Worth, hand_faults, ranking, win_faults};
+use crate::differences::{self, FAULTS, Worth, ranking};
+use crate::game::Game;
 use crate::hand::Hand;
 use crate::library::{Score, WAITS, Waits, Win, YAKU};
 
@@ -16,25 +17,32 @@ pub const NO_SUCH_READING: u32 = 12;
 
 /// A hand with agari's readings, whatever the win.
 pub struct ExpectedHand {
+    game: Game,
     faults: [bool; FAULTS],
     /// Nothing where the hand is refused.
     read: Option<ReadHand>,
 }
 
 impl ExpectedHand {
+    /// A hand of four players.
     pub fn of(hand: &Hand) -> ExpectedHand {
-        let faults = hand_faults(hand);
+        ExpectedHand::in_game(Game::Four, hand)
+    }
+
+    pub fn in_game(game: Game, hand: &Hand) -> ExpectedHand {
+        let faults = game.hand_faults(hand);
         let is_refused = faults.contains(&true);
         ExpectedHand {
+            game,
             faults,
-            read: (!is_refused).then(|| ReadHand::of(hand)),
+            read: (!is_refused).then(|| ReadHand::in_game(game, hand)),
         }
     }
 
     /// What is expected for the hand, won so.
     pub fn won(&self, hand: &Hand, win: &Win) -> ExpectedWin {
         let [one, two, three, four, five, six] = self.faults;
-        let [range, indicators, tile] = win_faults(hand, win);
+        let [range, indicators, tile] = self.game.win_faults(hand, win);
         let faults = [one, two, three, four, five, six, range, indicators, tile];
         let read = self.read.as_ref().filter(|_| !faults.contains(&true));
         ExpectedWin {
@@ -65,8 +73,13 @@ pub struct ExpectedWin {
 }
 
 impl ExpectedWin {
+    /// For four players.
     pub fn of(hand: &Hand, win: &Win) -> ExpectedWin {
-        ExpectedHand::of(hand).won(hand, win)
+        ExpectedWin::in_game(Game::Four, hand, win)
+    }
+
+    pub fn in_game(game: Game, hand: &Hand, win: &Win) -> ExpectedWin {
+        ExpectedHand::in_game(game, hand).won(hand, win)
     }
 
     /// The number of the first check that fails.

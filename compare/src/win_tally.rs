@@ -132,6 +132,12 @@ impl WinTally {
         self.differ.iter().sum()
     }
 
+    /// That number, operation by operation.
+    #[cfg(test)]
+    pub fn each_differ(&self) -> [u64; OPERATIONS.len()] {
+        self.differ
+    }
+
     /// That number, operation by operation and all together.
     pub fn differences(&self) -> String {
         let each = counted(&OPERATIONS, &self.differ);

@@ -8,7 +8,7 @@ use crate::random::{self, ORPHANS, Pool, Style, add_meld, at_most_four};
 use crate::rng::Rng;
 
 pub const WINDS: [u8; 4] = [27, 28, 29, 30];
-const DRAGONS: [u8; 3] = [31, 32, 33];
+pub const DRAGONS: [u8; 3] = [31, 32, 33];
 const HONOURS: [usize; 7] = [27, 28, 29, 30, 31, 32, 33];
 const TERMINALS: [usize; 6] = [0, 8, 9, 17, 18, 26];
 pub const GREENS: [usize; 6] = [19, 20, 21, 23, 25, 32];
@@ -16,16 +16,16 @@ pub const GREENS: [usize; 6] = [19, 20, 21, 23, 25, 32];
 const OUTER_STARTS: [u8; 6] = [0, 6, 9, 15, 18, 24];
 
 /// Four closed sequences and triplets, and a pair's tile, before anything is called.
-struct Shape {
-    melds: Vec<Meld>,
-    pair: u8,
+pub struct Shape {
+    pub melds: Vec<Meld>,
+    pub pair: u8,
 }
 
-fn sequence(tile: u8) -> Meld {
+pub fn sequence(tile: u8) -> Meld {
     Meld::new(tile, CLOSED_SEQUENCE)
 }
 
-fn triplet(tile: u8) -> Meld {
+pub fn triplet(tile: u8) -> Meld {
     Meld::new(tile, CLOSED_TRIPLET)
 }
 
@@ -79,7 +79,7 @@ fn nine_gates(rng: &mut Rng) -> Hand {
 }
 
 /// Nine gates of the suit that begins here, as two triplets, two sequences and a pair.
-fn gates_shape(rng: &mut Rng, first: u8) -> Shape {
+pub fn gates_shape(rng: &mut Rng, first: u8) -> Shape {
     let (pair, lower, upper) = rng.pick(&[(1, 2, 5), (4, 1, 5), (7, 1, 4)]);
     let melds = vec![
         triplet(first),
@@ -147,12 +147,12 @@ fn shape(rng: &mut Rng) -> Shape {
 }
 
 /// Melds and a pair from a pool, with a share of sequences in percent.
-fn from_pool(rng: &mut Rng, pool: Pool, sequences: usize) -> Shape {
+pub fn from_pool(rng: &mut Rng, pool: Pool, sequences: usize) -> Shape {
     completed(rng, vec![], pool, sequences)
 }
 
 /// These melds with others from a pool, and a pair from it.
-fn completed(rng: &mut Rng, mut melds: Vec<Meld>, pool: Pool, sequences: usize) -> Shape {
+pub fn completed(rng: &mut Rng, mut melds: Vec<Meld>, pool: Pool, sequences: usize) -> Shape {
     while melds.len() < 4 {
         melds.push(style(pool, sequences).closed_meld(rng));
     }

@@ -1,9 +1,11 @@
 /* Calls every function of the library on random inputs, damaged ones among them, and holds each
    answer to what can be said of it without scoring: the refusals, the bytes, the calls among the
    melds, the dora, the choice among the readings, what the room's setting and the indicators change,
-   and that the sources of the calls change nothing else. Whatever is lent is allocated at exactly its
-   size, so that valgrind sees every read or write outside of it. Before them, single hands: one under
-   every setting, some with dora, and one with a call of every kind and source. In the root:
+   that the sources of the calls change nothing else, and that the functions for three players refuse
+   what they have to and else answer as those for four, but for the total. Whatever is lent is
+   allocated at exactly its size, so that valgrind sees every read or write outside of it. Before
+   them, single hands: one under every setting, some with dora, one with a call of every kind and
+   source, and one with what three players alone are refused. In the root:
 
      cc -std=c99 -O1 -g -Iinclude examples/c/boundary.c target/staticlib/libziwhakemo.a \
          -o target/boundary
@@ -147,6 +149,38 @@ static unsigned win_check(const input *in) {
     return 0;
 }
 
+/* ---- The checks with three players ---- */
+
+/* Is the tile in the wall with three players? */
+static bool is_in_three(unsigned tile) {
+    return tile < ZIWHAKEMO_MAN(2) || tile > ZIWHAKEMO_MAN(8);
+}
+
+static bool is_three_call(ziwhakemo_meld meld) {
+    return is_call(meld) && meld.kind != ZIWHAKEMO_MELD_OPEN_SEQUENCE && is_in_three(meld.tile) &&
+           meld.source <= ZIWHAKEMO_THREE_FROM_LEFT;
+}
+
+/* The first of the checks 1 to 6 that fails with three players, or 0: those with four, but that 3 and
+   4 refuse more. */
+static unsigned three_hand_check(const input *in) {
+    unsigned number = hand_check(in);
+    if (number == 1 || number == 2) return number;
+    for (size_t i = 0; i < in->calls_length; i++)
+        if (!is_three_call(in->calls[i])) return 3;
+    for (unsigned i = 0; i < ZIWHAKEMO_TILES; i++)
+        if (in->counts[i] > (is_in_three(i) ? 4 : 0)) return 4;
+    return number;
+}
+
+/* The first of the checks 1 to 6, 8, 14 and 9, in this order, that fails with three players, or 0. */
+static unsigned three_win_check(const input *in) {
+    unsigned number = three_hand_check(in), four = win_check(in);
+    bool shown = in->win.dora_indicators.count > 0 || in->win.ura_dora_indicators.count > 0;
+    if (number != 0) return number;
+    return four != 8 && shown ? 14 : four;
+}
+
 /* ---- Dora ---- */
 
 /* The tile that an indicator makes dora: the next of its suit, of the winds or of the dragons, and
@@ -176,11 +210,15 @@ static unsigned ura_dora(const input *in) {
 
 /* ---- Drawing ---- */
 
-/* The tiles from which a hand is drawn. */
+/* The tiles from which a hand is drawn, and whether it is drawn for three players. */
 static unsigned first_tile, number_of_tiles;
+static bool for_three;
 
 static uint8_t any_tile(void) {
-    return (uint8_t)(first_tile + below(number_of_tiles));
+    unsigned tile;
+    do tile = first_tile + below(number_of_tiles);
+    while (for_three && !is_in_three(tile));
+    return (uint8_t)tile;
 }
 
 /* A source that a call of this kind can have. */
@@ -188,6 +226,12 @@ static uint8_t any_source(unsigned kind) {
     if (kind == ZIWHAKEMO_MELD_OPEN_SEQUENCE) return ZIWHAKEMO_FROM_LEFT;
     if (kind == ZIWHAKEMO_MELD_CLOSED_KAN) return ZIWHAKEMO_FROM_NOBODY;
     return (uint8_t)(ZIWHAKEMO_FROM_RIGHT + below(3));
+}
+
+/* The same with three players. */
+static uint8_t any_three_source(unsigned kind) {
+    if (kind == ZIWHAKEMO_MELD_CLOSED_KAN) return ZIWHAKEMO_FROM_NOBODY;
+    return (uint8_t)(ZIWHAKEMO_THREE_FROM_RIGHT + below(2));
 }
 
 static void add_meld(input *in, uint8_t tile, unsigned kind) {
@@ -198,9 +242,14 @@ static void add_meld(input *in, uint8_t tile, unsigned kind) {
     } else {
         in->calls[in->calls_length].tile = tile;
         in->calls[in->calls_length].kind = (uint8_t)kind;
-        in->calls[in->calls_length].source = any_source(kind);
+        in->calls[in->calls_length].source = for_three ? any_three_source(kind) : any_source(kind);
         in->calls_length++;
     }
+}
+
+/* Does a sequence start here whose tiles are drawn? */
+static bool may_start_sequence(uint8_t tile) {
+    return starts_sequence(tile) && (!for_three || tile > ZIWHAKEMO_MAN(9));
 }
 
 /* Four melds, some of them called, and a pair. There may be more than four of a kind. */
@@ -210,8 +259,9 @@ static void standard_hand(input *in) {
         uint8_t tile = any_tile();
         bool called = percent(calls);
         unsigned kind;
-        if (starts_sequence(tile) && percent(60))
-            kind = called ? ZIWHAKEMO_MELD_OPEN_SEQUENCE : ZIWHAKEMO_MELD_CLOSED_SEQUENCE;
+        if (may_start_sequence(tile) && percent(60))
+            kind = called && !for_three ? ZIWHAKEMO_MELD_OPEN_SEQUENCE
+                                        : ZIWHAKEMO_MELD_CLOSED_SEQUENCE;
         else if (called)
             kind = ZIWHAKEMO_MELD_OPEN_TRIPLET + below(4);
         else
@@ -249,7 +299,8 @@ static void from_the_wall(input *in) {
 
 static void draw_hand(input *in) {
     bool flush = percent(60);
-    first_tile = flush ? 9 * below(3) : 0;
+    unsigned first_suit = for_three ? 1 : 0;
+    first_tile = flush ? 9 * (first_suit + below(3 - first_suit)) : 0;
     number_of_tiles = flush ? 9 : ZIWHAKEMO_TILES;
     memset(in, 0, sizeof *in);
     in->counts_length = ZIWHAKEMO_TILES;
@@ -320,6 +371,7 @@ static void draw_win(input *in) {
         percent(50) ? ZIWHAKEMO_DOUBLE_WIND_FU_FOUR : ZIWHAKEMO_DOUBLE_WIND_FU_TWO;
     draw_indicators(in, &win->dora_indicators);
     draw_indicators(in, &win->ura_dora_indicators);
+    if (for_three && percent(90)) win->dora_indicators.count = win->ura_dora_indicators.count = 0;
 }
 
 /* Any number of indicators, or any byte for one of them. */
@@ -365,6 +417,7 @@ static void damage(input *in) {
 static input draw_input(void) {
     input in;
     bool may_hold_five = percent(10);
+    for_three = percent(40);
     do draw_hand(&in);
     while (!may_hold_five && hand_check(&in) != 0);
     draw_win(&in);
@@ -435,6 +488,8 @@ typedef struct {
 /* ---- Listing ---- */
 
 static uint64_t listed[NUMBERS], won[NUMBERS], scored[NUMBERS], named[NUMBERS], paid[NUMBERS];
+static uint64_t three_listed[NUMBERS], three_won[NUMBERS], three_scored[NUMBERS];
+static uint64_t three_named[NUMBERS], three_paid[NUMBERS];
 static uint64_t levels[NUMBERS], settled[NUMBERS], with_readings[MANY + 1];
 
 /* Do the bytes hold so many records and nothing else? */
@@ -527,15 +582,16 @@ static size_t list_guarded(const input *in, lent from, uint8_t *all) {
     return answer.readings;
 }
 
-/* Lists into exactly the bytes that are lent. */
+/* Lists into exactly the bytes that are lent, by the function of either game. */
 static void list_exactly(const input *in, lent from, const uint8_t *all, size_t bytes,
-                         size_t readings) {
+                         size_t readings, bool three) {
     uint8_t noise[MOST_BYTES];
     for (int i = 0; i < MOST_BYTES; i++) noise[i] = byte();
     uint8_t *out = (uint8_t *)lend(noise, in->out_length);
-    ziwhakemo_listing_answer answer = ziwhakemo_list_readings(
-        from.counts, in->counts_length, from.calls, in->calls_length, out, in->out_length);
-    unsigned number = hand_check(in);
+    ziwhakemo_listing_answer answer =
+        (three ? ziwhakemo_three_list_readings : ziwhakemo_list_readings)(
+            from.counts, in->counts_length, from.calls, in->calls_length, out, in->out_length);
+    unsigned number = three ? three_hand_check(in) : hand_check(in);
     if (number == 0 && bytes > in->out_length) number = 7;
     if (number != 0) bytes = readings = 0;
     hold(answer.number == number, "the number of a listing", in);
@@ -543,7 +599,7 @@ static void list_exactly(const input *in, lent from, const uint8_t *all, size_t 
     hold(same(out, all, bytes), "the records", in);
     hold(in->out_length == bytes || same(out + bytes, noise + bytes, in->out_length - bytes),
          "a byte beyond the records changed", in);
-    listed[number]++;
+    (three ? three_listed : listed)[number]++;
     free(out);
 }
 
@@ -1199,6 +1255,164 @@ static void points(const input *in) {
     paid[number]++;
 }
 
+/* ---- Three players ---- */
+
+/* What four players are answered, with the total of three: one player fewer pays by tsumo. */
+static ziwhakemo_score_answer of_three(ziwhakemo_score_answer four) {
+    four.total -= four.from_non_dealer;
+    return four;
+}
+
+/* Is the answer this refusal, or else that of four players but for the total? */
+static void hold_three(const input *in, const ziwhakemo_score_answer *a, unsigned number,
+                       ziwhakemo_score_answer four) {
+    ziwhakemo_score_answer expected = of_three(four);
+    hold(is_flag(&a->is_yakuman), "a flag that is neither 0 nor 1", in);
+    if (number != 0)
+        hold(a->number == number && is_alone(a), "a refusal with three players", in);
+    else
+        hold(same_score(a, &expected), "a score with three players", in);
+}
+
+/* The win. Where it passes the checks of three players, so it does those of four. */
+static void three_score(const input *in, lent from) {
+    unsigned number = three_win_check(in);
+    ziwhakemo_score_answer a = ziwhakemo_three_score_win(from.counts, in->counts_length, from.calls,
+                                                         in->calls_length, in->win);
+    ziwhakemo_score_answer four = ziwhakemo_score_win(from.counts, in->counts_length, from.calls,
+                                                      in->calls_length, in->win);
+    if (number == 0) number = four.number;
+    hold_three(in, &a, number, four);
+    three_won[number < NUMBERS ? number : 0]++;
+}
+
+/* Reading and waits of the number that was drawn. */
+static void three_by_number(const input *in, lent from) {
+    unsigned number = three_win_check(in), sum = 0;
+    ziwhakemo_score_answer a = ziwhakemo_three_score_reading(
+        from.counts, in->counts_length, from.calls, in->calls_length, in->win, in->reading);
+    ziwhakemo_score_answer four = ziwhakemo_score_reading(
+        from.counts, in->counts_length, from.calls, in->calls_length, in->win, in->reading);
+    ziwhakemo_waits_answer waits = ziwhakemo_three_name_waits(
+        from.counts, in->counts_length, from.calls, in->calls_length, in->win, in->reading);
+    ziwhakemo_waits_answer of_four = ziwhakemo_name_waits(
+        from.counts, in->counts_length, from.calls, in->calls_length, in->win, in->reading);
+    if (number == 0) number = four.number;
+    hold_three(in, &a, number, four);
+    for (int i = 0; i < ZIWHAKEMO_WAITS; i++) sum += waits.waits[i];
+    hold(waits.number == number, "the number of waits with three players", in);
+    hold(number != 0 ? sum == 0 : same_waits(&waits, &of_four), "waits with three players", in);
+    three_scored[number < NUMBERS ? number : 0]++;
+    three_named[waits.number < NUMBERS ? waits.number : 0]++;
+}
+
+static void three_points(const input *in) {
+    uint8_t win_type = in->win.win_type;
+    ziwhakemo_payment_answer a = ziwhakemo_three_payment(in->basic_points, in->flag, win_type);
+    ziwhakemo_payment_answer four = ziwhakemo_payment(in->basic_points, in->flag, win_type);
+    uint64_t others = in->flag ? 2 : 1;
+    hold(a.number == four.number && a.settlement == four.settlement &&
+             a.from_non_dealer == four.from_non_dealer && a.from_dealer == four.from_dealer &&
+             a.from_discarder == four.from_discarder,
+         "a payment with three players", in);
+    hold(a.total == a.from_discarder + a.from_dealer + others * a.from_non_dealer,
+         "the total of a payment with three players", in);
+    three_paid[a.number < NUMBERS ? a.number : 0]++;
+}
+
+/* pin 456, sou 234 678, man 99, a pon of Red from two seats onward, ron on sou 8 by South: both games
+   take it. */
+static input taken_by_both(void) {
+    input in = with_call(ZIWHAKEMO_RED, ZIWHAKEMO_MELD_OPEN_TRIPLET);
+    in.counts[ZIWHAKEMO_MAN(5)] = 0;
+    in.counts[ZIWHAKEMO_MAN(9)] = 2;
+    in.calls[0].source = ZIWHAKEMO_THREE_FROM_LEFT;
+    return in;
+}
+
+/* What each function for three players that takes a hand is answered with: this number, but that a
+   listing does not look at the win. */
+static void hold_three_number(const input *in, unsigned number) {
+    uint8_t records[ZIWHAKEMO_ALWAYS_ENOUGH];
+    const uint8_t *counts = in->counts;
+    size_t tiles = in->counts_length, melds = in->calls_length;
+    ziwhakemo_score_answer a = ziwhakemo_three_score_win(counts, tiles, in->calls, melds, in->win);
+    ziwhakemo_score_answer b =
+        ziwhakemo_three_score_reading(counts, tiles, in->calls, melds, in->win, 0);
+    ziwhakemo_waits_answer c =
+        ziwhakemo_three_name_waits(counts, tiles, in->calls, melds, in->win, 0);
+    ziwhakemo_listing_answer d = ziwhakemo_three_list_readings(counts, tiles, in->calls, melds,
+                                                               records, sizeof records);
+    hold(a.number == number && b.number == number && c.number == number,
+         "the number of a win with three players", in);
+    hold(number == 0 || (is_alone(&a) && is_alone(&b)), "a refusal with more than its number", in);
+    hold(d.number == (number < 7 ? number : 0), "the number of a listing with three players", in);
+}
+
+/* A call of each kind, of each tile, with each of the 256 sources. */
+static void three_calls(void) {
+    for (unsigned kind = 0; kind < 9; kind++) {
+        for (unsigned source = 0; source < 256; source++) {
+            for (uint8_t tile = 0; tile < ZIWHAKEMO_TILES + 2; tile++) {
+                bool open = kind == ZIWHAKEMO_MELD_OPEN_TRIPLET ||
+                            kind == ZIWHAKEMO_MELD_OPEN_KAN || kind == ZIWHAKEMO_MELD_ADDED_KAN;
+                bool good = tile < ZIWHAKEMO_TILES && (tile < 1 || tile > 7) &&
+                            ((open && (source == 1 || source == 2)) ||
+                             (kind == ZIWHAKEMO_MELD_CLOSED_KAN && source == 0));
+                input in = taken_by_both();
+                in.win.is_last_tile = true; /* a yaku, whatever the call */
+                in.calls[0].tile = tile;
+                in.calls[0].kind = (uint8_t)kind;
+                in.calls[0].source = (uint8_t)source;
+                if (!good) hold_three_number(&in, 3);
+                else if (held(&in, tile) > 4) hold_three_number(&in, 5);
+                else hold_three_number(&in, 0);
+            }
+        }
+    }
+}
+
+/* Grounds for 3, 4, 6, 8, 14 and 9 in every mixture: the first of them, in this order, is answered.
+   Those for 3, 4 and 14 are none with four players. */
+static void three_in_order(void) {
+    for (unsigned grounds = 0; grounds < 64; grounds++) {
+        static const unsigned numbers[] = {3, 4, 6, 8, 14, 9};
+        unsigned first = 0;
+        input in = taken_by_both();
+        if (grounds & 1) in.calls[0].source = ZIWHAKEMO_FROM_LEFT;
+        if (grounds & 2) in.counts[ZIWHAKEMO_MAN(5)] = 1;
+        if (grounds & 4) in.counts[ZIWHAKEMO_MAN(9)] = 1;
+        if (grounds & 8) in.win.seat_wind = ZIWHAKEMO_WHITE;
+        if (grounds & 16) show(sort(&in, grounds & 1), 1, ZIWHAKEMO_SOU(7));
+        if (grounds & 32) in.win.winning_tile = ZIWHAKEMO_MAN(5);
+        while (first < 6 && !(grounds >> first & 1)) first++;
+        hold_three_number(&in, first < 6 ? numbers[first] : 0);
+    }
+}
+
+/* Each count of each absent tile, each number of indicators of either sort, each winning tile that is
+   absent, and each setting. */
+static void three_players(void) {
+    three_calls();
+    three_in_order();
+    for (unsigned n = 0; n < 256; n++) {
+        input shown = taken_by_both(), ura = taken_by_both(), setting = taken_by_both();
+        for (int value = 2; value <= 8; value++) {
+            input in = taken_by_both();
+            in.counts[ZIWHAKEMO_MAN(value)] = (uint8_t)n;
+            hold_three_number(&in, n > 0 ? 4 : 0);
+            in.win.winning_tile = ZIWHAKEMO_MAN(value);
+            hold_three_number(&in, n > 0 ? 4 : 9);
+        }
+        show(&shown.win.dora_indicators, n, ZIWHAKEMO_SOU(7));
+        show(&ura.win.ura_dora_indicators, n, ZIWHAKEMO_SOU(7));
+        setting.win.double_wind_fu = (uint8_t)n;
+        hold_three_number(&shown, n > 0 ? 14 : 0);
+        hold_three_number(&ura, n > 0 ? 14 : 0);
+        hold_three_number(&setting, n == 2 || n == 4 ? 0 : 8);
+    }
+}
+
 /* ---- The run ---- */
 
 static void run(const input *in) {
@@ -1210,7 +1424,7 @@ static void run(const input *in) {
     size_t bytes = 0;
     for (size_t i = 0; i < readings; i++) bytes += all[bytes] + 256u * all[bytes + 1];
     if (hand_check(in) == 0) with_readings[readings < MANY ? readings : (size_t)MANY]++;
-    list_exactly(in, from, all, bytes, readings);
+    list_exactly(in, from, all, bytes, readings, false);
     hold_melds(in, all, readings);
     score(in, from, readings);
     by_number(in, from, readings);
@@ -1218,6 +1432,10 @@ static void run(const input *in) {
     without_dora(in, from, readings);
     by_sources(in, all, bytes, readings);
     points(in);
+    list_exactly(in, from, all, bytes, readings, true);
+    three_score(in, from);
+    three_by_number(in, from);
+    three_points(in);
     hold(same(from.counts, in->counts, in->counts_length), "the counts changed", in);
     hold(same(from.calls, in->calls, in->calls_length * sizeof(ziwhakemo_meld)), "a call changed",
          in);
@@ -1254,6 +1472,11 @@ static void print_operations(bool enough) {
     print_numbers("ziwhakemo_score_reading", scored, reading, enough);
     print_numbers("ziwhakemo_name_waits", named, reading, enough);
     print_numbers("ziwhakemo_payment", paid, payment, enough);
+    print_numbers("ziwhakemo_three_list_readings", three_listed, listing, enough);
+    print_numbers("ziwhakemo_three_score_win", three_won, win, enough);
+    print_numbers("ziwhakemo_three_score_reading", three_scored, reading, enough);
+    print_numbers("ziwhakemo_three_name_waits", three_named, reading, enough);
+    print_numbers("ziwhakemo_three_payment", three_paid, payment, enough);
 }
 
 int main(int words, char **arguments) {
@@ -1268,6 +1491,7 @@ int main(int words, char **arguments) {
     settings();
     indicators();
     sources();
+    three_players();
     for (unsigned long i = 0; i < inputs; i++) {
         input in = draw_input();
         run(&in);

@@ -287,7 +287,24 @@ static uint32_t shown_eleven(void) {
     return ziwhakemo_score_win(h.counts, ZIWHAKEMO_TILES, NULL, 0, h.win).number;
 }
 
+/* What a listing of a hand with three players is answered with. */
+static uint32_t three_listed(const char *tiles) {
+    static uint8_t out[ZIWHAKEMO_ALWAYS_ENOUGH];
+    hand h = read_hand(tiles, "", "1m 12");
+    return ziwhakemo_three_list_readings(h.counts, ZIWHAKEMO_TILES, NULL, 0, out, sizeof out).number;
+}
+
+/* What a win with one indicator is answered with, with three players. */
+static uint32_t three_shown(void) {
+    hand h = read_hand("999m456p123789s22p", "", "1s 12");
+    h.win.dora_indicators.count = 1;
+    return ziwhakemo_three_score_win(h.counts, ZIWHAKEMO_TILES, NULL, 0, h.win).number;
+}
+
 static void refusals(void) {
+    const char *above = "a count above 4, or with three players one of man 2 to 8 above 0";
+    const char *shown =
+        "an indicator is above 33, there are more than ten, or one with three players";
     const char *good = "123678m456p789s22p";
     size_t room = ZIWHAKEMO_ALWAYS_ENOUGH, tiles = ZIWHAKEMO_TILES;
     hold_number(listed(good, "", tiles, room), "accepted");
@@ -295,7 +312,8 @@ static void refusals(void) {
     hold_number(listed("", "c1mc1mc1mc1pc1p", tiles, room), "more than four calls");
     hold_number(listed(good, "c8m", tiles, room),
                 "a call's kind, tile or source is not that of a call");
-    hold_number(listed("11111m", "", tiles, room), "a count above 4");
+    hold_number(listed("11111m", "", tiles, room), above);
+    hold_number(three_listed(good), above);
     hold_number(listed("11m", "p1m", tiles, room),
                 "hand and calls together hold more than four of a kind");
     hold_number(listed("1m", "", tiles, room), "hand tiles are not 14 - 3 x calls");
@@ -309,7 +327,8 @@ static void refusals(void) {
     hold_number(beyond(), "there are not more readings than that number");
     hold_number(ziwhakemo_payment(ZIWHAKEMO_MOST_BASIC_POINTS + 1, false, ZIWHAKEMO_RON).number,
                 "basic points above 152,000");
-    hold_number(shown_eleven(), "an indicator is above 33, or there are more than ten");
+    hold_number(shown_eleven(), shown);
+    hold_number(three_shown(), shown);
     hold_all(answered, NUMBERS, "number");
     hold(ziwhakemo_number_meaning(NUMBERS), "?", "no number");
 }

@@ -9,6 +9,8 @@
 //! chi is called from the left alone; for a pon or an open kan of which it is not known, any source does:
 //! readings differ in it and in nothing else, and waits not at all.
 //!
+//! These signatures name no game, and what is checked is what is checked of four players.
+//!
 //! The levels and basic points of han and fu need no other signature, and stand here too.
 //!
 //! ```

@@ -59,7 +59,8 @@ impl DoubleWindFu {
 /// ten are taken.
 ///
 /// Nothing is refused here: a win with more than ten, or with one that is no tile, is refused with 14 where
-/// it is scored. Of more than ten, the first ten are kept and how many there are.
+/// it is scored, and with three players a win with any. Of more than ten, the first ten are kept and how many
+/// there are.
 ///
 /// ```
 /// use ziwhakemo::{Indicators, Suit, Tile};

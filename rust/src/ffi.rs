@@ -2,12 +2,13 @@
 //! `unsafe` of this crate is here.
 
 use crate::OTHER_VERSION;
+use crate::rules::Variant;
 
 /// The version of the interface that is declared here: `ZIWHAKEMO_VERSION` of the header.
-pub const VERSION: u32 = 6;
+pub const VERSION: u32 = 7;
 
 /// A meld: the number of its lowest tile, its kind, and who its tile was called from: 1 to 3 seats onward,
-/// or 0.
+/// with three players 1 or 2, or 0.
 #[repr(C)]
 #[derive(Clone, Copy, Debug, PartialEq, Eq)]
 pub struct Meld {
@@ -140,11 +141,49 @@ unsafe extern "C" {
         reading: usize,
     ) -> WaitsAnswer;
 
+    // The same with three players.
+    fn ziwhakemo_three_list_readings(
+        counts: *const u8,
+        counts_length: usize,
+        calls: *const Meld,
+        calls_length: usize,
+        out: *mut u8,
+        out_length: usize,
+    ) -> ListingAnswer;
+    fn ziwhakemo_three_score_win(
+        counts: *const u8,
+        counts_length: usize,
+        calls: *const Meld,
+        calls_length: usize,
+        win: GameContext,
+    ) -> ScoreAnswer;
+    fn ziwhakemo_three_score_reading(
+        counts: *const u8,
+        counts_length: usize,
+        calls: *const Meld,
+        calls_length: usize,
+        win: GameContext,
+        reading: usize,
+    ) -> ScoreAnswer;
+    fn ziwhakemo_three_name_waits(
+        counts: *const u8,
+        counts_length: usize,
+        calls: *const Meld,
+        calls_length: usize,
+        win: GameContext,
+        reading: usize,
+    ) -> WaitsAnswer;
+
     // Safe: these take plain values, any of them, and no pointer.
     safe fn ziwhakemo_version() -> u32;
     safe fn ziwhakemo_score_level(han: u8, fu: u8, is_yakuman: bool) -> LevelAnswer;
     safe fn ziwhakemo_basic_points(han: u8, fu: u8, is_yakuman: bool) -> u32;
     safe fn ziwhakemo_payment(basic_points: u32, is_dealer: bool, win_type: u8) -> PaymentAnswer;
+    safe fn ziwhakemo_three_payment(
+        basic_points: u32,
+        is_dealer: bool,
+        win_type: u8,
+    ) -> PaymentAnswer;
 }
 
 /// The version of the archive.
@@ -158,12 +197,21 @@ fn check_version() {
 }
 
 /// Lists the readings of a hand into the lent buffer.
-pub fn list_readings(counts: &[u8], calls: &[Meld], out: &mut [u8]) -> ListingAnswer {
+pub fn list_readings(
+    variant: Variant,
+    counts: &[u8],
+    calls: &[Meld],
+    out: &mut [u8],
+) -> ListingAnswer {
     check_version();
+    let list_readings = match variant {
+        Variant::Yonma => ziwhakemo_list_readings,
+        Variant::Sanma => ziwhakemo_three_list_readings,
+    };
     // SAFETY: three slices, each handed over as its pointer and its length. `out` is borrowed alone, so
     // it overlaps neither of the others. The library keeps no pointer and is of the version declared here.
     unsafe {
-        ziwhakemo_list_readings(
+        list_readings(
             counts.as_ptr(),
             counts.len(),
             calls.as_ptr(),
@@ -175,12 +223,16 @@ pub fn list_readings(counts: &[u8], calls: &[Meld], out: &mut [u8]) -> ListingAn
 }
 
 /// Scores a win.
-pub fn score_win(counts: &[u8], calls: &[Meld], win: GameContext) -> ScoreAnswer {
+pub fn score_win(variant: Variant, counts: &[u8], calls: &[Meld], win: GameContext) -> ScoreAnswer {
     check_version();
+    let score_win = match variant {
+        Variant::Yonma => ziwhakemo_score_win,
+        Variant::Sanma => ziwhakemo_three_score_win,
+    };
     // SAFETY: two slices, each handed over as its pointer and its length, which are only read. The
     // flags of a `GameContext` are bools. The library keeps no pointer and is of the version declared here.
     unsafe {
-        ziwhakemo_score_win(
+        score_win(
             counts.as_ptr(),
             counts.len(),
             calls.as_ptr(),
@@ -192,15 +244,20 @@ pub fn score_win(counts: &[u8], calls: &[Meld], win: GameContext) -> ScoreAnswer
 
 /// Scores the reading with a number.
 pub fn score_reading(
+    variant: Variant,
     counts: &[u8],
     calls: &[Meld],
     win: GameContext,
     reading: usize,
 ) -> ScoreAnswer {
     check_version();
+    let score_reading = match variant {
+        Variant::Yonma => ziwhakemo_score_reading,
+        Variant::Sanma => ziwhakemo_three_score_reading,
+    };
     // SAFETY: as for `score_win`. Any number may be asked for.
     unsafe {
-        ziwhakemo_score_reading(
+        score_reading(
             counts.as_ptr(),
             counts.len(),
             calls.as_ptr(),
@@ -212,11 +269,21 @@ pub fn score_reading(
 }
 
 /// Names the waits of the reading with a number.
-pub fn name_waits(counts: &[u8], calls: &[Meld], win: GameContext, reading: usize) -> WaitsAnswer {
+pub fn name_waits(
+    variant: Variant,
+    counts: &[u8],
+    calls: &[Meld],
+    win: GameContext,
+    reading: usize,
+) -> WaitsAnswer {
     check_version();
+    let name_waits = match variant {
+        Variant::Yonma => ziwhakemo_name_waits,
+        Variant::Sanma => ziwhakemo_three_name_waits,
+    };
     // SAFETY: as for `score_win`. Any number may be asked for.
     unsafe {
-        ziwhakemo_name_waits(
+        name_waits(
             counts.as_ptr(),
             counts.len(),
             calls.as_ptr(),
@@ -240,9 +307,17 @@ pub fn basic_points(han: u8, fu: u8, is_yakuman: bool) -> u32 {
 }
 
 /// The payment of basic points.
-pub fn payment(basic_points: u32, is_dealer: bool, win_type: u8) -> PaymentAnswer {
+pub fn payment(
+    variant: Variant,
+    basic_points: u32,
+    is_dealer: bool,
+    win_type: u8,
+) -> PaymentAnswer {
     check_version();
-    ziwhakemo_payment(basic_points, is_dealer, win_type)
+    match variant {
+        Variant::Yonma => ziwhakemo_payment(basic_points, is_dealer, win_type),
+        Variant::Sanma => ziwhakemo_three_payment(basic_points, is_dealer, win_type),
+    }
 }
 
 #[cfg(test)]
@@ -252,7 +327,30 @@ mod tests {
     use std::mem::{align_of, offset_of, size_of};
     use std::ptr;
 
+    // The functions of four players, which those of three are held to below.
+
+    fn list_readings(counts: &[u8], calls: &[Meld], out: &mut [u8]) -> ListingAnswer {
+        super::list_readings(Variant::Yonma, counts, calls, out)
+    }
+
+    fn score_win(counts: &[u8], calls: &[Meld], win: GameContext) -> ScoreAnswer {
+        super::score_win(Variant::Yonma, counts, calls, win)
+    }
+
+    fn score_reading(counts: &[u8], calls: &[Meld], win: GameContext, n: usize) -> ScoreAnswer {
+        super::score_reading(Variant::Yonma, counts, calls, win, n)
+    }
+
+    fn name_waits(counts: &[u8], calls: &[Meld], win: GameContext, n: usize) -> WaitsAnswer {
+        super::name_waits(Variant::Yonma, counts, calls, win, n)
+    }
+
+    fn payment(basic_points: u32, is_dealer: bool, win_type: u8) -> PaymentAnswer {
+        super::payment(Variant::Yonma, basic_points, is_dealer, win_type)
+    }
+
     const MAN_1: u8 = 0;
+    const MAN_5: u8 = 4;
     const SOU_7: u8 = 24;
     const SOU_8: u8 = 25;
     const WHITE: u8 = 31;
@@ -733,5 +831,220 @@ mod tests {
             hold(shown(riichi(ron(SOU_8)), [man_1(3), man_1(count)]), 14);
             hold(shown(riichi(ron(SOU_8)), [man_1(count), man_1(3)]), 14);
         }
+    }
+
+    /// pin 222 333 444 567, sou 88, without its last meld where a call is to stand for it: two readings, in
+    /// both games.
+    fn of_pin(called: bool) -> [u8; 34] {
+        let mut counts = [0; 34];
+        counts[10..13].fill(3);
+        counts[13..16].fill(if called { 0 } else { 1 });
+        counts[usize::from(SOU_8)] = 2;
+        counts
+    }
+
+    /// The numbers with which the four operations that take a hand answer with three players.
+    fn three_numbers(counts: &[u8], calls: &[Meld], win: GameContext) -> [u32; 4] {
+        let mut out = [0xa5; ALWAYS_ENOUGH];
+        let three = Variant::Sanma;
+        let listing = super::list_readings(three, counts, calls, &mut out);
+        let is_left = out[listing.bytes..].iter().all(|&byte| byte == 0xa5);
+        assert!(is_left && (listing.number == 0 || listing.bytes == 0));
+        [
+            listing.number,
+            super::score_win(three, counts, calls, win).number,
+            super::score_reading(three, counts, calls, win, 0).number,
+            super::name_waits(three, counts, calls, win, 0).number,
+        ]
+    }
+
+    #[test]
+    fn calls_of_three_players_come_from_1_or_2() {
+        let counts = of_pin(true);
+        for (kind, source) in (0..=255).flat_map(|kind| (0..=255).map(move |source| (kind, source)))
+        {
+            let is_taken = match kind {
+                3 | 5 | 6 => source == 1 || source == 2,
+                4 => source == 0,
+                _ => false,
+            };
+            let tile = if kind < 2 { 18 } else { WHITE };
+            let call = Meld { tile, kind, source };
+            let expected = if is_taken { [0; 4] } else { [3; 4] };
+            assert_eq!(
+                three_numbers(&counts, &[call], ron(SOU_8)),
+                expected,
+                "{call:?}"
+            );
+        }
+    }
+
+    #[test]
+    fn three_players_are_refused_a_call_of_an_absent_tile() {
+        let counts = of_pin(true);
+        for (tile, kind) in (0..=255).flat_map(|tile| [3, 4, 5, 6].map(|kind| (tile, kind))) {
+            let source = if kind == 4 { 0 } else { 2 };
+            let number = match tile {
+                0 | 8..=9 | 13..=24 | 26..=33 => 0,
+                10..=12 | 25 => 5, // three or two more of it are in the hand
+                _ => 3,
+            };
+            let call = Meld { tile, kind, source };
+            let win = GameContext {
+                is_last_tile: true, // a yaku, whatever the call
+                ..ron(SOU_8)
+            };
+            assert_eq!(
+                three_numbers(&counts, &[call], win),
+                [number; 4],
+                "{call:?}"
+            );
+        }
+    }
+
+    #[test]
+    fn three_players_are_refused_each_count_of_an_absent_tile() {
+        for (tile, count) in (0..34).flat_map(|tile| (0..=255).map(move |count| (tile, count))) {
+            let mut counts = of_pin(false);
+            let held = counts[tile];
+            counts[tile] = count;
+            let number = match count {
+                5.. => 4,
+                1.. if (1..=7).contains(&tile) => 4,
+                _ if count != held => 6,
+                _ => 0,
+            };
+            let numbers = three_numbers(&counts, &[], ron(SOU_8));
+            assert_eq!(numbers, [number; 4], "{count} of {tile}");
+        }
+    }
+
+    #[test]
+    fn three_players_are_refused_each_number_of_indicators_but_none() {
+        let counts = of_pin(false);
+        for (count, tile) in
+            (0..=255).flat_map(|count| [MAN_1, SOU_7, 34].map(|tile| (count, tile)))
+        {
+            for both in [[times(count, tile), NONE], [NONE, times(count, tile)]] {
+                let number = if count > 0 { 14 } else { 0 };
+                for win in [ron(SOU_8), riichi(ron(SOU_8))] {
+                    let numbers = three_numbers(&counts, &[], shown(win, both));
+                    assert_eq!(numbers, [0, number, number, number], "{both:?}");
+                }
+            }
+        }
+    }
+
+    #[test]
+    fn the_order_of_refusals_is_the_same_with_three_players() {
+        // Each fault by itself and every mixture: the first number is answered.
+        for faults in 0u32..64 {
+            let has = |place: u32| faults >> place & 1 == 1;
+            let mut counts = of_pin(true);
+            let call = Meld {
+                tile: WHITE,
+                kind: 3,
+                source: if has(0) { 3 } else { 2 },
+            };
+            counts[usize::from(MAN_5)] = has(1).into();
+            counts[usize::from(SOU_8)] -= u8::from(has(2));
+            let win = GameContext {
+                double_wind_fu: if has(3) { 0 } else { 2 },
+                dora_indicators: man_1(has(4).into()),
+                ..ron(if has(5) { MAN_5 } else { SOU_8 })
+            };
+            let numbers = [3, 4, 6, 8, 14, 9];
+            let first = numbers.into_iter().zip(0..).find(|&(_, place)| has(place));
+            let number = first.map_or(0, |(number, _)| number);
+            let listing = if number < 7 { number } else { 0 };
+            let expected = [listing, number, number, number];
+            assert_eq!(
+                three_numbers(&counts, &[call], win),
+                expected,
+                "{faults:06b}"
+            );
+            // 1 and 2 come before all of them.
+            assert_eq!(three_numbers(&counts, &[call; 5], win), [2; 4]);
+            assert_eq!(three_numbers(&counts[1..], &[call; 5], win), [1; 4]);
+        }
+    }
+
+    #[test]
+    fn every_field_of_three_players_is_that_of_four_but_the_total() {
+        let counts = of_pin(false);
+        for (win_type, seat_wind) in [(0, 27), (0, 30), (1, 27), (1, 30)] {
+            let win = GameContext {
+                win_type,
+                seat_wind,
+                ..riichi(ron(SOU_8))
+            };
+            let of_three = |four: ScoreAnswer| ScoreAnswer {
+                total: four.total - u64::from(four.from_non_dealer),
+                ..four
+            };
+            let three = super::score_win(Variant::Sanma, &counts, &[], win);
+            assert_eq!(three, of_three(score_win(&counts, &[], win)));
+            assert_eq!((three.number, three.reading), (0, 1));
+            for n in [0, 1] {
+                let three = super::score_reading(Variant::Sanma, &counts, &[], win, n);
+                assert_eq!(three, of_three(score_reading(&counts, &[], win, n)));
+                let three = super::name_waits(Variant::Sanma, &counts, &[], win, n);
+                assert_eq!(three, name_waits(&counts, &[], win, n));
+            }
+            for n in [2, usize::MAX] {
+                let three = super::score_reading(Variant::Sanma, &counts, &[], win, n);
+                assert_eq!(three, score_reading(&counts, &[], win, n));
+                assert_eq!(three.number, 12);
+            }
+        }
+    }
+
+    #[test]
+    fn payments_of_three_players_are_those_of_four_but_the_total() {
+        for points in [
+            0,
+            1,
+            50,
+            51,
+            240,
+            320,
+            2000,
+            16_000,
+            152_000,
+            152_001,
+            u32::MAX,
+        ] {
+            for (win_type, is_dealer) in (0..=255).flat_map(|t| [(t, false), (t, true)]) {
+                let four = payment(points, is_dealer, win_type);
+                let expected = PaymentAnswer {
+                    total: four.total - u64::from(four.from_non_dealer),
+                    ..four
+                };
+                let three = super::payment(Variant::Sanma, points, is_dealer, win_type);
+                assert_eq!(three, expected, "{points} {win_type} {is_dealer}");
+            }
+        }
+    }
+
+    #[test]
+    fn records_of_three_players_are_those_of_four() {
+        for source in [1, 2] {
+            let call = Meld {
+                tile: WHITE,
+                kind: 3,
+                source,
+            };
+            let [mut three, mut four] = [[0; ALWAYS_ENOUGH]; 2];
+            let calls = [call];
+            let answer = super::list_readings(Variant::Sanma, &of_pin(true), &calls, &mut three);
+            assert_eq!(answer, list_readings(&of_pin(true), &calls, &mut four));
+            assert_eq!((answer.number, answer.bytes), (0, 2 * STANDARD_LENGTH));
+            assert_eq!(three, four);
+        }
+        // SAFETY: each count that goes with a null pointer is 0.
+        let nothing = unsafe {
+            ziwhakemo_three_list_readings(ptr::null(), 0, ptr::null(), 0, ptr::null_mut(), 0)
+        };
+        assert_eq!(nothing.number, 1);
     }
 }

@@ -4,10 +4,15 @@ use crate::OTHER_VERSION;
 use crate::ffi;
 use crate::record::{self, ALWAYS_ENOUGH};
 use crate::refusal::{Refusal, accepted};
+use crate::rules::Variant;
 use crate::tile::{NO_TILE, Tile};
 use alloc::vec::Vec;
 
-/// Who a called tile came from, as seen by the player who called it.
+/// The number that stands for what is no source. The library refuses it.
+const NO_SOURCE: u8 = 255;
+
+/// Who a called tile came from, as seen by the player who called it. With three players nobody sits across,
+/// and a call that says so is refused with 3.
 ///
 /// Two lists of calls that differ in sources alone, and both pass, have as many readings in as many bytes,
 /// reading `n` of the one is reading `n` of the other but for the sources, and scores and waits are alike.
@@ -36,6 +41,31 @@ impl Source {
     pub fn from_number(number: u8) -> Option<Source> {
         let place = usize::from(number).checked_sub(1)?;
         Source::ALL.get(place).copied()
+    }
+
+    /// Its number in a game: how many seats onward from the player who called. With three players the one on
+    /// the left sits two seats onward, and nobody sits across.
+    ///
+    /// ```
+    /// use ziwhakemo::{Source, Variant};
+    ///
+    /// let numbers = |variant| Source::ALL.map(|source| source.number_in(variant));
+    /// assert_eq!(numbers(Variant::Yonma), [Some(1), Some(2), Some(3)]);
+    /// assert_eq!(numbers(Variant::Sanma), [Some(1), None, Some(2)]);
+    /// ```
+    pub fn number_in(self, variant: Variant) -> Option<u8> {
+        match (variant, self) {
+            (Variant::Sanma, Source::Across) => None,
+            (Variant::Sanma, Source::Left) => Some(2),
+            (Variant::Sanma, Source::Right) | (Variant::Yonma, _) => Some(self.number()),
+        }
+    }
+
+    /// The source with a number in a game. With seats from 0 in the order of play, `players` of them, that is
+    /// `(from + players - caller) % players`.
+    pub fn from_number_in(number: u8, variant: Variant) -> Option<Source> {
+        let is_it = |source: &Source| source.number_in(variant) == Some(number);
+        Source::ALL.into_iter().find(is_it)
     }
 }
 
@@ -163,12 +193,12 @@ impl Meld {
         }
     }
 
-    /// The meld of a tile, a kind and a source as the library numbers them, 0 for no source. A closed meld
-    /// has none, and an open one has one.
-    pub(crate) fn of(tile: Tile, kind: u8, source: u8) -> Option<Meld> {
+    /// The meld of a tile, a kind and a source as the library numbers them in a game, 0 for no source. A
+    /// closed meld has none, and an open one has one.
+    pub(crate) fn of(tile: Tile, kind: u8, source: u8, variant: Variant) -> Option<Meld> {
         let source = match source {
             0 => None,
-            number => Some(Source::from_number(number)?),
+            number => Some(Source::from_number_in(number, variant)?),
         };
         match (kind, source) {
             (0, None) | (1, Some(_)) => Some(Meld::Shuntsu(tile, source)),
@@ -181,12 +211,14 @@ impl Meld {
     }
 }
 
-/// The calls as the library reads them. What is no tile stays none, and is refused there.
-pub(crate) fn lent(calls: &[Meld]) -> Vec<ffi::Meld> {
+/// The calls as the library reads them in a game. What is no tile stays none, and so does the player across
+/// where there is none; both are refused there.
+pub(crate) fn lent(calls: &[Meld], variant: Variant) -> Vec<ffi::Meld> {
+    let number = |source: Source| source.number_in(variant).unwrap_or(NO_SOURCE);
     let melds = calls.iter().map(|call| ffi::Meld {
         tile: call.tile().number().unwrap_or(NO_TILE),
         kind: call.kind(),
-        source: call.source().map_or(0, Source::number),
+        source: call.source().map_or(0, number),
     });
     melds.collect()
 }
@@ -227,9 +259,7 @@ pub struct Listing {
 ///
 /// Refuses with 1 to 6.
 pub fn decompose_hand(counts: &[u8], calls: &[Meld]) -> Result<Vec<HandStructure>, Refusal> {
-    let mut buffer = [0; ALWAYS_ENOUGH];
-    let listing = list_readings(counts, calls, &mut buffer)?;
-    Ok(record::decode(&buffer[..listing.bytes]).expect(OTHER_VERSION))
+    Variant::Yonma.decompose_hand(counts, calls)
 }
 
 /// Writes the records of all readings into the lent bytes, which [`record::decode`] reads. The bytes
@@ -237,12 +267,64 @@ pub fn decompose_hand(counts: &[u8], calls: &[Meld]) -> Result<Vec<HandStructure
 ///
 /// Refuses with 1 to 7.
 pub fn list_readings(counts: &[u8], calls: &[Meld], out: &mut [u8]) -> Result<Listing, Refusal> {
-    let answer = ffi::list_readings(counts, &lent(calls), out);
-    accepted(answer.number as usize)?;
-    Ok(Listing {
-        readings: answer.readings,
-        bytes: answer.bytes,
-    })
+    Variant::Yonma.list_readings(counts, calls, out)
+}
+
+/// Readings.
+impl Variant {
+    /// All readings of a finished hand in this game, as [`decompose_hand`] answers them for four players.
+    ///
+    /// Refuses with 1 to 6.
+    ///
+    /// ```
+    /// use ziwhakemo::{Honor, Meld, Refusal, Source, Suit, Tile, Variant, to_counts};
+    ///
+    /// // man 111 999, sou 88, and two calls from the player on the left
+    /// let hand = [(Suit::Man, 1, 3), (Suit::Man, 9, 3), (Suit::Sou, 8, 2)];
+    /// let tiles = hand.map(|(suit, value, count)| vec![Tile::suited(suit, value); count]);
+    /// let counts = to_counts(&tiles.concat()).unwrap();
+    /// let pon = Meld::koutsu_open(Tile::honor(Honor::North), Source::Left);
+    /// let other = Meld::koutsu_open(Tile::suited(Suit::Pin, 4), Source::Left);
+    /// let readings = Variant::Sanma.decompose_hand(&counts, &[pon.clone(), other])?;
+    /// assert_eq!(readings.len(), 1);
+    ///
+    /// // A chi in place of the second is refused, as is a pon of man 5.
+    /// for no_call in [
+    ///     Meld::shuntsu_open(Tile::suited(Suit::Pin, 4)),
+    ///     Meld::koutsu_open(Tile::suited(Suit::Man, 5), Source::Left),
+    /// ] {
+    ///     let readings = Variant::Sanma.decompose_hand(&counts, &[pon.clone(), no_call]);
+    ///     assert_eq!(readings, Err(Refusal::NotACall));
+    /// }
+    /// # Ok::<(), Refusal>(())
+    /// ```
+    pub fn decompose_hand(
+        self,
+        counts: &[u8],
+        calls: &[Meld],
+    ) -> Result<Vec<HandStructure>, Refusal> {
+        let mut buffer = [0; ALWAYS_ENOUGH];
+        let listing = self.list_readings(counts, calls, &mut buffer)?;
+        Ok(record::decode_in(&buffer[..listing.bytes], self).expect(OTHER_VERSION))
+    }
+
+    /// Writes the records of all readings into the lent bytes, as [`list_readings`] does for four players.
+    /// [`record::decode_in`] reads them.
+    ///
+    /// Refuses with 1 to 7.
+    pub fn list_readings(
+        self,
+        counts: &[u8],
+        calls: &[Meld],
+        out: &mut [u8],
+    ) -> Result<Listing, Refusal> {
+        let answer = ffi::list_readings(self, counts, &lent(calls, self), out);
+        accepted(answer.number as usize)?;
+        Ok(Listing {
+            readings: answer.readings,
+            bytes: answer.bytes,
+        })
+    }
 }
 
 #[cfg(test)]
@@ -262,22 +344,48 @@ mod tests {
     }
 
     #[test]
+    fn a_number_in_a_game_is_that_of_the_seats_onward() {
+        for number in 0..=255 {
+            let [four, three] = Variant::ALL.map(|variant| Source::from_number_in(number, variant));
+            assert_eq!(four, Source::from_number(number));
+            let expected = match number {
+                1 => Some(Source::Right),
+                2 => Some(Source::Left),
+                _ => None,
+            };
+            assert_eq!(three, expected);
+        }
+        for (source, variant) in Source::ALL
+            .into_iter()
+            .flat_map(|source| Variant::ALL.map(|variant| (source, variant)))
+        {
+            match source.number_in(variant) {
+                Some(number) => assert_eq!(Source::from_number_in(number, variant), Some(source)),
+                None => assert_eq!((source, variant), (Source::Across, Variant::Sanma)),
+            }
+        }
+    }
+
+    #[test]
     fn kinds_with_sources_and_melds_are_one_to_one() {
         let tile = Tile::suited(Suit::Sou, 3);
-        for (kind, source) in (0..=7).flat_map(|kind| (0..=255).map(move |source| (kind, source))) {
+        let kinds = (0..=7).flat_map(|kind| (0..=255).map(move |source| (kind, source)));
+        for ((kind, source), variant) in
+            kinds.flat_map(|pair| Variant::ALL.map(|variant| (pair, variant)))
+        {
             let is_one = match kind {
                 0 | 2 | 4 => source == 0,
-                1 | 3 | 5 | 6 => (1..=3).contains(&source),
+                1 | 3 | 5 | 6 => (1..variant.players()).contains(&source.into()),
                 _ => false,
             };
-            let meld = Meld::of(tile, kind, source);
+            let meld = Meld::of(tile, kind, source, variant);
             assert_eq!(meld.is_some(), is_one, "{kind} {source}");
             let Some(meld) = meld else { continue };
             assert_eq!((meld.tile(), meld.kind()), (tile, kind));
-            assert_eq!(meld.source(), Source::from_number(source));
+            assert_eq!(meld.source(), Source::from_number_in(source, variant));
             assert_eq!(meld.is_open(), source > 0);
             assert_eq!(meld.is_sequence(), kind < 2);
-            let lent = lent(&[meld]);
+            let lent = lent(&[meld], variant);
             assert_eq!((lent[0].kind, lent[0].source), (kind, source));
         }
     }
@@ -290,6 +398,18 @@ mod tests {
             kind: 3,
             source: 1,
         };
-        assert_eq!(lent(&[no_tile]), [expected]);
+        for variant in Variant::ALL {
+            assert_eq!(lent(core::slice::from_ref(&no_tile), variant), [expected]);
+        }
+    }
+
+    #[test]
+    fn the_player_across_is_lent_as_none_with_three_players() {
+        let pon = [Meld::koutsu_open(
+            Tile::suited(Suit::Sou, 3),
+            Source::Across,
+        )];
+        let sources = Variant::ALL.map(|variant| lent(&pon, variant)[0].source);
+        assert_eq!(sources, [2, NO_SOURCE]);
     }
 }

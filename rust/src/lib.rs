@@ -33,6 +33,9 @@
 //! # Ok::<(), ziwhakemo::Refusal>(())
 //! ```
 //!
+//! These functions are of four players. The game of three ([`Variant::Sanma`]) has the same ones as methods:
+//! `Variant::Sanma.score_win(&counts, &[], &context)`. What differs between the two games stands in [`rules`].
+//!
 //! Without the feature `std`, which is on by default, the crate needs `alloc` alone, and leaves out
 //! `TileCounts`, `counts_of` and the module `agari`.
 #![no_std]
@@ -52,6 +55,7 @@ mod ffi;
 pub mod hand;
 pub mod record;
 pub mod refusal;
+pub mod rules;
 pub mod scoring;
 pub mod tile;
 pub mod wait;
@@ -60,6 +64,7 @@ pub mod yaku;
 pub use context::{DoraCount, DoubleWindFu, GameContext, Indicators, WinType};
 pub use hand::{HandStructure, KanType, Listing, Meld, Source, decompose_hand, list_readings};
 pub use refusal::Refusal;
+pub use rules::Variant;
 pub use scoring::{
     FuResult, Payment, ScoreLevel, ScoredWin, ScoringResult, calculate_basic_points,
     calculate_payment, determine_score_level, score_reading, score_win,

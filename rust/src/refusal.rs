@@ -14,9 +14,10 @@ pub enum Refusal {
     /// More than four calls.
     TooManyCalls = 2,
     /// A call's kind, tile or source is not that of a call. A closed sequence or a closed triplet is no
-    /// call, and a sequence starts at 1 to 7 of a suit and is called from the left.
+    /// call, and a sequence starts at 1 to 7 of a suit and is called from the left. With three players a
+    /// sequence is no call, nor is a call of man 2 to 8 or from across.
     NotACall = 3,
-    /// A count above 4.
+    /// A count above 4. With three players one of man 2 to 8 above 0 too.
     CountAboveFour = 4,
     /// Hand and calls together hold more than four of a kind.
     FiveOfAKind = 5,
@@ -37,8 +38,8 @@ pub enum Refusal {
     NoSuchReading = 12,
     /// Basic points above 152,000.
     BasicPoints = 13,
-    /// An indicator is no tile, or there are more than ten of dora or of ura dora. It comes after 8 and
-    /// before 9, and without riichi too where it is of ura dora.
+    /// An indicator is no tile, or there are more than ten of dora or of ura dora. With three players there
+    /// is any. It comes after 8 and before 9, and without riichi too where it is of ura dora.
     Indicators = 14,
 }
 
@@ -78,7 +79,9 @@ impl Refusal {
             Refusal::CountsLength => "the counts are not 34 long",
             Refusal::TooManyCalls => "more than four calls",
             Refusal::NotACall => "a call's kind, tile or source is not that of a call",
-            Refusal::CountAboveFour => "a count above 4",
+            Refusal::CountAboveFour => {
+                "a count above 4, or with three players one of man 2 to 8 above 0"
+            }
             Refusal::FiveOfAKind => "hand and calls together hold more than four of a kind",
             Refusal::NumberOfTiles => "the hand's tiles are not 14 - 3 × calls",
             Refusal::BufferTooShort => "the records need more bytes than were lent",
@@ -88,7 +91,9 @@ impl Refusal {
             Refusal::NoYaku => "no reading has a yaku",
             Refusal::NoSuchReading => "there are not more readings than the number asked for",
             Refusal::BasicPoints => "basic points above 152,000",
-            Refusal::Indicators => "an indicator is above 33, or there are more than ten",
+            Refusal::Indicators => {
+                "an indicator is above 33, there are more than ten, or one with three players"
+            }
         }
     }
 }

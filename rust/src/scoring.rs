@@ -5,6 +5,7 @@ use crate::context::{DoraCount, GameContext, WinType};
 use crate::ffi;
 use crate::hand::{Meld, lent};
 use crate::refusal::{Refusal, accepted};
+use crate::rules::Variant;
 use crate::yaku::YakuResult;
 use alloc::string::{String, ToString};
 
@@ -60,10 +61,10 @@ pub struct FuResult {
     pub total: u8,
 }
 
-/// Who pays what, at a table of four.
+/// Who pays what.
 #[derive(Debug, Clone, Copy, PartialEq, Eq)]
 pub struct Payment {
-    /// What the winner gets
+    /// What the winner gets, from all who pay: by tsumo the three others, or the two others where three play
     pub total: u32,
     /// By tsumo: what each other player pays who is not the dealer
     pub from_non_dealer: Option<u32>,
@@ -179,8 +180,7 @@ pub fn score_win(
     calls: &[Meld],
     context: &GameContext,
 ) -> Result<ScoredWin, Refusal> {
-    let answer = ffi::score_win(counts, &lent(calls), context.lent());
-    ScoredWin::of(&answer, context)
+    Variant::Yonma.score_win(counts, calls, context)
 }
 
 /// Scores reading number `n` of [`decompose_hand`](crate::decompose_hand), with a yaku or without: where
@@ -194,8 +194,7 @@ pub fn score_reading(
     context: &GameContext,
     n: usize,
 ) -> Result<ScoredWin, Refusal> {
-    let answer = ffi::score_reading(counts, &lent(calls), context.lent(), n);
-    ScoredWin::of(&answer, context)
+    Variant::Yonma.score_reading(counts, calls, context, n)
 }
 
 /// The level of han and fu, with or without a yakuman. Refuses nothing.
@@ -215,7 +214,84 @@ pub fn calculate_payment(
     is_dealer: bool,
     win_type: WinType,
 ) -> Result<Payment, Refusal> {
-    let answer = ffi::payment(basic_points, is_dealer, win_type.number());
-    accepted(answer.number)?;
-    Ok(Payment::of(answer))
+    Variant::Yonma.calculate_payment(basic_points, is_dealer, win_type)
+}
+
+/// Scores and payments.
+impl Variant {
+    /// Scores a win in this game, as [`score_win`] does for four players. With three players the total, by
+    /// which the reading is chosen, is of two payers by tsumo.
+    ///
+    /// Refuses with 1 to 6, 8, 14, 9, 10, 11.
+    ///
+    /// ```
+    /// use ziwhakemo::{GameContext, Honor, Refusal, Suit, Tile, Variant, WinType, to_counts};
+    ///
+    /// // man 999, pin 345, sou 456, sou 88, North North North: seat North in the East round, tsumo on pin 5
+    /// let tile = |suit, value| Tile::suited(suit, value);
+    /// let pin = [3, 4, 5].map(|value| tile(Suit::Pin, value));
+    /// let sou = [4, 5, 6, 8, 8].map(|value| tile(Suit::Sou, value));
+    /// let triplets = [[tile(Suit::Man, 9); 3], [Tile::honor(Honor::North); 3]].concat();
+    /// let counts = to_counts(&[&pin[..], &sou, &triplets].concat()).unwrap();
+    /// let context = GameContext::new(WinType::Tsumo, Honor::East, Honor::North)
+    ///     .with_winning_tile(tile(Suit::Pin, 5));
+    ///
+    /// let win = Variant::Sanma.score_win(&counts, &[], &context)?;
+    /// assert_eq!((win.result.han, win.result.fu.total), (2, 40));
+    /// let payment = win.result.payment;
+    /// assert_eq!((payment.from_dealer, payment.from_non_dealer), (Some(1300), Some(700)));
+    /// assert_eq!(payment.total, 2000);
+    ///
+    /// // No indicator is taken with three players.
+    /// let shown = context.with_dora([tile(Suit::Sou, 7)]);
+    /// assert_eq!(Variant::Sanma.score_win(&counts, &[], &shown), Err(Refusal::Indicators));
+    /// # Ok::<(), Refusal>(())
+    /// ```
+    pub fn score_win(
+        self,
+        counts: &[u8],
+        calls: &[Meld],
+        context: &GameContext,
+    ) -> Result<ScoredWin, Refusal> {
+        let answer = ffi::score_win(self, counts, &lent(calls, self), context.lent());
+        ScoredWin::of(&answer, context)
+    }
+
+    /// Scores reading number `n` of [`decompose_hand`](Variant::decompose_hand) in this game, as
+    /// [`score_reading`] does for four players.
+    ///
+    /// Refuses with 1 to 6, 8, 14, 9, 12.
+    pub fn score_reading(
+        self,
+        counts: &[u8],
+        calls: &[Meld],
+        context: &GameContext,
+        n: usize,
+    ) -> Result<ScoredWin, Refusal> {
+        let answer = ffi::score_reading(self, counts, &lent(calls, self), context.lent(), n);
+        ScoredWin::of(&answer, context)
+    }
+
+    /// The payment of basic points in this game. Refuses with 13.
+    ///
+    /// ```
+    /// use ziwhakemo::{Variant, WinType};
+    ///
+    /// let total = |variant: Variant, is_dealer| {
+    ///     let payment = variant.calculate_payment(2000, is_dealer, WinType::Tsumo);
+    ///     payment.map(|payment| payment.total)
+    /// };
+    /// assert_eq!(Variant::ALL.map(|variant| total(variant, true)), [Ok(12_000), Ok(8000)]);
+    /// assert_eq!(Variant::ALL.map(|variant| total(variant, false)), [Ok(8000), Ok(6000)]);
+    /// ```
+    pub fn calculate_payment(
+        self,
+        basic_points: u32,
+        is_dealer: bool,
+        win_type: WinType,
+    ) -> Result<Payment, Refusal> {
+        let answer = ffi::payment(self, basic_points, is_dealer, win_type.number());
+        accepted(answer.number)?;
+        Ok(Payment::of(answer))
+    }
 }

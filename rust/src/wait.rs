@@ -4,6 +4,7 @@ use crate::context::GameContext;
 use crate::ffi;
 use crate::hand::{Meld, lent};
 use crate::refusal::{Refusal, accepted};
+use crate::rules::Variant;
 use alloc::vec::Vec;
 
 /// A wait.
@@ -59,9 +60,26 @@ pub fn detect_wait_types(
     context: &GameContext,
     n: usize,
 ) -> Result<Vec<WaitType>, Refusal> {
-    let answer = ffi::name_waits(counts, &lent(calls), context.lent(), n);
-    accepted(answer.number)?;
-    Ok(each_as_often(&WaitType::ALL, &answer.waits))
+    Variant::Yonma.detect_wait_types(counts, calls, context, n)
+}
+
+/// Waits.
+impl Variant {
+    /// The waits of reading number `n` of [`decompose_hand`](Variant::decompose_hand) in this game, as
+    /// [`detect_wait_types`] names them for four players.
+    ///
+    /// Refuses with 1 to 6, 8, 14, 9, 12.
+    pub fn detect_wait_types(
+        self,
+        counts: &[u8],
+        calls: &[Meld],
+        context: &GameContext,
+        n: usize,
+    ) -> Result<Vec<WaitType>, Refusal> {
+        let answer = ffi::name_waits(self, counts, &lent(calls, self), context.lent(), n);
+        accepted(answer.number)?;
+        Ok(each_as_often(&WaitType::ALL, &answer.waits))
+    }
 }
 
 /// The entries, each as often as its tally says.

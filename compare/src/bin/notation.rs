@@ -7,7 +7,9 @@
 //! for the room's setting it has to take one, and to refuse a second. Of those for indicators it has to
 //! take the tiles of dora and those of ura, each in their order, to refuse a word that names no tiles,
 //! and to lose none: of more than ten it writes no hand. Of those for whom a call came from, which agari
-//! does not know, it has to take one behind a call that can come from there, and to refuse any other.
+//! does not know, it has to take one behind a call that can come from there, and to refuse any other. Of
+//! those for the game it has to take one and to refuse a second, and with three players to refuse a call
+//! from across.
 //!
 //! Prints how many texts there were of each sort and how many differ; exits with status 1 if any does.
 
@@ -38,6 +40,15 @@ const SOURCES: &[(&str, &str)] = &[
     ("SHIMOCHA", "right"),
 ];
 
+/// Words for the game, with whether three play.
+const GAMES: &[(&str, bool)] = &[
+    ("three", true),
+    ("SANMA", true),
+    ("Three-Players", true),
+    ("four", false),
+    ("yonma", false),
+];
+
 /// A hand as it was read: tiles and calls in the words of the program, and what stands behind the winds.
 #[derive(PartialEq)]
 struct Read {
@@ -58,6 +69,7 @@ enum Piece {
     Text,
     Won,
     Setting(&'static str),
+    Game(&'static str),
     Source(&'static str),
     Indicators(Indicating),
 }
@@ -147,6 +159,12 @@ fn settings(rng: &mut Rng) -> Vec<&'static str> {
     (0..words).map(|_| word(rng)).collect()
 }
 
+/// Words for the game: none, one, or seldom two.
+fn games(rng: &mut Rng) -> Vec<&'static str> {
+    let words = rng.share(&[60, 37, 3]);
+    (0..words).map(|_| rng.pick(GAMES).0).collect()
+}
+
 /// Words for whom a call came from: none, one, or seldom two.
 fn sources(rng: &mut Rng) -> Vec<&'static str> {
     let words = rng.share(&[70, 27, 3]);
@@ -204,7 +222,7 @@ impl Piece {
         let words = match self {
             Piece::Text => vec![text],
             Piece::Won => vec!["ron", "1m"],
-            Piece::Setting(word) | Piece::Source(word) => vec![*word],
+            Piece::Setting(word) | Piece::Game(word) | Piece::Source(word) => vec![*word],
             Piece::Indicators(said) if said.is_ura => vec!["ura", &said.word],
             Piece::Indicators(said) => vec!["dora", &said.word],
         };
@@ -237,11 +255,12 @@ fn insert_source(rng: &mut Rng, pieces: &mut Vec<Piece>, word: &'static str) {
     pieces.insert(place, Piece::Source(word));
 }
 
-/// A text, with the winning tile, words for the setting, for indicators and for whom a call came from
-/// around it.
+/// A text, with the winning tile, words for the setting, for the game, for indicators and for whom a call
+/// came from around it.
 fn given(rng: &mut Rng) -> Given {
     let text = text(rng);
     let mut beside: Vec<Piece> = settings(rng).into_iter().map(Piece::Setting).collect();
+    beside.extend(games(rng).into_iter().map(Piece::Game));
     let words = [0, 1 + rng.below(2), 3 + rng.below(3)][rng.share(&[40, 45, 15])];
     beside.extend((0..words).map(|_| Piece::Indicators(indicating(rng))));
     let mut pieces = vec![Piece::Text, Piece::Won];
@@ -269,6 +288,19 @@ impl Given {
             _ => None,
         };
         self.pieces.iter().filter_map(setting).collect()
+    }
+
+    /// Whether three play, of each word for the game.
+    fn games(&self) -> Vec<bool> {
+        let is_three = |said: &str| {
+            let known = GAMES.iter().find(|(word, _)| *word == said);
+            known.expect("a word of the list").1
+        };
+        let game = |piece: &Piece| match piece {
+            Piece::Game(word) => Some(is_three(word)),
+            _ => None,
+        };
+        self.pieces.iter().filter_map(game).collect()
     }
 
     /// The words for whom a call came from, as the program writes them.
@@ -327,8 +359,8 @@ impl Given {
         }
     }
 
-    /// What the program says behind the winds: a setting of two, and the indicators of each sort. Nothing
-    /// where there are two settings.
+    /// What the program says behind the winds: a setting of two, three players, and the indicators of each
+    /// sort. Nothing where there are two settings.
     fn behind(&self) -> Option<String> {
         let setting = match self.settings()[..] {
             [] => "",
@@ -336,9 +368,10 @@ impl Given {
             [_] => "",
             _ => return None,
         };
+        let game = ["", " three"][usize::from(self.games() == [true])];
         let dora = self.indicators_said("dora", false);
         let ura = self.indicators_said("ura", true);
-        Some(format!("{setting}{dora}{ura}"))
+        Some(format!("{setting}{game}{dora}{ura}"))
     }
 }
 
@@ -405,6 +438,11 @@ fn can_be_said(parsed: &ParsedHand, sources: &[&str]) -> bool {
         (Some(last), [source]) => can_come_from(&last.meld, source),
         _ => false,
     }
+}
+
+/// Does the last call come from across, as far as calls are kept?
+fn is_from_across(parsed: &ParsedHand, sources: &[&str]) -> bool {
+    parsed.called_melds.len() <= 4 && sources.contains(&"across")
 }
 
 /// The tiles of a hand in the words of the program, suit by suit.
@@ -526,6 +564,10 @@ fn compared(given: &Given) -> (&'static str, bool) {
     let Some(behind) = given.behind() else {
         return ("refused for a second setting", read.is_some());
     };
+    let games = given.games();
+    if games.len() > 1 {
+        return ("refused for a second game", read.is_some());
+    }
     if given.has_bad_indicator() {
         return ("refused for an indicator that is none", read.is_some());
     }
@@ -544,6 +586,10 @@ fn compared(given: &Given) -> (&'static str, bool) {
         (Some(parsed), read) if !can_be_said(&parsed, &sources) => {
             ("refused for a source that cannot be", read.is_some())
         }
+        (Some(parsed), read) if games == [true] && is_from_across(&parsed, &sources) => (
+            "refused for a call from across with three players",
+            read.is_some(),
+        ),
         (Some(parsed), Some(read)) => match in_words(&parsed, source, behind) {
             Some(words) if words != read => ("read by both, and not alike", true),
             Some(_) if !sources.is_empty() => ("read alike, with whom a call came from", false),
@@ -561,11 +607,12 @@ fn compared(given: &Given) -> (&'static str, bool) {
     }
 }
 
-/// How many inputs there were with so many words for the setting and for whom a call came from, and with
-/// which indicators.
+/// How many inputs there were with so many words for the setting, for the game and for whom a call came
+/// from, and with which indicators.
 #[derive(Default)]
 struct Beside {
     settings: [u64; 3],
+    games: [u64; 3],
     sources: [u64; 3],
     dora: u64,
     ura: u64,
@@ -577,6 +624,7 @@ impl Beside {
     /// One more.
     fn count(&mut self, given: &Given) {
         self.settings[given.settings().len()] += 1;
+        self.games[given.games().len()] += 1;
         self.sources[given.sources().len()] += 1;
         self.dora += u64::from(!given.shown(false).is_empty());
         self.ura += u64::from(!given.shown(true).is_empty());
@@ -587,6 +635,8 @@ impl Beside {
     fn print(&self) {
         let settings = listed_from(0, &self.settings);
         println!("by words for the room's setting: {settings}");
+        let games = listed_from(0, &self.games);
+        println!("by words for the game: {games}");
         let sources = listed_from(0, &self.sources);
         println!("by words for whom a call came from: {sources}");
         println!(

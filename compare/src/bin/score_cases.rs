@@ -37,6 +37,8 @@ const STARTS: &[&str] = &[
     "222m456p345678s11z|tsumo|5p|dealer",
     "double-wind-2 111222333m 567p 22z tsumo 3m|seat|south|round|south",
     "123m55m456p234678s ron 8s riichi dora 4m3m ura 1z4p",
+    "three 111999m567p88s pon 555z tsumo 8s",
+    "222333444p567s99m|ron|9m|sanma",
     "",
 ];
 
@@ -84,6 +86,9 @@ const PIECES: &[&str] = &[
     "double-wind-4",
     "double-wind-2 riichi",
     "double-wind-3",
+    "three",
+    "Sanma",
+    "four",
     "dora",
     "ura",
     "dora 3m",

@@ -33,13 +33,14 @@ same-refusal n =
       same-payment = refl;
     }
 
-module _ (tsumo dealer : Bool) (δ : DoraCount) where
+-- at a table of so many players
+module _ (players : ℕ) (tsumo dealer : Bool) (δ : DoraCount) where
   -- two scores of one rank above 0
   same-rank-agree :
-      (x y : ScoringResult) → Valued tsumo dealer δ x → Valued tsumo dealer δ y → 0 < rank x → rank x ≡ rank y
+      (x y : ScoringResult) → Valued tsumo dealer δ x → Valued tsumo dealer δ y → 0 < rank players x → rank players x ≡ rank players y
       → (i j : ℕ) → SameAnswer (scored i x) (scored j y)
   same-rank-agree x y a b h e i j =
-      let s = rank-same x y (a .small) (b .small) h e in
+      let s = rank-same players x y (a .small) (b .small) h e in
       let han = s .same-han in
       let fu = s .same-fu in
       let yakuman = s .same-yakuman in
@@ -58,11 +59,12 @@ module _ (tsumo dealer : Bool) (δ : DoraCount) where
       }
 
   module _
-      (xs ys : List ScoringResult) (d : List·Permᴰ (map rank xs) (map rank ys))
+      (xs ys : List ScoringResult) (d : List·Permᴰ (map (rank players) xs) (map (rank players) ys))
       (f : (x : ScoringResult) → List·Memᴰ x xs → Valued tsumo dealer δ x)
       (g : (y : ScoringResult) → List·Memᴰ y ys → Valued tsumo dealer δ y)
     where
-      chosen-agree : ChosenOrNone rank xs → ChosenOrNone rank ys → SameAnswer (answerOf (chooseBy rank xs)) (answerOf (chooseBy rank ys))
+      chosen-agree :
+          ChosenOrNone (rank players) xs → ChosenOrNone (rank players) ys → SameAnswer (answerOf (chooseBy (rank players) xs)) (answerOf (chooseBy (rank players) ys))
       chosen-agree (none-there a c) (none-there b e) = subst₂ SameAnswer (sym (ap answerOf c)) (sym (ap answerOf e)) (same-refusal 11)
       chosen-agree (none-there a c) (one-there j y e m q h n) = absurd (omega (arith, greatest-perm d))
       chosen-agree (one-there i x c m p h n) (none-there b e) = absurd (omega (arith, greatest-perm d))
@@ -71,11 +73,11 @@ module _ (tsumo dealer : Bool) (δ : DoraCount) where
           (same-rank-agree x y (f x m) (g y o) h (p ∙ greatest-perm d ∙ sym q) i j)
 
   pub choice-agrees :
-      (xs ys : List ScoringResult) → List·Permᴰ (map rank xs) (map rank ys)
+      (xs ys : List ScoringResult) → List·Permᴰ (map (rank players) xs) (map (rank players) ys)
       → ((x : ScoringResult) → List·Memᴰ x xs → Valued tsumo dealer δ x) → ((y : ScoringResult) → List·Memᴰ y ys → Valued tsumo dealer δ y)
-      → SameAnswer (choice xs) (choice ys)
+      → SameAnswer (choice players xs) (choice players ys)
   unfolding choice
   choice-agrees [] [] d f g = same-refusal 10
   choice-agrees [] (y ∷ ys) d f g = absurd (omega (arith, length-perm d))
   choice-agrees (x ∷ xs) [] d f g = absurd (omega (arith, length-perm d))
-  choice-agrees (x ∷ xs) (y ∷ ys) d f g = chosen-agree (x ∷ xs) (y ∷ ys) d f g (chosen-or-none rank (x ∷ xs)) (chosen-or-none rank (y ∷ ys))
+  choice-agrees (x ∷ xs) (y ∷ ys) d f g = chosen-agree (x ∷ xs) (y ∷ ys) d f g (chosen-or-none (rank players) (x ∷ xs)) (chosen-or-none (rank players) (y ∷ ys))

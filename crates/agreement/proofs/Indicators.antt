@@ -5,7 +5,7 @@ use mathlib.Core.Bool.{Bool, true, false, _&&_, cond}
 use mathlib.Core.List.{List, [], _∷_, map}
 use Prim.Native.Nat.{ℕ, _<_}
 use native.Mathlib.Omega.{arith}
-use lib.Dec.{T, ltb, leb}
+use lib.Dec.{T, eqb, ltb, leb}
 use borrow.Author.Tests.{lt-ltb, ltb-true, ltb-false}
 use Rattle.lists.specs.Fold.{all}
 use Rattle.lists.proofs.Finite.{and-left, and-right}
@@ -15,7 +15,7 @@ use Rattle.tile.specs.Renaming.{ren, suitsAlone}
 use Rattle.tile.proofs.Renamings.{ren-lt, ren-above}
 use Rattle.context.specs.declared.Indicators.{Indicators}
 use Rattle.context.specs.declared.GameContext.{GameContext}
-use Rattle.context.specs.Context.{shown, areIndicators, indicatorsIn, renIndicators, renWin, indicating}
+use Rattle.context.specs.Context.{shown, areIndicators, indicatorsIn, noneShown, renIndicators, renWin, indicating}
 use Rattle.context.proofs.Shown.{none-of}
 use Rattle.dora.specs.declared.DoraCount.{DoraCount}
 use Rattle.dora.specs.Dora.{countOf, doraIn}
@@ -55,6 +55,10 @@ pub record BothRenamed (ρ : Renaming) (w : GameContext) (d u : Indicators) : Ty
 module _ {ρ : Renaming} {w : GameContext} {d u : Indicators} (both : BothRenamed ρ w d u) where
   pub checked-alike : indicatorsIn (indicating d u (renWin ρ w)) ≡ indicatorsIn w
   checked-alike = ap₂ _&&_ (indicators-renamed (both .dora)) (indicators-renamed (both .ura))
+
+  -- and none is shown where none was
+  pub none-alike : noneShown (indicating d u (renWin ρ w)) ≡ noneShown w
+  none-alike = ap₂ (λ (n m : ℕ). eqb n 0 && eqb m 0) (both .dora .many) (both .ura .many)
 
   -- c says how many of each tile hand and calls hold, c′ how many the renamed ones
   module _ (c c′ : ℕ → ℕ) (same : (t : ℕ) → t < 34 → c′ (ren ρ t) ≡ c t) (good : T (indicatorsIn w)) where

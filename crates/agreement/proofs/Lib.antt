@@ -8,4 +8,5 @@ pub mod Valued
 pub mod Fourteen
 pub mod Demand3
 pub mod Lent
+pub mod ThreePlayers
 pub mod Conditions

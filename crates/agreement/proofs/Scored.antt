@@ -10,6 +10,7 @@ use Rattle.lists.proofs.Permuted.{map-perm}
 use Rattle.lists.proofs.Members.{perm-eq, map-map, map-members}
 use Rattle.tile.specs.declared.Renaming.{Renaming}
 use Rattle.tile.specs.Renaming.{ren}
+use Rattle.rules.specs.Rules.{Game}
 use Rattle.meld.specs.declared.Meld.{Meld}
 use Rattle.meld.specs.Meld.{isOpen}
 use Rattle.meld.specs.Renamed.{renMeld}
@@ -55,13 +56,13 @@ pub record SameResult (x y : ScoringResult) : Type 0 where
   pub same-payment : x .payment ≡ y .payment
 
 module _ {x y : ScoringResult} (e : SameResult x y) where
-  -- so they have the same rank, and answers that say them agree
-  pub rank-alike : rank x ≡ rank y
+  -- so they have the same rank at each table, and answers that say them agree
+  pub rank-alike : (players : ℕ) → rank players x ≡ rank players y
   unfolding rank
-  rank-alike =
+  rank-alike players =
       λ i.
       cond (e .same-yaku i)
-      (suc (inDigits (totalAt 4 (e .same-payment i)) (yakumanFirst (e .same-yakuman i)) (e .same-han i) (e .same-fu i)))
+      (suc (inDigits (totalAt players (e .same-payment i)) (yakumanFirst (e .same-yakuman i)) (e .same-han i) (e .same-fu i)))
       0
 
   pub answers-alike : (i j : ℕ) → SameAnswer (scored i x) (scored j y)
@@ -105,7 +106,7 @@ unfolding handReadings
 is-reading cs k r i = listed-reading (held cs) (called k) r i
 
 -- ---- a win and the same win renamed, with the indicators d and u
-module _ {ρ : Renaming} {cs : List ℕ} {k j : Calls} {w : GameContext} (c : RenamedCalls ρ k j) (p : Checked cs k w) where
+module _ {g : Game} {ρ : Renaming} {cs : List ℕ} {k j : Calls} {w : GameContext} (c : RenamedCalls ρ k j) (p : Checked g cs k w) where
   -- open or not, as before
   opened-stays : isOpened j ≡ isOpened k
   opened-stays =
@@ -124,7 +125,7 @@ module _ {ρ : Renaming} {cs : List ℕ} {k j : Calls} {w : GameContext} (c : Re
 
       -- hand and calls together: the same counts, and so the same yaku of the tiles and the same dora
       counts-stay : (t : ℕ) → t < 34 → together (renCounts ρ cs) (called j) (ren ρ t) ≡ together cs (called k) t
-      counts-stay = together-twin (keeps ρ) (renamed-twin ρ cs c) (p .hand)
+      counts-stay = together-twin (keeps ρ) (renamed-twin ρ cs c) g (p .hand)
 
       tiles-stay : tilesTogether (renCounts ρ cs) j v ≡ tilesTogether cs k w
       tiles-stay =
@@ -148,14 +149,14 @@ module _ {ρ : Renaming} {cs : List ℕ} {k j : Calls} {w : GameContext} (c : Re
 
       -- the ranks of all readings, in another order
       pub ranks-renamed :
-          List·Permᴰ (map rank (scores (renCounts ρ cs) j v)) (map rank (scores cs k w))
+          (players : ℕ) → List·Permᴰ (map (rank players) (scores (renCounts ρ cs) j v)) (map (rank players) (scores cs k w))
       unfolding scores
-      ranks-renamed =
+      ranks-renamed players =
           let f = scoreIn (renCounts ρ cs) j v in
           let l = handReadings cs k in
-          List·Permᴰ·trans (map-perm rank (map-perm f (readings-renamed cs c (p .hand))))
+          List·Permᴰ·trans (map-perm (rank players) (map-perm f (readings-renamed g cs c (p .hand))))
           (perm-eq
-          (map-map f rank (map (renReading ρ) l)
-          ∙ map-map (renReading ρ) (λ r. rank (f r)) l
-          ∙ map-members (λ r. rank (f (renReading ρ r))) (λ r. rank (scoreIn cs k w r)) l (λ r i. rank-alike (score-renamed r i))
-          ∙ sym (map-map (scoreIn cs k w) rank l)))
+          (map-map f (rank players) (map (renReading ρ) l)
+          ∙ map-map (renReading ρ) (λ r. rank players (f r)) l
+          ∙ map-members (λ r. rank players (f (renReading ρ r))) (λ r. rank players (scoreIn cs k w r)) l (λ r i. rank-alike (score-renamed r i) players)
+          ∙ sym (map-map (scoreIn cs k w) (rank players) l)))

@@ -1,14 +1,15 @@
 -- Two units score one win each: a win, and the same win renamed. What it means that they agree. These are definitions; the theorem is
--- `demand3` in proofs/Demand3.antt, and `demand3-lent` in proofs/Lent.antt for calls that the callers lend.
+-- `demand3-in` in proofs/Demand3.antt for any game, `demand3` for that of four players, and `demand3-lent` in proofs/Lent.antt for calls that the callers lend.
 use mathlib.Core.Path.{_≡_}
-use mathlib.Core.Bool.{not}
+use mathlib.Core.Bool.{Bool, not}
 use mathlib.Core.List.{List, _++_, map, List·Permᴰ}
-use Prim.Native.Nat.{ℕ, _≤_}
-use lib.Dec.{T}
+use Prim.Native.Nat.{ℕ, _<_, _≤_}
+use lib.Dec.{T, eqb}
 use lib.ListN.{length, drop}
 use Rattle.lists.specs.Order.{Nodup, Pairwise}
 use Rattle.tile.specs.declared.Renaming.{Renaming}
-use Rattle.tile.specs.Renaming.{ren, suitsAlone}
+use Rattle.tile.specs.Renaming.{orderTo, ren, suitsAlone}
+use Rattle.rules.specs.Rules.{Game, four}
 use Rattle.meld.specs.Renamed.{renMeld}
 use Rattle.context.specs.declared.Indicators.{Indicators}
 use Rattle.context.specs.declared.GameContext.{GameContext}
@@ -17,11 +18,20 @@ use Rattle.hand.specs.Reading.{Reading}
 use Rattle.hand.specs.Records.{records, Before}
 use Rattle.renamed.specs.Renamed.{renReading, renCounts, allGreen}
 use Rattle.checks.specs.declared.Calls.{Calls}
-use Rattle.checks.specs.Checks.{called, together, handCheck}
-use Rattle.unit.specs.Listing.{handReadings, handRecords, listing, written}
+use Rattle.checks.specs.Checks.{called, together, handCheckIn}
+use Rattle.unit.specs.Listing.{handReadings, handRecords, listingIn, writtenIn}
 use Rattle.choice.specs.declared.ScoreAnswer.{ScoreAnswer}
 use Rattle.choice.specs.Standing.{StandsAt}
-use Rattle.win.specs.Win.{winCheck, scoreWin, scoreReading, nameWaits}
+use Rattle.win.specs.Win.{winCheckIn, scoreWinIn, scoreReadingIn, nameWaitsIn}
+
+-- ---- the renamings of a game
+-- under ρ each tile in the wall of the game g becomes one that is in it
+abbrev pub StaysAllowed : Game → Renaming → Type 0
+StaysAllowed g ρ = (t : ℕ) → t < 34 → T (g .allowed t) → T (g .allowed (ren ρ t))
+
+-- man keeps its place among the suits: pin and sou stay or change places, and numbers, dragons and winds go as they will
+abbrev pub manStays : Renaming → Bool
+manStays ρ = eqb (orderTo (ρ .numbers .suits) 0) 0
 
 -- ---- the second hand and win
 -- the calls j are the calls k renamed: as many, in their order, each meld renamed. What stands after the last call does not matter
@@ -74,14 +84,14 @@ pub record Writes (rs : List Reading) (buffer left : List ℕ) : Type 0 where
   pub ascending : Pairwise Before listed
   pub bytes : left ≡ records listed ++ drop (length (records listed)) buffer
 
--- the win w of the hand cs with the calls k, and the win v of the same hand renamed by ρ with the calls j
-module _ (ρ : Renaming) (cs : List ℕ) (k j : Calls) (w v : GameContext) where
+-- in the game g: the win w of the hand cs with the calls k, and the win v of the same hand renamed by ρ with the calls j
+module _ (g : Game) (ρ : Renaming) (cs : List ℕ) (k j : Calls) (w v : GameContext) where
   -- the reading r, number n of the first hand: its renamed one stands in the second, and at whatever number it stands there it has the same waits
   pub record SameReading (n : ℕ) (r : Reading) : Type 0 where
     pub number : ℕ
     pub stands : StandsAt (renReading ρ r) number (handReadings (renCounts ρ cs) j)
     pub waits :
-        (m : ℕ) → StandsAt (renReading ρ r) m (handReadings (renCounts ρ cs) j) → nameWaits (renCounts ρ cs) j v m ≡ nameWaits cs k w n
+        (m : ℕ) → StandsAt (renReading ρ r) m (handReadings (renCounts ρ cs) j) → nameWaitsIn g (renCounts ρ cs) j v m ≡ nameWaitsIn g cs k w n
 
   -- the two hands, whatever wins go with them
   pub record Listed : Type 0 where
@@ -89,15 +99,15 @@ module _ (ρ : Renaming) (cs : List ℕ) (k j : Calls) (w v : GameContext) where
     pub readings : List·Permᴰ (handReadings (renCounts ρ cs) j) (map (renReading ρ) (handReadings cs k))
     pub once : Nodup (handReadings (renCounts ρ cs) j)
     -- with equally many bytes lent both listings answer the same number and the same counts; accepted, the second writes these readings' records
-    pub listings : (lent : ℕ) → listing (renCounts ρ cs) j lent ≡ listing cs k lent
+    pub listings : (lent : ℕ) → listingIn g (renCounts ρ cs) j lent ≡ listingIn g cs k lent
     pub writes :
         (buffer : List ℕ) → length (handRecords cs k) ≤ length buffer
-        → Writes (map (renReading ρ) (handReadings cs k)) buffer (written (renCounts ρ cs) j buffer)
+        → Writes (map (renReading ρ) (handReadings cs k)) buffer (writtenIn g (renCounts ρ cs) j buffer)
 
   -- the two wins, under every renaming, whatever is shown
   pub record Wins : Type 0 where
     -- the second passes the same checks
-    pub passes : winCheck (renCounts ρ cs) j v ≡ 0
+    pub passes : winCheckIn g (renCounts ρ cs) j v ≡ 0
     -- reading n and its renamed one, by their numbers
     pub numbered : (n : ℕ) (r : Reading) → StandsAt r n (handReadings cs k) → SameReading n r
 
@@ -107,19 +117,23 @@ module _ (ρ : Renaming) (cs : List ℕ) (k j : Calls) (w v : GameContext) where
     pub numbered :
         (n : ℕ) (r : Reading) → StandsAt r n (handReadings cs k)
         → (m : ℕ) → StandsAt (renReading ρ r) m (handReadings (renCounts ρ cs) j)
-        → SameAnswer (scoreReading (renCounts ρ cs) j v m) (scoreReading cs k w n)
+        → SameAnswer (scoreReadingIn g (renCounts ρ cs) j v m) (scoreReadingIn g cs k w n)
     -- the two scored wins
-    pub won : SameAnswer (scoreWin (renCounts ρ cs) j v) (scoreWin cs k w)
+    pub won : SameAnswer (scoreWinIn g (renCounts ρ cs) j v) (scoreWinIn g cs k w)
 
   -- refused for its indicators: if the first is, so is the second, whatever readings are asked for
   pub record Refused14 : Type 0 where
-    pub won : scoreWin cs k w .number ≡ 14 → scoreWin (renCounts ρ cs) j v .number ≡ 14
-    pub numbered : (n m : ℕ) → scoreReading cs k w n .number ≡ 14 → scoreReading (renCounts ρ cs) j v m .number ≡ 14
-    pub waits : (n m : ℕ) → nameWaits cs k w n .number ≡ 14 → nameWaits (renCounts ρ cs) j v m .number ≡ 14
+    pub won : scoreWinIn g cs k w .number ≡ 14 → scoreWinIn g (renCounts ρ cs) j v .number ≡ 14
+    pub numbered : (n m : ℕ) → scoreReadingIn g cs k w n .number ≡ 14 → scoreReadingIn g (renCounts ρ cs) j v m .number ≡ 14
+    pub waits : (n m : ℕ) → nameWaitsIn g cs k w n .number ≡ 14 → nameWaitsIn g (renCounts ρ cs) j v m .number ≡ 14
 
   -- the two agree
-  pub record Alike : Type 0 where
-    pub listed : handCheck cs k ≡ 0 → Listed
-    pub wins : winCheck cs k w ≡ 0 → Wins
-    pub scored : winCheck cs k w ≡ 0 → NotGreen cs k → NotGreen (renCounts ρ cs) j → Comparable ρ w → Scored
+  pub record AlikeIn : Type 0 where
+    pub listed : handCheckIn g cs k ≡ 0 → Listed
+    pub wins : winCheckIn g cs k w ≡ 0 → Wins
+    pub scored : winCheckIn g cs k w ≡ 0 → NotGreen cs k → NotGreen (renCounts ρ cs) j → Comparable ρ w → Scored
     pub refused : Refused14
+
+-- with four players and all tiles
+abbrev pub Alike : Renaming → List ℕ → Calls → Calls → GameContext → GameContext → Type 0
+Alike ρ cs k j w v = AlikeIn four ρ cs k j w v

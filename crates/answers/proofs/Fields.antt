@@ -3,6 +3,7 @@ use mathlib.Core.Path.{_≡_, refl, sym, ap, subst}
 use mathlib.Core.Bool.{Bool, cond}
 use mathlib.Core.List.{List}
 use Prim.Native.Nat.{ℕ, _+_}
+use Rattle.rules.specs.Rules.{Game}
 use Rattle.context.specs.declared.GameContext.{GameContext}
 use Rattle.hand.specs.Reading.{Reading}
 use Rattle.wait.specs.Wait.{waits}
@@ -19,11 +20,11 @@ use Rattle.choice.specs.declared.ScoreAnswer.{ScoreAnswer}
 use Rattle.choice.specs.Choice.{scored}
 use Rattle.choice.specs.Standing.{StandsAt}
 use Rattle.win.specs.declared.WaitsAnswer.{WaitsAnswer}
-use Rattle.win.specs.Win.{winCheck, isOpened, tilesTogether, doraTogether, scoreIn, scoreWin, scoreReading, nameWaits}
+use Rattle.win.specs.Win.{winCheckIn, isOpened, tilesTogether, doraTogether, scoreIn, scoreWinIn, scoreReadingIn, nameWaitsIn}
 use Rattle.win.proofs.Answers.{scored-at, named-at}
 use Rattle.win_promises.proofs.Winning.{same-by-number}
 use Rattle.answers.specs.declared.ScoreValues.{ScoreValues}
-use Rattle.answers.specs.Answers.{scoreValues, waitsValues}
+use Rattle.answers.specs.Answers.{scoreValuesAt, waitsValues}
 
 -- the han that the tallies add up to: each as often as it counts, times the han of its yaku, closed or open as the hand is
 abbrev pub yakuHan : Bool → ScoreValues → ℕ
@@ -41,28 +42,28 @@ pub record ValuesOf (w : GameContext) (opened : Bool) (s : TileYaku) (d : DoraCo
   pub yakuman-is : v .«is_yakuman» ≡ isYakuman w opened s r
 
 values-of :
-    (w : GameContext) (opened : Bool) (s : TileYaku) (d : DoraCount) (r : Reading) (n : ℕ)
-    → ValuesOf w opened s d r n (scoreValues (scored n (scoreOf w opened s d r)))
+    (players : ℕ) (w : GameContext) (opened : Bool) (s : TileYaku) (d : DoraCount) (r : Reading) (n : ℕ)
+    → ValuesOf w opened s d r n (scoreValuesAt players (scored n (scoreOf w opened s d r)))
 unfolding scoreOf result han totalHan
-values-of w opened s d r n =
+values-of players w opened s d r n =
     record { reading-is = refl; tallies-are = refl; han-adds-up = refl; regular-is = refl; ura-is = refl; fu-is = refl; yakuman-is = refl }
 
-module _ (cs : List ℕ) (k : Calls) (w : GameContext) (passes : winCheck cs k w ≡ 0) where
+module _ (g : Game) (cs : List ℕ) (k : Calls) (w : GameContext) (passes : winCheckIn g cs k w ≡ 0) where
   -- by its number, of the reading r that stands at the number n
   module _ (n : ℕ) (r : Reading) (stands : StandsAt r n (handReadings cs k)) where
     -- its values are those of r: the number n, the tallies, the dora, the han they add up to, the fu, and whether there is a yakuman
-    pub reading-values : ValuesOf w (isOpened k) (tilesTogether cs k w) (doraTogether cs k w) r n (scoreValues (scoreReading cs k w n))
+    pub reading-values : ValuesOf w (isOpened k) (tilesTogether cs k w) (doraTogether cs k w) r n (scoreValuesAt (g .players) (scoreReadingIn g cs k w n))
     unfolding scoreIn
     reading-values =
-        subst (λ (a : ScoreAnswer). ValuesOf w (isOpened k) (tilesTogether cs k w) (doraTogether cs k w) r n (scoreValues a))
-        (sym (scored-at cs k w passes n r stands)) (values-of w (isOpened k) (tilesTogether cs k w) (doraTogether cs k w) r n)
+        subst (λ (a : ScoreAnswer). ValuesOf w (isOpened k) (tilesTogether cs k w) (doraTogether cs k w) r n (scoreValuesAt (g .players) a))
+        (sym (scored-at g cs k w passes n r stands)) (values-of (g .players) w (isOpened k) (tilesTogether cs k w) (doraTogether cs k w) r n)
 
     -- its waits are those of the winning tile in r
-    pub waits-values : waitsValues (nameWaits cs k w n) .waits ≡ waits (w .«winning_tile») r
-    waits-values = ap (λ (a : WaitsAnswer). waitsValues a .waits) (named-at cs k w passes n r stands)
+    pub waits-values : waitsValues (nameWaitsIn g cs k w n) .waits ≡ waits (w .«winning_tile») r
+    waits-values = ap (λ (a : WaitsAnswer). waitsValues a .waits) (named-at g cs k w passes n r stands)
 
   -- a win that is scored answers what its chosen reading answers by its number
   pub win-values :
-      scoreValues (scoreWin cs k w) .number ≡ 0
-      → scoreValues (scoreReading cs k w (scoreValues (scoreWin cs k w) .reading)) ≡ scoreValues (scoreWin cs k w)
-  win-values e = ap scoreValues (same-by-number cs k w passes e)
+      scoreValuesAt (g .players) (scoreWinIn g cs k w) .number ≡ 0
+      → scoreValuesAt (g .players) (scoreReadingIn g cs k w (scoreValuesAt (g .players) (scoreWinIn g cs k w) .reading)) ≡ scoreValuesAt (g .players) (scoreWinIn g cs k w)
+  win-values e = ap (scoreValuesAt (g .players)) (same-by-number g cs k w passes e)

@@ -21,7 +21,7 @@ use Rattle.answers.specs.declared.WaitsValues.{WaitsValues}
 
 -- the version of the interface: rises with each change of it
 abbrev pub version : ℕ
-version = 6
+version = 7
 
 -- the refusal's number, or 0 with how many readings and how many bytes were written
 abbrev pub listingAnswer : Listing → ListingAnswer
@@ -37,26 +37,26 @@ levelAnswer Sanbaiman = record { level = 4; count = 0 }
 levelAnswer (Yakuman n) = record { level = 5; count = n }
 
 -- the settlement, 1 ron, 2 tsumo of the dealer, 3 tsumo of another; what each non-dealer, the dealer and the discarder pays; and the total
--- at a table of four
-abbrev pub paid : Payment → PaymentValues
-paid (Ron n) = record { number = 0; settlement = 1; «from_non_dealer» = 0; «from_dealer» = 0; «from_discarder» = n; total = totalAt 4 (Ron n) }
-paid (DealerTsumo n) = record { number = 0; settlement = 2; «from_non_dealer» = n; «from_dealer» = 0; «from_discarder» = 0; total = totalAt 4 (DealerTsumo n) }
-paid (Tsumo d n) = record { number = 0; settlement = 3; «from_non_dealer» = n; «from_dealer» = d; «from_discarder» = 0; total = totalAt 4 (Tsumo d n) }
+-- at a table of so many players
+abbrev pub paid : ℕ → Payment → PaymentValues
+paid players (Ron n) = record { number = 0; settlement = 1; «from_non_dealer» = 0; «from_dealer» = 0; «from_discarder» = n; total = totalAt players (Ron n) }
+paid players (DealerTsumo n) = record { number = 0; settlement = 2; «from_non_dealer» = n; «from_dealer» = 0; «from_discarder» = 0; total = totalAt players (DealerTsumo n) }
+paid players (Tsumo d n) = record { number = 0; settlement = 3; «from_non_dealer» = n; «from_dealer» = d; «from_discarder» = 0; total = totalAt players (Tsumo d n) }
 
-abbrev pub paymentValues : PaymentAnswer → PaymentValues
-paymentValues (Refused n) = record { number = n; settlement = 0; «from_non_dealer» = 0; «from_dealer» = 0; «from_discarder» = 0; total = 0 }
-paymentValues (Paid p) = paid p
+abbrev pub paymentValuesAt : ℕ → PaymentAnswer → PaymentValues
+paymentValuesAt players (Refused n) = record { number = n; settlement = 0; «from_non_dealer» = 0; «from_dealer» = 0; «from_discarder» = 0; total = 0 }
+paymentValuesAt players (Paid p) = paid players p
 
 -- the settlement beside an answer's number: 0, none, beside a refusal
 abbrev pub settlementBeside : ℕ → ℕ → ℕ
 settlementBeside number settlement = cond (eqb number 0) settlement 0
 
 -- a score, its level, its dora and its payment in plain numbers; a refusal has its number, and 0 in every other place
-abbrev pub scoreValues : ScoreAnswer → ScoreValues
-scoreValues a =
+abbrev pub scoreValuesAt : ℕ → ScoreAnswer → ScoreValues
+scoreValuesAt players a =
     record {
       number = a .number;
-      settlement = settlementBeside (a .number) (paid (a .score .payment) .settlement);
+      settlement = settlementBeside (a .number) (paid players (a .score .payment) .settlement);
       reading = a .reading;
       tallies = a .score .tallies;
       han = a .score .han;
@@ -67,11 +67,18 @@ scoreValues a =
       «regular_dora» = a .score .dora .regular;
       «ura_dora» = a .score .dora .ura;
       «basic_points» = a .score .«basic_points»;
-      «from_non_dealer» = paid (a .score .payment) .«from_non_dealer»;
-      «from_dealer» = paid (a .score .payment) .«from_dealer»;
-      «from_discarder» = paid (a .score .payment) .«from_discarder»;
-      total = paid (a .score .payment) .total;
+      «from_non_dealer» = paid players (a .score .payment) .«from_non_dealer»;
+      «from_dealer» = paid players (a .score .payment) .«from_dealer»;
+      «from_discarder» = paid players (a .score .payment) .«from_discarder»;
+      total = paid players (a .score .payment) .total;
     }
+
+-- at a table of four
+abbrev pub paymentValues : PaymentAnswer → PaymentValues
+paymentValues a = paymentValuesAt 4 a
+
+abbrev pub scoreValues : ScoreAnswer → ScoreValues
+scoreValues a = scoreValuesAt 4 a
 
 -- the refusal's number, or 0 with the tallies of the six waits
 abbrev pub waitsValues : WaitsAnswer → WaitsValues

@@ -1,6 +1,7 @@
 // The unit's answers as plain numbers, for C: a struct for each answer, and the function that makes it.
 ghost use mathlib.Core.Path.{_≡_};
-ghost use Rattle.answers.specs.Answers.{listingAnswer, levelAnswer, paid, paymentValues, settlementBeside, scoreValues, waitsValues};
+ghost use Rattle.rules.specs.Rules.{game};
+ghost use Rattle.answers.specs.Answers.{listingAnswer, levelAnswer, paid, paymentValuesAt, settlementBeside, scoreValuesAt, waitsValues};
 
 // The answer to a listing: number 0 where accepted, else the refusal; the count of readings; the count of bytes written.
 #[repr(C)]
@@ -70,11 +71,11 @@ pub struct PaymentValues {
     pub total: u64,
 }
 
-// The values of a payment that is given.
-fn values_of(p: scoring::Payment) -> PaymentValues
-    ensures { λ r. ⌜ r ≡ paid p ⌝ }
+// The values of a payment that is given, at the table of the game.
+fn values_of(p: scoring::Payment, v: rules::Variant) -> PaymentValues
+    ensures { λ r. ⌜ r ≡ paid (game v .players) p ⌝ }
 {
-    let total = p.total();
+    let total = p.total(v);
     match p {
         scoring::Payment::Ron { from_discarder } => PaymentValues {
             number: 0,
@@ -106,9 +107,9 @@ fn values_of(p: scoring::Payment) -> PaymentValues
     }
 }
 
-// The values of the answer to who pays what.
-pub fn payment_values(a: scoring::PaymentAnswer) -> PaymentValues
-    ensures { λ r. ⌜ r ≡ paymentValues a ⌝ }
+// The values of the answer to who pays what at the table of the game.
+pub fn payment_values(a: scoring::PaymentAnswer, v: rules::Variant) -> PaymentValues
+    ensures { λ r. ⌜ r ≡ paymentValuesAt (game v .players) a ⌝ }
 {
     match a {
         scoring::PaymentAnswer::Refused(number) => PaymentValues {
@@ -119,7 +120,7 @@ pub fn payment_values(a: scoring::PaymentAnswer) -> PaymentValues
             from_discarder: 0,
             total: 0,
         },
-        scoring::PaymentAnswer::Paid(p) => values_of(p),
+        scoring::PaymentAnswer::Paid(p) => values_of(p, v),
     }
 }
 
@@ -153,9 +154,9 @@ fn settlement_beside(number: u8, settlement: u32) -> u32
     if number == 0 { settlement } else { NONE }
 }
 
-// The values of a scored win or reading.
-pub fn score_values(a: choice::ScoreAnswer) -> ScoreValues
-    ensures { λ r. ⌜ r ≡ scoreValues a ⌝ }
+// The values of a scored win or reading of the game.
+pub fn score_values(a: choice::ScoreAnswer, v: rules::Variant) -> ScoreValues
+    ensures { λ r. ⌜ r ≡ scoreValuesAt (game v .players) a ⌝ }
 {
     let score = a.score;
     let tallies = score.tallies;
@@ -163,7 +164,7 @@ pub fn score_values(a: choice::ScoreAnswer) -> ScoreValues
     let payment = score.payment;
     let dora = score.dora;
     let level = level_of(score_level);
-    let pays = values_of(payment);
+    let pays = values_of(payment, v);
     let settlement = settlement_beside(a.number, pays.settlement);
     ScoreValues {
         number: a.number as u32,

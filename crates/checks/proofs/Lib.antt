@@ -3,6 +3,7 @@ pub mod Added
 pub mod Checked
 pub mod InOrder
 pub mod Four
+pub mod Played
 pub mod Refusals
 pub mod Passed
 pub mod Examples

@@ -1,14 +1,15 @@
 // The checks 1 to 6, which a hand and its calls pass before they are read.
 ghost use mathlib.Core.Path.{_≡_};
-ghost use mathlib.Core.Bool.{true, cond};
+ghost use mathlib.Core.Bool.{true, _||_, cond};
 ghost use Prim.Native.Nat.{ℕ, _+_, _<_, _≤_};
 ghost use lib.Dec.{eqb, leb};
 ghost use lib.ListN.{length};
 ghost use Rattle.lists.specs.Fold.{all};
 ghost use Rattle.tile.specs.Tile.{tiles};
+ghost use Rattle.rules.specs.Rules.{game, most};
 ghost use Rattle.meld.specs.Meld.{isCall, isMeld, uses};
 ghost use Rattle.hand.specs.Counts.{held, AtMostFour};
-ghost use Rattle.checks.specs.Checks.{called, together, handCheck};
+ghost use Rattle.checks.specs.Checks.{called, together, inWall, isPlayed, isCallIn, handCheckIn};
 
 // The calls: how many there are, and the first four of them. With fewer than four the rest mean nothing; more than four are refused.
 #[repr(C)]
@@ -17,17 +18,46 @@ pub struct Calls {
     pub melds: [meld::Meld; 4],
 }
 
+// Are all tiles of the meld in the wall: its lowest, and of a sequence the two after it?
+fn is_in_wall(m: meld::Meld, v: rules::Variant) -> bool
+    requires { ⌜ m .tile < 34 ⌝ }
+    ensures { λ r. ⌜ r ≡ inWall (game v) m ⌝ }
+{
+    v.in_wall(m.tile) & (!m.is_sequence() | (v.in_wall(m.tile + 1) & v.in_wall(m.tile + 2)))
+}
+
+// Can the meld be called in this game?
+fn is_played(m: meld::Meld, v: rules::Variant) -> bool
+    requires { ⌜ m .tile < 34 ⌝ }
+    ensures { λ r. ⌜ r ≡ isPlayed (game v) m ⌝ }
+{
+    (v.allows_chi() | !m.is_sequence()) & (((m.source as u64) < v.players()) & is_in_wall(m, v))
+}
+
+// Is it a meld that is called, and can be called in this game? With four players each that is called can be.
+fn is_call_in(m: meld::Meld, v: rules::Variant) -> bool
+    ensures { λ r. ⌜ r ≡ isCallIn (game v) m ⌝ }
+{
+    if !m.is_call() {
+        return false;
+    }
+    match v {
+        rules::Variant::Yonma => true,
+        rules::Variant::Sanma => is_played(m, v),
+    }
+}
+
 // Is each call one that can be called?
-fn are_calls(k: Calls) -> bool
+fn are_calls(k: Calls, v: rules::Variant) -> bool
     requires { ⌜ k .count ≤ 4 ⌝ }
-    ensures { λ r. ⌜ r ≡ all isCall (called k) ⌝ }
+    ensures { λ r. ⌜ r ≡ all (isCallIn (game v)) (called k) ⌝ }
 {
     let melds = k.melds;
     let count = k.count;
     let mut i = 0;
     while i < count {
         let m = melds[i];
-        if !m.is_call() {
+        if !is_call_in(m, v) {
             return false;
         }
         i += 1;
@@ -47,6 +77,32 @@ fn at_most_four(counts: &[u8]) -> bool
         i += 1;
     }
     good
+}
+
+// Is there none of a tile that is not in the wall? Each tile is looked at.
+fn none_absent(counts: &[u8], v: rules::Variant) -> bool
+    requires { ⌜ length (now counts) ≡ 34 ⌝ }
+    ensures { λ r. ⌜ r ≡ all (λ t. game v .allowed t || eqb (held (now (counts .entry)) t) 0) tiles ⌝ }
+{
+    let mut good = true;
+    let mut i = 0;
+    while i < 34 {
+        good = good & (v.in_wall((i % 256) as u8) | (counts[i] == 0));
+        i += 1;
+    }
+    good
+}
+
+// Is there no more of any tile than the wall has: four of each that is in it? With four players every tile is.
+fn within_wall(counts: &[u8], v: rules::Variant) -> bool
+    requires { ⌜ length (now counts) ≡ 34 ⌝ }
+    ensures { λ r. ⌜ r ≡ all (λ t. leb (held (now (counts .entry)) t) (most (game v) t)) tiles ⌝ }
+{
+    let few = at_most_four(counts);
+    match v {
+        rules::Variant::Yonma => few,
+        rules::Variant::Sanma => few & none_absent(counts, v),
+    }
 }
 
 // Adds tiles of one kind to the counts.
@@ -120,8 +176,8 @@ fn together_at_most_four(counts: &[u8], k: Calls) -> bool
 }
 
 // The number of the first check that fails, or 0.
-pub fn check_hand(counts: &[u8], k: Calls) -> u8
-    ensures { λ r. ⌜ r ≡ handCheck (now (counts .entry)) k ⌝ }
+pub fn check_hand(counts: &[u8], k: Calls, v: rules::Variant) -> u8
+    ensures { λ r. ⌜ r ≡ handCheckIn (game v) (now (counts .entry)) k ⌝ }
 {
     if counts.len() != 34 {
         return 1;
@@ -130,10 +186,10 @@ pub fn check_hand(counts: &[u8], k: Calls) -> u8
     if 4 < count {
         return 2;
     }
-    if !are_calls(k) {
+    if !are_calls(k, v) {
         return 3;
     }
-    if !at_most_four(counts) {
+    if !within_wall(counts, v) {
         return 4;
     }
     if !together_at_most_four(counts, k) {

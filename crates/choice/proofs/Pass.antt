@@ -63,60 +63,60 @@ pass-chooses f xs = pass-is f 0 noYaku 0 xs ∙ go (greatest (map f xs))
     go zero = refl
     go (suc g) = let z : 0 < suc g = omega arith in rw (lt-ltb 0 (suc g) z, eqb·suc-zero g)
 
--- ---- the pass over n records of a buffer b, the first at its beginning; g scores a reading
-module _ (g : Reading → ScoringResult) (b : List ℕ) (n : ℕ) where
+-- ---- the pass over n records of a buffer b, the first at its beginning, at a table of so many players; g scores a reading
+module _ (players : ℕ) (g : Reading → ScoringResult) (b : List ℕ) (n : ℕ) where
   -- the answer from record k at the place i on
   unfoldable pub Rest : ℕ → ScoreAnswer → ℕ → ℕ → ScoreAnswer
-  Rest best found k i = pass rank best found k (map g (readingsIn b (n - k) i))
+  Rest best found k i = pass (rank players) best found k (map g (readingsIn b (n - k) i))
 
   module _ (best : ℕ) (found : ScoreAnswer) (k i : ℕ) (h : k < n) where
     rest-step :
         Rest best found k i
-        ≡ cond (ltb best (rank (g (readingAt b i))))
-        (Rest (rank (g (readingAt b i))) (scored k (g (readingAt b i))) (suc k) (i + byteAt b i))
+        ≡ cond (ltb best (rank players (g (readingAt b i))))
+        (Rest (rank players (g (readingAt b i))) (scored k (g (readingAt b i))) (suc k) (i + byteAt b i))
         (Rest best found (suc k) (i + byteAt b i))
     unfolding Rest pass
     rest-step =
         let e : n - k ≡ suc (n - suc k) = omega arith in
-        ap (λ (m : ℕ). pass rank best found k (map g (readingsIn b m i))) e
+        ap (λ (m : ℕ). pass (rank players) best found k (map g (readingsIn b m i))) e
 
     pub rest-take :
-        best < rank (g (readingAt b i))
-        → Rest (rank (g (readingAt b i))) (scored k (g (readingAt b i))) (k + 1) (i + byteAt b i) ≡ Rest best found k i
+        best < rank players (g (readingAt b i))
+        → Rest (rank players (g (readingAt b i))) (scored k (g (readingAt b i))) (k + 1) (i + byteAt b i) ≡ Rest best found k i
     rest-take l = rw add-one (sym (rest-step ∙ rw (lt-ltb best _ l)))
 
-    pub rest-skip : rank (g (readingAt b i)) ≤ best → Rest best found (k + 1) (i + byteAt b i) ≡ Rest best found k i
+    pub rest-skip : rank players (g (readingAt b i)) ≤ best → Rest best found (k + 1) (i + byteAt b i) ≡ Rest best found k i
     rest-skip l = rw add-one (sym (rest-step ∙ rw (le-ltb best _ l)))
 
     -- a turn of the loop, over what its calls answer
     module _
-        (x : ScoringResult) (r l : ℕ) (ex : x ≡ g (readingAt b i)) (er : r ≡ rank x) (el : l ≡ byteAt b i) (best′ : ℕ) (found′ : ScoreAnswer) where
+        (x : ScoringResult) (r l : ℕ) (ex : x ≡ g (readingAt b i)) (er : r ≡ rank players x) (el : l ≡ byteAt b i) (best′ : ℕ) (found′ : ScoreAnswer) where
       pub turn-take : best < r → best′ ≡ r → found′ ≡ scored k x → Rest best′ found′ (k + 1) (i + l) ≡ Rest best found k i
       turn-take lt eb ef =
-          let h : best < rank (g (readingAt b i)) = subst (λ (m : ℕ). best < m) (er ∙ ap rank ex) lt in
+          let h : best < rank players (g (readingAt b i)) = subst (λ (m : ℕ). best < m) (er ∙ ap (rank players) ex) lt in
           cc (rest-take h)
 
       pub turn-skip : r ≤ best → best′ ≡ best → found′ ≡ found → Rest best′ found′ (k + 1) (i + l) ≡ Rest best found k i
       turn-skip le eb ef =
-          let h : rank (g (readingAt b i)) ≤ best = subst (λ (m : ℕ). m ≤ best) (er ∙ ap rank ex) le in
+          let h : rank players (g (readingAt b i)) ≤ best = subst (λ (m : ℕ). m ≤ best) (er ∙ ap (rank players) ex) le in
           cc (rest-skip h)
 
   pub rest-end : (best : ℕ) (found : ScoreAnswer) (k i : ℕ) → n ≤ k → Rest best found k i ≡ found
   unfolding Rest pass
   rest-end best found k i h = let e : n - k ≡ 0 = omega arith in rw e
 
-  pub rest-all : Rest 0 noYaku 0 0 ≡ answerOf (chooseBy rank (map g (readingsIn b n 0)))
+  pub rest-all : Rest 0 noYaku 0 0 ≡ answerOf (chooseBy (rank players) (map g (readingsIn b n 0)))
   unfolding Rest
-  rest-all = let e : n - 0 ≡ n = omega arith in rw e (pass-chooses rank (map g (readingsIn b n 0)))
+  rest-all = let e : n - 0 ≡ n = omega arith in rw e (pass-chooses (rank players) (map g (readingsIn b n 0)))
 
 -- ---- the answer: 10 without a reading, else by the choice
-pub choice-none : (g : Reading → ScoringResult) (b : List ℕ) (n : ℕ) → n ≡ 0 → noReading ≡ choice (map g (readingsIn b n 0))
+pub choice-none : (players : ℕ) (g : Reading → ScoringResult) (b : List ℕ) (n : ℕ) → n ≡ 0 → noReading ≡ choice players (map g (readingsIn b n 0))
 unfolding choice
-choice-none g b n e = rw e
+choice-none players g b n e = rw e
 
 pub choice-some :
-    (g : Reading → ScoringResult) (b : List ℕ) (n : ℕ) → (n ≡ 0 → ⊥)
-    → answerOf (chooseBy rank (map g (readingsIn b n 0))) ≡ choice (map g (readingsIn b n 0))
+    (players : ℕ) (g : Reading → ScoringResult) (b : List ℕ) (n : ℕ) → (n ≡ 0 → ⊥)
+    → answerOf (chooseBy (rank players) (map g (readingsIn b n 0))) ≡ choice players (map g (readingsIn b n 0))
 unfolding choice
-choice-some g b zero h = absurd (h refl)
-choice-some g b (suc n) h = refl
+choice-some players g b zero h = absurd (h refl)
+choice-some players g b (suc n) h = refl

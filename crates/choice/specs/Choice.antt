@@ -64,9 +64,10 @@ abbrev pub answerOf : Choice → ScoreAnswer
 answerOf none = noYaku
 answerOf (chosen i x) = scored i x
 
-unfoldable pub choice : List ScoringResult → ScoreAnswer
-choice [] = noReading
-choice (x ∷ xs) = answerOf (chooseBy rank (x ∷ xs))
+-- the choice at a table of so many players
+unfoldable pub choice : ℕ → List ScoringResult → ScoreAnswer
+choice players [] = noReading
+choice players (x ∷ xs) = answerOf (chooseBy (rank players) (x ∷ xs))
 
 -- ---- the score at the number n, counted from 0; 12 where there are not more than n
 unfoldable pub numbered : List ScoringResult → ℕ → ScoreAnswer

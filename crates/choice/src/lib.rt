@@ -2,6 +2,7 @@
 ghost use mathlib.Core.Path.{_≡_};
 ghost use mathlib.Core.List.{map};
 ghost use Prim.Native.Nat.{_≤_};
+ghost use Rattle.rules.specs.Rules.{game};
 ghost use Rattle.dora.specs.Dora.{AtMostForty};
 ghost use Rattle.records.specs.Buffer.{readingsIn};
 ghost use Rattle.reading_score.specs.Score.{scoreOf};
@@ -45,7 +46,7 @@ pub fn scored(reading: usize, x: reading_score::ScoringResult) -> ScoreAnswer
     }
 }
 
-// The choice among n readings: the first of the greatest rank. 10 where there is none, 11 where none has a yaku.
+// The choice among n readings in the game that is played: the first of the greatest rank. 10 where there is none, 11 where none has a yaku.
 pub fn choose(
     b: &[u8],
     n: usize,
@@ -53,9 +54,10 @@ pub fn choose(
     d: dora::DoraCount,
     w: context::GameContext,
     opened: bool,
+    v: rules::Variant,
 ) -> ScoreAnswer
     requires { ⌜ (n ≤ 3000) × AtMostForty d ⌝ }
-    ensures { λ r. ⌜ r ≡ choice (map (scoreOf w opened s d) (readingsIn (now (b .entry)) n 0)) ⌝ }
+    ensures { λ r. ⌜ r ≡ choice (game v .players) (map (scoreOf w opened s d) (readingsIn (now (b .entry)) n 0)) ⌝ }
 {
     if n == 0 {
         return refused(10);
@@ -66,7 +68,7 @@ pub fn choose(
     let mut i = 0;
     while i < n {
         let x = reading_score::calculate_score(records::reading_at(b, at), s, d, w, opened);
-        let rank = reading_score::rank(x);
+        let rank = reading_score::rank(x, v);
         if best < rank {
             best = rank;
             found = scored(i, x);

@@ -23,21 +23,21 @@ beq-same a b e = rw e (go b)
     go true = refl
     go false = refl
 
-module _ {x y : ScoringResult} where
+module _ {players : ℕ} {x y : ScoringResult} where
   -- where y is preferred to x, what decided is the rule by which it is
-  pub decided-rule : (p : Preferred x y) → decidedBy x y ≡ ruleOf p
+  pub decided-rule : (p : Preferred players x y) → decidedBy players x y ≡ ruleOf p
   unfolding decidedBy
-  decided-rule (by-total l) = rw (ne-eqb (totalAt 4 (x .payment)) (totalAt 4 (y .payment)) (λ e. omega arith))
-  decided-rule (by-yakuman e f g) = simp (eq-eqb (totalAt 4 (x .payment)) (totalAt 4 (y .payment)) e, f, g)
+  decided-rule (by-total l) = rw (ne-eqb (totalAt players (x .payment)) (totalAt players (y .payment)) (λ e. omega arith))
+  decided-rule (by-yakuman e f g) = simp (eq-eqb (totalAt players (x .payment)) (totalAt players (y .payment)) e, f, g)
   decided-rule (by-han e f l) =
       simp (
-        eq-eqb (totalAt 4 (x .payment)) (totalAt 4 (y .payment)) e,
+        eq-eqb (totalAt players (x .payment)) (totalAt players (y .payment)) e,
         beq-same (x .«is_yakuman») (y .«is_yakuman») f,
         ne-eqb (x .han) (y .han) (λ e. omega arith),
       )
   decided-rule (by-fu e f g l) =
       simp (
-        eq-eqb (totalAt 4 (x .payment)) (totalAt 4 (y .payment)) e,
+        eq-eqb (totalAt players (x .payment)) (totalAt players (y .payment)) e,
         beq-same (x .«is_yakuman») (y .«is_yakuman») f,
         eq-eqb (x .han) (y .han) g,
         ne-eqb (x .fu) (y .fu) (λ e. omega arith),
@@ -54,58 +54,58 @@ beq-either-way true false = refl
 beq-either-way false true = refl
 beq-either-way false false = refl
 
-pub decided-either-way : (x y : ScoringResult) → decidedBy x y ≡ decidedBy y x
+pub decided-either-way : (players : ℕ) (x y : ScoringResult) → decidedBy players x y ≡ decidedBy players y x
 unfolding decidedBy
-decided-either-way x y =
+decided-either-way players x y =
     rw (
-      eqb-either-way (totalAt 4 (x .payment)) (totalAt 4 (y .payment)),
+      eqb-either-way (totalAt players (x .payment)) (totalAt players (y .payment)),
       beq-either-way (x .«is_yakuman») (y .«is_yakuman»),
       eqb-either-way (x .han) (y .han),
       eqb-either-way (x .fu) (y .fu),
     )
 
 -- ---- nothing but the order
-rule-no-order : {x y : ScoringResult} (p : Preferred x y) → ruleOf p ≡ Order → ⊥
+rule-no-order : {players : ℕ} {x y : ScoringResult} (p : Preferred players x y) → ruleOf p ≡ Order → ⊥
 rule-no-order (by-total l) e = let z : _≡_ {A = ℕ} 0 1 = cc in omega arith
 rule-no-order (by-yakuman e f g) h = let z : _≡_ {A = ℕ} 0 1 = cc in omega arith
 rule-no-order (by-han e f l) h = let z : _≡_ {A = ℕ} 0 1 = cc in omega arith
 rule-no-order (by-fu e f g l) h = let z : _≡_ {A = ℕ} 0 1 = cc in omega arith
 
-same-order : (x y : ScoringResult) → SameRank x y → decidedBy x y ≡ Order
+same-order : {players : ℕ} (x y : ScoringResult) → SameRank players x y → decidedBy players x y ≡ Order
 unfolding decidedBy
-same-order x y h =
+same-order {players} x y h =
     simp (
-      eq-eqb (totalAt 4 (x .payment)) (totalAt 4 (y .payment)) (h .same-total),
+      eq-eqb (totalAt players (x .payment)) (totalAt players (y .payment)) (h .same-total),
       beq-same (x .«is_yakuman») (y .«is_yakuman») (h .same-yakuman),
       eq-eqb (x .han) (y .han) (h .same-han),
       eq-eqb (x .fu) (y .fu) (h .same-fu),
     )
 
 -- what is told of a score x beside the score y that is chosen before it: the rule by which y is preferred, or that only the order decided
-pub data Told (x y : ScoringResult) : Type 0 where
-  by-rule : (p : Preferred x y) → decidedBy x y ≡ ruleOf p → Told x y
-  by-order : rank x ≡ rank y → decidedBy x y ≡ Order → Told x y
+pub data Told (players : ℕ) (x y : ScoringResult) : Type 0 where
+  by-rule : (p : Preferred players x y) → decidedBy players x y ≡ ruleOf p → Told players x y
+  by-order : rank players x ≡ rank players y → decidedBy players x y ≡ Order → Told players x y
 
-module _ (x y : ScoringResult) (i : Small x) (j : Small y) (t : T (hasYaku x)) (u : T (hasYaku y)) where
-  equal-order : rank x ≡ rank y → decidedBy x y ≡ Order
-  equal-order e = same-order x y (rank-same x y i j (yaku-rank x t) e)
+module _ (players : ℕ) (x y : ScoringResult) (i : Small x) (j : Small y) (t : T (hasYaku x)) (u : T (hasYaku y)) where
+  equal-order : rank players x ≡ rank players y → decidedBy players x y ≡ Order
+  equal-order e = same-order x y (rank-same players x y i j (yaku-rank players x t) e)
 
   -- of two scores with a yaku, the one of the higher or an equal rank
-  pub told : rank x ≤ rank y → Told x y
-  told h = go (decLe (rank y) (rank x))
+  pub told : rank players x ≤ rank players y → Told players x y
+  told h = go (decLe (rank players y) (rank players x))
     where
-      go : Dec (rank y ≤ rank x) → Told x y
-      go (yes l) = let e : rank x ≡ rank y = omega arith in by-order e (equal-order e)
-      go (no l) = let p = rank-order x y i j t u .0 (omega arith) in by-rule p (decided-rule p)
+      go : Dec (rank players y ≤ rank players x) → Told players x y
+      go (yes l) = let e : rank players x ≡ rank players y = omega arith in by-order e (equal-order e)
+      go (no l) = let p = rank-order players x y i j t u .0 (omega arith) in by-rule p (decided-rule p)
 
-  order-equal : decidedBy x y ≡ Order → rank x ≡ rank y
-  order-equal e = go (decLe (rank x) (rank y)) (decLe (rank y) (rank x))
+  order-equal : decidedBy players x y ≡ Order → rank players x ≡ rank players y
+  order-equal e = go (decLe (rank players x) (rank players y)) (decLe (rank players y) (rank players x))
     where
-      go : Dec (rank x ≤ rank y) → Dec (rank y ≤ rank x) → rank x ≡ rank y
-      go (no k) l = let p = rank-order y x j i u t .0 (omega arith) in absurd (rule-no-order p (sym (decided-rule p) ∙ decided-either-way y x ∙ e))
-      go (yes k) (no l) = let p = rank-order x y i j t u .0 (omega arith) in absurd (rule-no-order p (sym (decided-rule p) ∙ e))
+      go : Dec (rank players x ≤ rank players y) → Dec (rank players y ≤ rank players x) → rank players x ≡ rank players y
+      go (no k) l = let p = rank-order players y x j i u t .0 (omega arith) in absurd (rule-no-order p (sym (decided-rule p) ∙ decided-either-way players y x ∙ e))
+      go (yes k) (no l) = let p = rank-order players x y i j t u .0 (omega arith) in absurd (rule-no-order p (sym (decided-rule p) ∙ e))
       go (yes k) (yes l) = omega arith
 
   -- the order alone decided exactly where the ranks are equal
-  pub order-alone : (decidedBy x y ≡ Order → rank x ≡ rank y) × (rank x ≡ rank y → decidedBy x y ≡ Order)
+  pub order-alone : (decidedBy players x y ≡ Order → rank players x ≡ rank players y) × (rank players x ≡ rank players y → decidedBy players x y ≡ Order)
   order-alone = (order-equal, equal-order)

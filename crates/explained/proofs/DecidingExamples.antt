@@ -18,26 +18,28 @@ abbrev scored : ℕ → ℕ → Bool → ScoringResult
 scored han fu yakuman = result (ron (man 1)) (1 ∷ []) han fu yakuman noDora
 
 -- 3 han 50 fu pay 6,400, 4 han 20 fu 5,200
-pub by-the-total : decidedBy (scored 4 20 false) (scored 3 50 false) ≡ Total
+pub by-the-total : (players : ℕ) → decidedBy players (scored 4 20 false) (scored 3 50 false) ≡ Total
 unfolding decidedBy result payment basicPoints
-by-the-total = refl
+by-the-total players = refl
 
 -- both pay 32,000
-pub by-the-yakuman : decidedBy (scored 20 50 false) (scored 13 30 true) ≡ Yakuman
+pub by-the-yakuman : (players : ℕ) → decidedBy players (scored 20 50 false) (scored 13 30 true) ≡ Yakuman
 unfolding decidedBy result payment basicPoints
-by-the-yakuman = refl
+by-the-yakuman players = refl
 
 -- 4 han 25 fu and 3 han 50 fu both pay 6,400
-pub by-the-han : decidedBy (scored 3 50 false) (scored 4 25 false) ≡ Han
+pub by-the-han : (players : ℕ) → decidedBy players (scored 3 50 false) (scored 4 25 false) ≡ Han
 unfolding decidedBy result payment basicPoints
-by-the-han = refl
+by-the-han players = refl
 
 -- 5 han are Mangan with 20 and with 30
-pub by-the-fu : decidedBy (scored 5 20 false) (scored 5 30 false) ≡ Fu
+pub by-the-fu : (players : ℕ) → decidedBy players (scored 5 20 false) (scored 5 30 false) ≡ Fu
 unfolding decidedBy result payment basicPoints
-by-the-fu = refl
+by-the-fu players = refl
 
 -- han and fu alike: which yaku it is tells nothing
-pub by-the-order : decidedBy (result (ron (man 1)) (1 ∷ 0 ∷ []) 5 30 false noDora) (result (ron (man 1)) (0 ∷ 1 ∷ []) 5 30 false noDora) ≡ Order
+pub by-the-order :
+    (players : ℕ)
+    → decidedBy players (result (ron (man 1)) (1 ∷ 0 ∷ []) 5 30 false noDora) (result (ron (man 1)) (0 ∷ 1 ∷ []) 5 30 false noDora) ≡ Order
 unfolding decidedBy result payment basicPoints
-by-the-order = refl
+by-the-order players = refl

@@ -25,9 +25,9 @@ const WORDS: [[u8; 13]; 17] = [
 ];
 
 // Other words: an open and an added kan, the dealer, the last tile drawn or discarded, double riichi, indicators of dora and of ura, the room's fu for
-// a pair that is both round and seat wind, how to use the program; one that says nothing, which the program itself writes before a hand; and whom a call
-// came from, on the right, across or on the left of the player who called.
-const OTHERS: [[u8; 13]; 20] = [
+// a pair that is both round and seat wind, how to use the program; one that says nothing, which the program itself writes before a hand; whom a call
+// came from, on the right, across or on the left of the player who called; and the game, by its players.
+const OTHERS: [[u8; 13]; 28] = [
     *b"daiminkan    ",
     *b"shouminkan   ",
     *b"dealer       ",
@@ -48,10 +48,18 @@ const OTHERS: [[u8; 13]; 20] = [
     *b"shimocha     ",
     *b"toimen       ",
     *b"kamicha      ",
+    *b"three        ",
+    *b"sanma        ",
+    *b"three-player ",
+    *b"three-players",
+    *b"four         ",
+    *b"yonma        ",
+    *b"four-player  ",
+    *b"four-players ",
 ];
 
 // What each of them means: the number of the known word that says the same, or one behind those.
-const MEANINGS: [usize; 20] = [
+const MEANINGS: [usize; 28] = [
     2,
     4,
     17,
@@ -72,6 +80,14 @@ const MEANINGS: [usize; 20] = [
     27,
     28,
     29,
+    30,
+    30,
+    30,
+    30,
+    31,
+    31,
+    31,
+    31,
 ];
 
 // The winds, in the order of their tiles.
@@ -91,14 +107,14 @@ pub fn word_row(i: usize) -> [u8; 13]
 
 // The row of another word.
 fn other_row(i: usize) -> [u8; 13]
-    requires { ⌜ i < 20 ⌝ }
+    requires { ⌜ i < 28 ⌝ }
 {
     OTHERS[i]
 }
 
 // The row of any known word by its number.
 fn any_row(i: usize) -> [u8; 13]
-    requires { ⌜ i < 37 ⌝ }
+    requires { ⌜ i < 45 ⌝ }
 {
     if i < 17 {
         return word_row(i);
@@ -108,7 +124,7 @@ fn any_row(i: usize) -> [u8; 13]
 
 // What the known word with a number means.
 fn meaning(i: usize) -> usize
-    requires { ⌜ i < 37 ⌝ }
+    requires { ⌜ i < 45 ⌝ }
 {
     if i < 17 {
         return i;
@@ -163,20 +179,20 @@ fn is_row(word: &[u8], row: &[u8; 13]) -> bool {
 }
 
 // What a word means: 0 to 16 for the known words as `word_row` has them, then dealer, haitei, houtei, double, dora, ura, two fu and four fu for the
-// pair of the double wind, help, nothing, right, across and left; 30 for a word that is not known.
+// pair of the double wind, help, nothing, right, across and left, three and four players; 32 for a word that is not known.
 pub fn known(word: &[u8]) -> usize {
-    for i in 0..37 {
+    for i in 0..45 {
         let row = any_row(i);
         if is_row(word, &row) {
             return meaning(i);
         }
     }
-    30
+    32
 }
 
 // Is the word known?
 pub fn is_known(word: &[u8]) -> bool {
-    known(word) < 30
+    known(word) < 32
 }
 
 // Is the word the first letter of the row?

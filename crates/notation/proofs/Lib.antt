@@ -1,2 +1,3 @@
 pub mod Winds
 pub mod Shown
+pub mod Table

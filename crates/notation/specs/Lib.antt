@@ -1,3 +1,4 @@
 -- The definitions that the contracts cite.
 pub mod Said
 pub mod Shown
+pub mod Table

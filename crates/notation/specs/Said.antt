@@ -1,4 +1,4 @@
--- What the words given to the program `score` say: tiles of the hand, the winning tile, whom a call came from, indicators, the win. These are definitions.
+-- What the words given to the program `score` say: tiles of the hand, the winning tile, whom a call came from, indicators, the game, the win. These are definitions.
 use mathlib.Core.Path.{_≡_}
 use mathlib.Core.Bool.{Bool, true, false, cond}
 use mathlib.Core.List.{List}
@@ -36,6 +36,12 @@ pub record SourceSaid (before : Said) (s : ℕ) (after : Said) : Type 0 where
 pub record IndicatorsAdded (before : Said) (w : List ℕ) (isUra : Bool) (after : Said) : Type 0 where
   pub ofDora : after .dora ≡ cond isUra (before .dora) (withIndicators (before .dora) (tilesOf w))
   pub ofUra : after .ura ≡ cond isUra (withIndicators (before .ura) (tilesOf w)) (before .ura)
+
+-- what a word for the game makes of it: three players where it says so, and nothing was said of the game before
+pub record GameSaid (before : Said) (three : Bool) (after : Said) : Type 0 where
+  pub once : before .«game_said» ≡ false
+  pub played : after .three ≡ three
+  pub marked : after .«game_said» ≡ true
 
 -- a flag by its number: riichi, double riichi, ippatsu, rinshan, chankan, last tile, tenhou, chiihou
 abbrev pub flagAt : Said → ℕ → Bool

@@ -3,4 +3,5 @@
 mod indicators;
 mod pieces;
 pub mod said;
+mod seats;
 mod sources;

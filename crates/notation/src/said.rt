@@ -1,13 +1,16 @@
 // What the words say: the hand, its calls and the win.
 ghost use mathlib.Core.Path.{_≡_};
-ghost use mathlib.Core.Bool.{true, cond};
+ghost use mathlib.Core.Bool.{true, false, _&&_, cond};
 ghost use Prim.Native.Nat.{_+_, _≤_, _<_, min};
 ghost use lib.ListN.{length};
 ghost use Rattle.context.specs.Context.{inRange};
 ghost use Rattle.call_words.specs.Calls.{withCall};
-ghost use Rattle.notation.specs.Said.{TilesAdded, WonOn, IndicatorsAdded, SourceSaid, winOf};
+ghost use Rattle.rules.specs.Rules.{game};
+ghost use Rattle.notation.specs.Said.{TilesAdded, WonOn, IndicatorsAdded, SourceSaid, GameSaid, winOf};
+ghost use Rattle.notation.specs.Table.{playedBy, anyAcross, seatedAt};
 use crate::indicators;
 use crate::pieces;
+use crate::seats;
 use crate::sources;
 use tile_words::faults;
 
@@ -15,6 +18,7 @@ use tile_words::faults;
 pub struct Said {
     // the tiles not called, the winning tile included
     pub counts: [u8; 34],
+    // the calls as at a table of four: `seated` turns them to that of the game
     pub calls: checks::Calls,
     // of each call that is kept, whether it was said whom it came from
     pub sourced: [bool; 4],
@@ -29,6 +33,9 @@ pub struct Said {
     // whether the room gives two fu for a pair that is both round and seat wind, else four, and whether that was said
     pub double_wind_two: bool,
     pub double_wind_said: bool,
+    // whether three play, else four, and whether that was said
+    pub three: bool,
+    pub game_said: bool,
     // riichi, double riichi, ippatsu, rinshan, chankan, last tile, tenhou, chiihou
     pub flags: [bool; 8],
     // the word for the last tile was haitei, or houtei
@@ -117,8 +124,18 @@ fn double_wind_fu(two: bool) -> u8
     if two { 2 } else { 4 }
 }
 
+// The game: with three players, or with four.
+fn game_of(three: bool) -> rules::Variant
+    ensures { λ r. ⌜ r ≡ playedBy three ⌝ }
+{
+    if three {
+        return rules::Variant::Sanma;
+    }
+    rules::Variant::Yonma
+}
+
 impl Said {
-    // Before the first word: round East, seat South, four fu for the pair of the double wind, no indicators.
+    // Before the first word: four players, round East, seat South, four fu for the pair of the double wind, no indicators.
     pub fn nothing() -> Said {
         let none = meld::Meld {
             tile: 0,
@@ -141,6 +158,8 @@ impl Said {
             seat_said: false,
             double_wind_two: false,
             double_wind_said: false,
+            three: false,
+            game_said: false,
             flags: [false; 8],
             haitei: false,
             houtei: false,
@@ -384,6 +403,19 @@ impl Said {
         self
     }
 
+    // The game: three players, or four. It is said once.
+    fn with_game(self, three: bool) -> Said
+        ensures { λ r. ⌜ (r .fault ≡ 0 → GameSaid self three r) ⌝ }
+    {
+        if self.game_said {
+            return self.faulty(faults::TWICE);
+        }
+        let mut said = self;
+        said.three = three;
+        said.game_said = true;
+        said
+    }
+
     // A flag. Double riichi is riichi too.
     fn with_flag(mut self, i: usize) -> Said
         requires { ⌜ i < 8 ⌝ }
@@ -477,6 +509,7 @@ impl Said {
             27 => self.with_source(1),
             28 => self.with_source(2),
             29 => self.with_source(3),
+            30 | 31 => self.with_game(i == 30),
             _ => self,
         }
     }
@@ -484,7 +517,7 @@ impl Said {
     // A word that may be anything.
     fn with_any(self, word: &[u8]) -> Said {
         let i = known_words::known(word);
-        if i < 30 {
+        if i < 32 {
             return self.with_known(i);
         }
         self.with_pieces(word)
@@ -549,8 +582,10 @@ impl Said {
         said
     }
 
-    // After the last argument: nothing may be missing, and the word for the last tile fits the win.
-    pub fn finished(self) -> Said {
+    // After the last argument: nothing may be missing, nobody sits across where three play, and the word for the last tile fits the win.
+    pub fn finished(self) -> Said
+        ensures { λ r. ⌜ (r .fault ≡ 0 → (self .three && anyAcross (self .calls)) ≡ false) ⌝ }
+    {
         if self.fault != 0 {
             return self;
         }
@@ -560,7 +595,26 @@ impl Said {
         if !self.won {
             return self.faulty(faults::NO_WIN);
         }
+        let calls = self.calls;
+        if self.three & seats::any_across(calls) {
+            return self.faulty(faults::NO_ACROSS);
+        }
         self.faulty(last_tile_fault(self.tsumo, self.haitei, self.houtei))
+    }
+
+    // The game that is played.
+    pub fn game(self) -> rules::Variant
+        ensures { λ r. ⌜ r ≡ playedBy (self .three) ⌝ }
+    {
+        game_of(self.three)
+    }
+
+    // The calls at the table of the game.
+    pub fn seated(self) -> checks::Calls
+        ensures { λ r. ⌜ r ≡ seatedAt (game (playedBy (self .three))) (self .calls) ⌝ }
+    {
+        let calls = self.calls;
+        seats::seated(calls, self.game())
     }
 
     // The win. Its type, its winds and the room's setting are always in range.

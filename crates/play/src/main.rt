@@ -251,7 +251,7 @@ fn print_score(x: reading_score::ScoringResult) {
     let payment = x.payment;
     stored::print_count(x.han as u64, b" han ");
     stored::print_count(x.fu as u64, b" fu, ");
-    stored::print_number(payment.total());
+    stored::print_number(payment.total(rules::Variant::Yonma));
 }
 
 // Writes the answer to the record's win.
@@ -275,7 +275,7 @@ fn print_payment(rec: &[u8])
     let a = payment_of(rec);
     match a {
         scoring::PaymentAnswer::Refused(n) => print_refusal(n),
-        scoring::PaymentAnswer::Paid(p) => stored::print_number(p.total()),
+        scoring::PaymentAnswer::Paid(p) => stored::print_number(p.total(rules::Variant::Yonma)),
     }
 }
 

@@ -8,6 +8,7 @@ use lib.ListN.{length}
 use Rattle.lists.specs.Fold.{flat, keep}
 use Rattle.lists.proofs.Finite.{at, and-both, ¬T→false}
 use Rattle.tile.specs.Tile.{tiles}
+use Rattle.rules.specs.Rules.{Game, four}
 use Rattle.meld.specs.declared.Meld.{Meld}
 use Rattle.meld.specs.Meld.{handMelds, sorted, uses}
 use Rattle.context.specs.declared.GameContext.{GameContext}
@@ -17,7 +18,7 @@ use Rattle.hand.specs.Readings.{find, fits, lessPair, meldLists, standardsAt, s
 use Rattle.hand.specs.Records.{alwaysEnough, records}
 use Rattle.wait.specs.Wait.{waits}
 use Rattle.checks.specs.declared.Calls.{Calls}
-use Rattle.checks.specs.Checks.{called, handCheck}
+use Rattle.checks.specs.Checks.{called, handCheckIn}
 use Rattle.unit.specs.declared.Listing.{Listing}
 use Rattle.unit.specs.declared.Listing.the-variants.{Refused, Listed}
 use Rattle.unit.specs.Listing.{handReadings}
@@ -27,8 +28,8 @@ use Rattle.reading_score.specs.declared.ScoringResult.{ScoringResult}
 use Rattle.choice.specs.declared.ScoreAnswer.{ScoreAnswer}
 use Rattle.choice.specs.Choice.{refused, choice, numbered}
 use Rattle.win.specs.declared.WaitsAnswer.{WaitsAnswer}
-use Rattle.win.specs.Win.{namedWaits, refusedWaits, scoreIn, winCheck}
-use Rattle.played.specs.Row.{Row, won, waiting, listed, valued, paid, asked, chooses, answers, eachWaits, listsTo, holds}
+use Rattle.win.specs.Win.{namedWaits, refusedWaits, scoreIn, winCheckIn}
+use Rattle.played.specs.Row.{Row, won, waiting, listed, valued, paid, asked, chooses, answers, eachWaits, listsTo, holdsIn, holds}
 use Rattle.played.proofs.Fitting.{keep-find}
 
 -- ---- the readings, found among the melds that fit
@@ -75,50 +76,55 @@ quick-readings cs k =
     (fun-ext (quick-at (held cs) (called k)))
 
 -- ---- the claim of a row, from any way to find the readings
-module _ (R : List ℕ → Calls → List Reading) where
+module _ (g : Game) (R : List ℕ → Calls → List Reading) where
   abbrev pub listingFrom : List ℕ → Calls → Listing
   listingFrom cs k =
-      cond (eqb (handCheck cs k) 0)
+      cond (eqb (handCheckIn g cs k) 0)
       (cond (leb (length (records (R cs k))) alwaysEnough) (Listed (length (R cs k)) (length (records (R cs k)))) (Refused 7))
-      (Refused (handCheck cs k))
+      (Refused (handCheckIn g cs k))
 
   abbrev pub scoresFrom : List ℕ → Calls → GameContext → List ScoringResult
   scoresFrom cs k w = map (scoreIn cs k w) (R cs k)
 
   abbrev pub winFrom : List ℕ → Calls → GameContext → ScoreAnswer
-  winFrom cs k w = cond (eqb (winCheck cs k w) 0) (choice (scoresFrom cs k w)) (refused (winCheck cs k w))
+  winFrom cs k w = cond (eqb (winCheckIn g cs k w) 0) (choice (g .players) (scoresFrom cs k w)) (refused (winCheckIn g cs k w))
 
   abbrev pub readingFrom : List ℕ → Calls → GameContext → ℕ → ScoreAnswer
-  readingFrom cs k w n = cond (eqb (winCheck cs k w) 0) (numbered (scoresFrom cs k w) n) (refused (winCheck cs k w))
+  readingFrom cs k w n = cond (eqb (winCheckIn g cs k w) 0) (numbered (scoresFrom cs k w) n) (refused (winCheckIn g cs k w))
 
   abbrev pub waitsFrom : List ℕ → Calls → GameContext → ℕ → WaitsAnswer
   waitsFrom cs k w n =
-      cond (eqb (winCheck cs k w) 0)
+      cond (eqb (winCheckIn g cs k w) 0)
       (pickAt (refusedWaits 12) (λ r. namedWaits (waits (w .«winning_tile») r)) (R cs k) n)
-      (refusedWaits (winCheck cs k w))
+      (refusedWaits (winCheckIn g cs k w))
 
   abbrev pub holdsFrom : Row → Bool
   holdsFrom (won cs ms w vs o) =
       let k = callsOf ms in
-      answers vs o (winCheck cs k w) (listingFrom cs k) (readingFrom cs k w) (winFrom cs k w)
+      answers vs o (winCheckIn g cs k w) (listingFrom cs k) (readingFrom cs k w) (winFrom cs k w)
   holdsFrom (waiting cs ms w wss) = eachWaits (waitsFrom cs (callsOf ms) w) 0 wss
   holdsFrom (listed cs ms n) = listsTo (chooses 0) n (listingFrom cs (callsOf ms))
-  holdsFrom (valued h f y l n) = holds (valued h f y l n)
-  holdsFrom (paid h f y by dealer p) = holds (paid h f y by dealer p)
-  holdsFrom (asked n by dealer a) = holds (asked n by dealer a)
+  holdsFrom (valued h f y l n) = holdsIn g (valued h f y l n)
+  holdsFrom (paid h f y by dealer p) = holdsIn g (paid h f y by dealer p)
+  holdsFrom (asked n by dealer a) = holdsIn g (asked n by dealer a)
 
-from-readings : (r : Row) → holds r ≡ holdsFrom handReadings r
-unfolding holds
-from-readings (won cs ms w vs o) = refl
-from-readings (waiting cs ms w wss) = refl
-from-readings (listed cs ms n) = refl
-from-readings (valued h f y l n) = refl
-from-readings (paid h f y by dealer p) = refl
-from-readings (asked n by dealer a) = refl
+from-readings : (g : Game) (r : Row) → holdsIn g r ≡ holdsFrom g handReadings r
+unfolding holdsIn
+from-readings g (won cs ms w vs o) = refl
+from-readings g (waiting cs ms w wss) = refl
+from-readings g (listed cs ms n) = refl
+from-readings g (valued h f y l n) = refl
+from-readings g (paid h f y by dealer p) = refl
+from-readings g (asked n by dealer a) = refl
 
 -- a row holds where it holds of the readings found quickly
-pub quick : (r : Row) → T (holdsFrom quickReadings r) → T (holds r)
-quick r t =
+pub quick-in : (g : Game) (r : Row) → T (holdsFrom g quickReadings r) → T (holdsIn g r)
+quick-in g r t =
     subst T
-    (sym (from-readings r ∙ ap (λ (R : List ℕ → Calls → List Reading). holdsFrom R r) (fun-ext (λ cs. fun-ext (quick-readings cs)))))
+    (sym (from-readings g r ∙ ap (λ (R : List ℕ → Calls → List Reading). holdsFrom g R r) (fun-ext (λ cs. fun-ext (quick-readings cs)))))
     t
+
+-- with four players
+pub quick : (r : Row) → T (holdsFrom four quickReadings r) → T (holds r)
+unfolding holds
+quick r t = quick-in four r t

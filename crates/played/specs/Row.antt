@@ -5,6 +5,7 @@ use Prim.Native.Nat.{ℕ, suc}
 use lib.Dec.{eqb, ltb}
 use lib.ListN.{length, getD}
 use Rattle.lists.specs.Fold.{any, count, every, one}
+use Rattle.rules.specs.Rules.{Game, four}
 use Rattle.meld.specs.declared.Meld.{Meld}
 use Rattle.context.specs.declared.GameContext.{GameContext}
 use Rattle.hand.specs.Readings.{meldLists, standardsAt, sevenPairs, thirteenOrphans, readings}
@@ -29,16 +30,16 @@ use Rattle.fu.specs.Fu.{standardFu, fu}
 use Rattle.dora.specs.Dora.{doraOf, doraIn, totalHan}
 use Rattle.scoring.specs.Level.{level, basicPoints}
 use Rattle.scoring.specs.Payment.{payment, paymentAnswer}
-use Rattle.checks.specs.Checks.{check, handCheck}
+use Rattle.checks.specs.Checks.{check, handCheckIn}
 use Rattle.unit.specs.declared.Listing.{Listing}
-use Rattle.unit.specs.Listing.{handReadings, handRecords, listing, numberOf, readingsOf}
+use Rattle.unit.specs.Listing.{handReadings, handRecords, listingIn, numberOf, readingsOf}
 use Rattle.lent.specs.Lent.{callsOf}
 use Rattle.reading_score.specs.declared.ScoringResult.{ScoringResult}
 use Rattle.reading_score.specs.Score.{result, scoreOf, rank}
 use Rattle.choice.specs.declared.ScoreAnswer.{ScoreAnswer}
 use Rattle.choice.specs.Choice.{chooseBy, choice, numbered}
 use Rattle.win.specs.declared.WaitsAnswer.{WaitsAnswer}
-use Rattle.win.specs.Win.{orThen, winCheck, scoreIn, scores, scoreReading, scoreWin, nameWaits}
+use Rattle.win.specs.Win.{orThen, winCheckIn, scoreIn, scores, scoreReadingIn, scoreWinIn, nameWaitsIn}
 
 -- ---- what a row says
 -- who won
@@ -195,14 +196,19 @@ answers vs o n l f a =
     every
     (eqb n (checkedTo o) ∷ listsTo o (length vs) l ∷ eachReading f (checkedTo o) 0 vs ∷ winsWith vs o a ∷ [])
 
--- the row holds. What a proof computes with stands here once: `unfolding holds` opens all of it
-unfoldable pub holds : Row → Bool
-unfolding meldLists standardsAt sevenPairs thirteenOrphans readings recordOf pinfu waits tanyao honroutou tsuuiisou chinroutou ryuuiisou honitsu chinitsu nineGates pureWait tileYaku toitoi kans yakuhai dragons winds sanAnkou ittsu sanshokuDoujun sanshokuDoukou peikou chanta junchan shousangen suuankou daisangen shousuushii daisuushii suuKantsu names oneHan moreHan isYakuman ordinary tallies hanOf han standardFu fu level basicPoints payment paymentAnswer check handCheck handReadings handRecords listing doraOf doraIn totalHan result scoreOf rank chooseBy choice numbered orThen winCheck scoreIn scores scoreReading scoreWin nameWaits
-holds (won cs ms w vs o) =
+-- the row holds in the game g. What a proof computes with stands here once: `unfolding holdsIn` opens all of it
+unfoldable pub holdsIn : Game → Row → Bool
+unfolding meldLists standardsAt sevenPairs thirteenOrphans readings recordOf pinfu waits tanyao honroutou tsuuiisou chinroutou ryuuiisou honitsu chinitsu nineGates pureWait tileYaku toitoi kans yakuhai dragons winds sanAnkou ittsu sanshokuDoujun sanshokuDoukou peikou chanta junchan shousangen suuankou daisangen shousuushii daisuushii suuKantsu names oneHan moreHan isYakuman ordinary tallies hanOf han standardFu fu level basicPoints payment paymentAnswer check handCheckIn handReadings handRecords listingIn doraOf doraIn totalHan result scoreOf rank chooseBy choice numbered orThen winCheckIn scoreIn scores scoreReadingIn scoreWinIn nameWaitsIn
+holdsIn g (won cs ms w vs o) =
     let k = callsOf ms in
-    answers vs o (winCheck cs k w) (listing cs k alwaysEnough) (scoreReading cs k w) (scoreWin cs k w)
-holds (waiting cs ms w wss) = eachWaits (nameWaits cs (callsOf ms) w) 0 wss
-holds (listed cs ms n) = listsTo (chooses 0) n (listing cs (callsOf ms) alwaysEnough)
-holds (valued h f y l n) = same (leveled (level h f y)) (leveled l) && eqb (basicPoints h f y) n
-holds (paid h f y by dealer p) = same (settled (payment (eqb by 1) dealer (basicPoints h f y))) (settled p)
-holds (asked n by dealer a) = same (answered (paymentAnswer n dealer by)) (answered a)
+    answers vs o (winCheckIn g cs k w) (listingIn g cs k alwaysEnough) (scoreReadingIn g cs k w) (scoreWinIn g cs k w)
+holdsIn g (waiting cs ms w wss) = eachWaits (nameWaitsIn g cs (callsOf ms) w) 0 wss
+holdsIn g (listed cs ms n) = listsTo (chooses 0) n (listingIn g cs (callsOf ms) alwaysEnough)
+holdsIn g (valued h f y l n) = same (leveled (level h f y)) (leveled l) && eqb (basicPoints h f y) n
+holdsIn g (paid h f y by dealer p) = same (settled (payment (eqb by 1) dealer (basicPoints h f y))) (settled p)
+holdsIn g (asked n by dealer a) = same (answered (paymentAnswer n dealer by)) (answered a)
+
+-- with four players and all tiles; `unfolding holds` opens as much
+unfoldable pub holds : Row → Bool
+unfolding holdsIn
+holds r = holdsIn four r

@@ -129,7 +129,7 @@ const LEVELS: [[u8; 9]; 6] = [
     *b"Yakuman  ",
 ];
 
-// What each refusal means, by its number.
+// What each refusal means with four players, by its number.
 const REFUSALS: [[u8; 53]; 15] = [
     *b"accepted                                             ",
     *b"the counts are not 34 long                           ",
@@ -245,11 +245,29 @@ pub fn say_level(level: scoring::ScoreLevel) {
     }
 }
 
-// Writes what a refusal means.
-pub fn say_refusal(number: u8) {
+// Writes what a refusal means with four players.
+fn say_refusal_of_four(number: u8) {
     if 14 < number {
         return;
     }
     let row = refusal_row(number as usize);
     text::say_row(&row);
+}
+
+// Writes what a refusal means with three players: three of them are not the same.
+fn say_refusal_of_three(number: u8) {
+    match number {
+        3 => text::say(b"a call that is not made with three players"),
+        4 => text::say(b"more of a tile in the hand than there are with three players"),
+        14 => text::say(b"with three players no indicator is shown"),
+        _ => say_refusal_of_four(number),
+    }
+}
+
+// Writes what a refusal means in the game that is played.
+pub fn say_refusal(number: u8, v: rules::Variant) {
+    match v {
+        rules::Variant::Yonma => say_refusal_of_four(number),
+        rules::Variant::Sanma => say_refusal_of_three(number),
+    }
 }

@@ -56,35 +56,52 @@ pub fn say_worth(x: reading_score::ScoringResult) {
     names::say_level(level);
 }
 
+// Writes what each of the others pays to the dealer who won by tsumo.
+fn say_dealer_tsumo(from_each: u32, v: rules::Variant) {
+    match v {
+        rules::Variant::Yonma => text::say(b"each of the three others pays "),
+        rules::Variant::Sanma => text::say(b"each of the two others pays "),
+    }
+    text::say_points(from_each as u64);
+}
+
+// Writes what the dealer and the others pay to another player who won by tsumo: two others with four players, one with three.
+fn say_tsumo(from_dealer: u32, from_non_dealer: u32, v: rules::Variant) {
+    text::say(b"the dealer pays ");
+    text::say_points(from_dealer as u64);
+    match v {
+        rules::Variant::Yonma => {
+            text::say(b", the two others ");
+            text::say_points(from_non_dealer as u64);
+            text::say(b" each");
+        }
+        rules::Variant::Sanma => {
+            text::say(b" and the other ");
+            text::say_points(from_non_dealer as u64);
+        }
+    }
+}
+
 // Writes who pays what.
-fn say_payers(p: scoring::Payment) {
+fn say_payers(p: scoring::Payment, v: rules::Variant) {
     match p {
         scoring::Payment::Ron { from_discarder } => {
             text::say(b"the discarder pays ");
             text::say_points(from_discarder as u64);
         }
-        scoring::Payment::DealerTsumo { from_each } => {
-            text::say(b"each of the three others pays ");
-            text::say_points(from_each as u64);
-        }
+        scoring::Payment::DealerTsumo { from_each } => say_dealer_tsumo(from_each, v),
         scoring::Payment::Tsumo {
             from_dealer,
             from_non_dealer,
-        } => {
-            text::say(b"the dealer pays ");
-            text::say_points(from_dealer as u64);
-            text::say(b", the two others ");
-            text::say_points(from_non_dealer as u64);
-            text::say(b" each");
-        }
+        } => say_tsumo(from_dealer, from_non_dealer, v),
     }
 }
 
-// Writes who pays what, and the total.
-pub fn say_payment(p: scoring::Payment) {
-    say_payers(p);
+// Writes who pays what, and the total at the table of the game.
+pub fn say_payment(p: scoring::Payment, v: rules::Variant) {
+    say_payers(p, v);
     text::say(b", total ");
-    text::say_points(p.total());
+    text::say_points(p.total(v));
 }
 
 // Has the reading a yaku?
@@ -149,14 +166,14 @@ fn say_no_yaku(x: reading_score::ScoringResult) {
 }
 
 // Writes what a reading with a yaku is worth, and who pays it.
-fn say_worth_of(x: reading_score::ScoringResult) {
+fn say_worth_of(x: reading_score::ScoringResult, v: rules::Variant) {
     let payment = x.payment;
     text::say(b"  score: ");
     say_worth(x);
     text::say(b", basic points ");
     text::say_points(x.basic_points as u64);
     text::say(b"\n  payment: ");
-    say_payment(payment);
+    say_payment(payment, v);
     text::say(b"\n");
 }
 
@@ -167,6 +184,7 @@ pub fn say_score(
     h: structure::Hand,
     w: context::GameContext,
     opened: bool,
+    v: rules::Variant,
 ) {
     text::say(b"  waits: ");
     say_waits(waits);
@@ -177,7 +195,7 @@ pub fn say_score(
     parts::say_parts(h, w, opened, x.fu);
     text::say(b"\n");
     if has_yaku(x) {
-        say_worth_of(x);
+        say_worth_of(x, v);
     } else {
         say_no_yaku(x);
     }

@@ -18,21 +18,22 @@ use Rattle.scoring.proofs.Payment.Laws as L
 use Rattle.reading_score.specs.declared.ScoringResult.{ScoringResult}
 use Rattle.reading_score.specs.Score.{hasYaku, yakumanFirst, inDigits, rank}
 
--- three payers at most
+-- three payers at most, at a table of four
 pub total-fits : (p : Payment) (vs : List Val) → Is P.the-row p vs → totalAt 4 p ≤ 3 * 4294967295
 total-fits (Ron n) vs is = let one = owed P.the-type L.the-laws (Ron n) vs is in omega arith
 total-fits (DealerTsumo n) vs is = let one = owed P.the-type L.the-laws (DealerTsumo n) vs is in omega arith
 total-fits (Tsumo m n) vs is = let both = owed P.the-type L.the-laws (Tsumo m n) vs is in omega arith
 
 -- without a yaku the rank is 0, with one it has the four digits
-pub rank-none : (x : ScoringResult) (b : Bool) → b ≡ hasYaku x → not b ≡ true → 0 ≡ rank x
+pub rank-none : (players : ℕ) (x : ScoringResult) (b : Bool) → b ≡ hasYaku x → not b ≡ true → 0 ≡ rank players x
 unfolding rank
-rank-none x true e n = absurd (subst T (sym n) tt)
-rank-none x false e n = rw (sym e)
+rank-none players x true e n = absurd (subst T (sym n) tt)
+rank-none players x false e n = rw (sym e)
 
 pub rank-some :
-    (x : ScoringResult) (b : Bool) (total digit : ℕ) → b ≡ hasYaku x → not b ≡ false → total ≡ totalAt 4 (x .payment) → digit ≡ yakumanFirst (x .«is_yakuman»)
-    → inDigits total digit (x .han) (x .fu) + 1 ≡ rank x
+    (players : ℕ) (x : ScoringResult) (b : Bool) (total digit : ℕ) → b ≡ hasYaku x → not b ≡ false → total ≡ totalAt players (x .payment)
+    → digit ≡ yakumanFirst (x .«is_yakuman»)
+    → inDigits total digit (x .han) (x .fu) + 1 ≡ rank players x
 unfolding rank
-rank-some x false total digit e n t d = absurd (subst T n tt)
-rank-some x true total digit e n t d = rw (sym e, t, d, add-one)
+rank-some players x false total digit e n t d = absurd (subst T n tt)
+rank-some players x true total digit e n t d = rw (sym e, t, d, add-one)

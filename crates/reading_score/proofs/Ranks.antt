@@ -34,33 +34,33 @@ pub record Small (x : ScoringResult) : Type 0 where
   pub fu : x .fu < 256
 
 -- ---- dora is no yaku: where every tally is 0 the rank is 0, whatever the dora
-pub dora-no-yaku : (x : ScoringResult) → any (λ n. not (eqb n 0)) (x .tallies) ≡ false → rank x ≡ 0
+pub dora-no-yaku : (players : ℕ) (x : ScoringResult) → any (λ n. not (eqb n 0)) (x .tallies) ≡ false → rank players x ≡ 0
 unfolding rank
-dora-no-yaku x e = rw e
+dora-no-yaku players x e = rw e
 
 -- ---- a rank above 0 is of a yaku
 above-zero : (b : Bool) (n : ℕ) → 0 < cond b (suc n) 0 → T b
 above-zero true n h = tt
 above-zero false n h = absurd (omega arith)
 
-pub rank-yaku : (x : ScoringResult) → 0 < rank x → T (hasYaku x)
+pub rank-yaku : (players : ℕ) (x : ScoringResult) → 0 < rank players x → T (hasYaku x)
 unfolding rank
-rank-yaku x = above-zero (hasYaku x) _
+rank-yaku players x = above-zero (hasYaku x) _
 
 -- the four digits of a score
-abbrev digits : ScoringResult → ℕ
-digits x = inDigits (totalAt 4 (x .payment)) (yakumanFirst (x .«is_yakuman»)) (x .han) (x .fu)
+abbrev digits : ℕ → ScoringResult → ℕ
+digits players x = inDigits (totalAt players (x .payment)) (yakumanFirst (x .«is_yakuman»)) (x .han) (x .fu)
 
-yaku-digits : (x : ScoringResult) → T (hasYaku x) → rank x ≡ suc (digits x)
+yaku-digits : (players : ℕ) (x : ScoringResult) → T (hasYaku x) → rank players x ≡ suc (digits players x)
 unfolding rank
-yaku-digits x t = ap (λ (b : Bool). cond b (suc (digits x)) 0) (T→true (hasYaku x) t)
+yaku-digits players x t = ap (λ (b : Bool). cond b (suc (digits players x)) 0) (T→true (hasYaku x) t)
 
-pub yaku-rank : (x : ScoringResult) → T (hasYaku x) → 0 < rank x
-yaku-rank x t = let e = yaku-digits x t in omega arith
+pub yaku-rank : (players : ℕ) (x : ScoringResult) → T (hasYaku x) → 0 < rank players x
+yaku-rank players x t = let e = yaku-digits players x t in omega arith
 
 -- ---- equal ranks
-pub record SameRank (x y : ScoringResult) : Type 0 where
-  pub same-total : totalAt 4 (x .payment) ≡ totalAt 4 (y .payment)
+pub record SameRank (players : ℕ) (x y : ScoringResult) : Type 0 where
+  pub same-total : totalAt players (x .payment) ≡ totalAt players (y .payment)
   pub same-yakuman : x .«is_yakuman» ≡ y .«is_yakuman»
   pub same-han : x .han ≡ y .han
   pub same-fu : x .fu ≡ y .fu
@@ -85,8 +85,8 @@ compare a b = go (decLe b a) (decLe a b)
     go (yes above) (yes below) = inr (inl (omega arith))
     go (yes above) (no below) = inr (inr (omega arith))
 
-module _ (x y : ScoringResult) (i : Small x) (j : Small y) where
-  same-digits : digits x ≡ digits y → SameRank x y
+module _ (players : ℕ) (x y : ScoringResult) (i : Small x) (j : Small y) where
+  same-digits : digits players x ≡ digits players y → SameRank players x y
   same-digits e =
       let k = first-le (x .«is_yakuman») in
       let l = first-le (y .«is_yakuman») in
@@ -97,56 +97,58 @@ module _ (x y : ScoringResult) (i : Small x) (j : Small y) where
         same-fu = omega arith;
       }
 
-  pub rank-same : 0 < rank x → rank x ≡ rank y → SameRank x y
+  pub rank-same : 0 < rank players x → rank players x ≡ rank players y → SameRank players x y
   rank-same h e =
-      let p = yaku-digits x (rank-yaku x h) in
-      let q = yaku-digits y (rank-yaku y (subst (λ (n : ℕ). 0 < n) e h)) in
+      let p = yaku-digits players x (rank-yaku players x h) in
+      let q = yaku-digits players y (rank-yaku players y (subst (λ (n : ℕ). 0 < n) e h)) in
       same-digits (omega arith)
 
-  pub rank-total : T (hasYaku x) → rank x ≤ rank y → totalAt 4 (x .payment) ≤ totalAt 4 (y .payment)
+  pub rank-total : T (hasYaku x) → rank players x ≤ rank players y → totalAt players (x .payment) ≤ totalAt players (y .payment)
   rank-total t h =
       let k = first-le (x .«is_yakuman») in
       let l = first-le (y .«is_yakuman») in
-      let p = yaku-digits x t in
-      let q = yaku-digits y (rank-yaku y (omega arith)) in
+      let p = yaku-digits players x t in
+      let q = yaku-digits players y (rank-yaku players y (omega arith)) in
       omega arith
 
   -- the digits decide from the first to the last
   decide-han :
-      totalAt 4 (x .payment) ≡ totalAt 4 (y .payment) → x .«is_yakuman» ≡ y .«is_yakuman» → digits x < digits y
-      → (x .han < y .han) ⊎ ((x .han ≡ y .han) ⊎ (y .han < x .han)) → Preferred x y
+      totalAt players (x .payment) ≡ totalAt players (y .payment) → x .«is_yakuman» ≡ y .«is_yakuman» → digits players x < digits players y
+      → (x .han < y .han) ⊎ ((x .han ≡ y .han) ⊎ (y .han < x .han)) → Preferred players x y
   decide-han e f h (inl l) = by-han e f l
   decide-han e f h (inr (inl g)) = let k = ap yakumanFirst f in by-fu e f g (omega arith)
   decide-han e f h (inr (inr l)) = let k = ap yakumanFirst f in absurd (omega arith)
 
   decide-yakuman :
-      (p q : Bool) → x .«is_yakuman» ≡ p → y .«is_yakuman» ≡ q → totalAt 4 (x .payment) ≡ totalAt 4 (y .payment)
-      → digits x < digits y → Preferred x y
+      (p q : Bool) → x .«is_yakuman» ≡ p → y .«is_yakuman» ≡ q → totalAt players (x .payment) ≡ totalAt players (y .payment)
+      → digits players x < digits players y → Preferred players x y
   decide-yakuman true true f g e h = decide-han e (f ∙ sym g) h (compare (x .han) (y .han))
   decide-yakuman true false f g e h = let k = ap yakumanFirst f in let l = ap yakumanFirst g in absurd (omega arith)
   decide-yakuman false true f g e h = by-yakuman e f g
   decide-yakuman false false f g e h = decide-han e (f ∙ sym g) h (compare (x .han) (y .han))
 
   decide-total :
-      digits x < digits y
-      → (totalAt 4 (x .payment) < totalAt 4 (y .payment))
-      ⊎ ((totalAt 4 (x .payment) ≡ totalAt 4 (y .payment)) ⊎ (totalAt 4 (y .payment) < totalAt 4 (x .payment)))
-      → Preferred x y
+      digits players x < digits players y
+      → (totalAt players (x .payment) < totalAt players (y .payment))
+      ⊎ ((totalAt players (x .payment) ≡ totalAt players (y .payment)) ⊎ (totalAt players (y .payment) < totalAt players (x .payment)))
+      → Preferred players x y
   decide-total h (inl l) = by-total l
   decide-total h (inr (inl e)) = decide-yakuman (x .«is_yakuman») (y .«is_yakuman») refl refl e h
   decide-total h (inr (inr l)) = let k = first-le (x .«is_yakuman») in let m = first-le (y .«is_yakuman») in absurd (omega arith)
 
-  preferred-digits : Preferred x y → digits x < digits y
+  preferred-digits : Preferred players x y → digits players x < digits players y
   preferred-digits (by-total l) = let k = first-le (x .«is_yakuman») in let m = first-le (y .«is_yakuman») in omega arith
   preferred-digits (by-yakuman e f g) = let k = ap yakumanFirst f in let m = ap yakumanFirst g in omega arith
   preferred-digits (by-han e f l) = let k = ap yakumanFirst f in omega arith
   preferred-digits (by-fu e f g l) = let k = ap yakumanFirst f in omega arith
 
-  pub rank-order : T (hasYaku x) → T (hasYaku y) → (rank x < rank y → Preferred x y) × (Preferred x y → rank x < rank y)
+  pub rank-order :
+      T (hasYaku x) → T (hasYaku y)
+      → (rank players x < rank players y → Preferred players x y) × (Preferred players x y → rank players x < rank players y)
   rank-order t u =
-      let p = yaku-digits x t in
-      let q = yaku-digits y u in (
-        λ h. decide-total (omega arith) (compare (totalAt 4 (x .payment)) (totalAt 4 (y .payment))),
+      let p = yaku-digits players x t in
+      let q = yaku-digits players y u in (
+        λ h. decide-total (omega arith) (compare (totalAt players (x .payment)) (totalAt players (y .payment))),
         λ h. let l = preferred-digits h in omega arith,
       )
 

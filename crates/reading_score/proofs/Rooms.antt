@@ -30,7 +30,7 @@ pub record LessFu (x y : ScoringResult) : Type 0 where
   pub fu-le : x .fu ≤ y .fu
   pub level-le : place (x .«score_level») ≤ place (y .«score_level»)
   pub basic-le : x .«basic_points» ≤ y .«basic_points»
-  pub total-le : totalAt 4 (x .payment) ≤ totalAt 4 (y .payment)
+  pub total-le : (players : ℕ) → totalAt players (x .payment) ≤ totalAt players (y .payment)
 
 pub less-itself : (x : ScoringResult) → LessFu x x
 less-itself x =
@@ -41,7 +41,7 @@ less-itself x =
       fu-le = omega arith;
       level-le = omega arith;
       basic-le = omega arith;
-      total-le = omega arith;
+      total-le = λ players. omega arith;
     }
 
 module _ (w : GameContext) (n : ℕ) (opened : Bool) (s : TileYaku) (d : DoraCount) (r : Reading) where
@@ -73,7 +73,7 @@ module _ (w : GameContext) (n : ℕ) (opened : Bool) (s : TileYaku) (d : DoraCou
         fu-le = fu-two-le w n opened r;
         level-le = level-rises _ _ _ _ no-more-han (fu-two-le w n opened r) _ _ no-other-yakuman;
         basic-le = no-more-basic;
-        total-le = total-rises 4 (isTsumo w) (isDealer w) _ _ no-more-basic;
+        total-le = λ players. total-rises players (isTsumo w) (isDealer w) _ _ no-more-basic;
       }
 
   -- where the pair is not the double wind, every room scores alike

@@ -53,9 +53,9 @@ yakumanFirst yakuman = cond yakuman 1 0
 abbrev pub inDigits : ℕ → ℕ → ℕ → ℕ → ℕ
 inDigits total yakuman han fu = ((total * 2 + yakuman) * 256 + han) * 256 + fu
 
--- the rank in the choice: the greatest total; then a yakuman before none, more han, more fu. 0 without a yaku.
-unfoldable pub rank : ScoringResult → ℕ
-rank x =
+-- the rank in the choice at a table of so many players: the greatest total; then a yakuman before none, more han, more fu. 0 without a yaku.
+unfoldable pub rank : ℕ → ScoringResult → ℕ
+rank players x =
     cond (hasYaku x)
-    (suc (inDigits (totalAt 4 (x .payment)) (yakumanFirst (x .«is_yakuman»)) (x .han) (x .fu)))
+    (suc (inDigits (totalAt players (x .payment)) (yakumanFirst (x .«is_yakuman»)) (x .han) (x .fu)))
     0

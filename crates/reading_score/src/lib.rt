@@ -1,5 +1,6 @@
 // The score of a reading (calculate_score of agari's scoring.rs, with the tallies of its yaku and the dora), and its rank in the choice.
 ghost use mathlib.Core.Path.{_≡_};
+ghost use Rattle.rules.specs.Rules.{game};
 ghost use Rattle.structure.specs.Structure.{readingOf};
 ghost use Rattle.dora.specs.Dora.{AtMostForty};
 ghost use Rattle.reading_score.specs.Score.{scoreOf, hasYaku, rank};
@@ -53,15 +54,15 @@ fn has_yaku(x: ScoringResult) -> bool
     lists::any_above_zero(&tallies)
 }
 
-// The rank of a score in the choice: its total, then a yakuman before none, han, fu, as one number; 0 without a yaku.
-pub fn rank(x: ScoringResult) -> u64
-    ensures { λ r. ⌜ r ≡ rank x ⌝ }
+// The rank of a score in the choice: its total in the game that is played, then a yakuman before none, han, fu, as one number; 0 without a yaku.
+pub fn rank(x: ScoringResult, v: rules::Variant) -> u64
+    ensures { λ r. ⌜ r ≡ rank (game v .players) x ⌝ }
 {
     if !has_yaku(x) {
         return 0;
     }
     let payment = x.payment;
-    let total = payment.total();
+    let total = payment.total(v);
     let yakuman = if x.is_yakuman { 1 } else { 0 };
     let han = x.han as u64;
     let fu = x.fu as u64;

@@ -1,5 +1,6 @@
 // The answer of scoring the win: the score of the chosen reading, or what the hand lacks.
 ghost use Prim.Native.Nat.{_<_};
+use crate::calls;
 use printed::names;
 use printed::points;
 use printed::print;
@@ -32,11 +33,16 @@ fn held(count: u8, k: checks::Calls, t: u8) -> u64 {
     hand::wide(count) + called(k, t)
 }
 
-// The lowest tile of which hand and calls hold more than four; 34 where there is none.
-fn above_four(counts: &[u8; 34], k: checks::Calls) -> u8 {
+// How many of a tile there are: four, or none where it is not in the wall.
+fn most(t: u8, v: rules::Variant) -> u64 {
+    if v.in_wall(t) { 4 } else { 0 }
+}
+
+// The lowest tile of which hand and calls hold more than there are; 34 where there is none.
+fn above_most(counts: &[u8; 34], k: checks::Calls, v: rules::Variant) -> u8 {
     let mut t = 0;
     while t < 34 {
-        if 4 < held(counts[t as usize], k, t) {
+        if most(t, v) < held(counts[t as usize], k, t) {
             return t;
         }
         t += 1;
@@ -44,13 +50,18 @@ fn above_four(counts: &[u8; 34], k: checks::Calls) -> u8 {
     34
 }
 
-// Writes which tile is there more than four times.
-fn say_above_four(counts: &[u8; 34], k: checks::Calls) {
-    let t = above_four(counts, k);
+// Writes which tile is there too often: more than four times, or at all where there is none in the game.
+fn say_above_most(counts: &[u8; 34], k: checks::Calls, v: rules::Variant) {
+    let t = above_most(counts, k, v);
     if 34 <= t {
         return;
     }
     text::say(b": ");
+    if !v.in_wall(t) {
+        text::say(b"there is no ");
+        print::say_alike(t, 1);
+        return;
+    }
     print::say_alike(t, 1);
     text::say(b" is there ");
     text::say_number(held(counts[t as usize], k, t));
@@ -120,14 +131,21 @@ fn say_indicator_counts(w: context::GameContext) {
 }
 
 // Writes what exactly is wrong, behind the meaning of a refusal.
-fn say_detail(number: u8, counts: &[u8; 34], k: checks::Calls, w: context::GameContext) {
+fn say_detail(
+    number: u8,
+    counts: &[u8; 34],
+    k: checks::Calls,
+    w: context::GameContext,
+    v: rules::Variant,
+) {
     match number {
         2 => {
             text::say(b": ");
             say_call_count(k.count);
         }
-        4 => say_above_four(counts, without_calls(k)),
-        5 => say_above_four(counts, k),
+        3 => calls::say_not_made(k, v),
+        4 => say_above_most(counts, without_calls(k), v),
+        5 => say_above_most(counts, k, v),
         6 => say_sizes(counts, k.count),
         9 => say_not_held(w.winning_tile),
         10 => text::say(
@@ -139,17 +157,23 @@ fn say_detail(number: u8, counts: &[u8; 34], k: checks::Calls, w: context::GameC
 }
 
 // Writes a refusal.
-pub fn say_refused(number: u8, counts: &[u8; 34], k: checks::Calls, w: context::GameContext) {
+pub fn say_refused(
+    number: u8,
+    counts: &[u8; 34],
+    k: checks::Calls,
+    w: context::GameContext,
+    v: rules::Variant,
+) {
     text::say(b"answer: refused with ");
     text::say_number(number as u64);
     text::say(b": ");
-    names::say_refusal(number);
-    say_detail(number, counts, k, w);
+    names::say_refusal(number, v);
+    say_detail(number, counts, k, w, v);
     text::say(b"\n");
 }
 
 // Writes the answer of scoring the win.
-pub fn say_answer(scored: choice::ScoreAnswer) {
+pub fn say_answer(scored: choice::ScoreAnswer, v: rules::Variant) {
     let score = scored.score;
     let payment = score.payment;
     text::say(b"answer: reading ");
@@ -157,6 +181,6 @@ pub fn say_answer(scored: choice::ScoreAnswer) {
     text::say(b", ");
     points::say_worth(score);
     text::say(b", ");
-    points::say_payment(payment);
+    points::say_payment(payment, v);
     text::say(b"\n");
 }

@@ -30,7 +30,7 @@ fn is_from_any(m: meld::Meld) -> bool {
     m.is_open() & !m.is_sequence()
 }
 
-// Writes whom a call came from, by seats onward from the player who called.
+// Writes whom a call came from, as the words are taken: 1 for the right, 2 for across, 3 for the left.
 fn say_source(source: u8) {
     match source {
         1 => text::say(b" right"),
@@ -85,8 +85,60 @@ pub fn say_assumed(s: said::Said) {
     first = say_unsaid(melds[2], 2 < count, said[2], first);
     first = say_unsaid(melds[3], 3 < count, said[3], first);
     if !first {
-        text::say(
-            b" called from the left; say left, across or right behind a call; the score is the same\n",
-        );
+        text::say(b" called from the left; say ");
+        say_seats(s.three);
+        text::say(b" behind a call; the score is the same\n");
     }
+}
+
+// Writes the words for whom a call can come from: nobody sits across where three play.
+fn say_seats(three: bool) {
+    if three {
+        text::say(b"left or right");
+    } else {
+        text::say(b"left, across or right");
+    }
+}
+
+// ---- calls that are not made in the game
+
+// Writes a call behind those that are not made either. Answers that something stands there.
+fn say_next(m: meld::Meld, first: bool) -> bool {
+    if first {
+        text::say_byte(b':');
+    } else {
+        text::say_byte(b',');
+    }
+    say_tiles(m);
+    false
+}
+
+// Writes a call, if it is there and is not made in the game, and why. Answers whether nothing is written yet.
+fn say_if_not_made(m: meld::Meld, there: bool, v: rules::Variant, first: bool) -> bool {
+    if !there {
+        return first;
+    }
+    if m.is_sequence() & !v.allows_chi() {
+        let next = say_next(m, first);
+        text::say(b" (there is no chi)");
+        return next;
+    }
+    if v.in_wall(m.tile) {
+        return first;
+    }
+    let next = say_next(m, first);
+    text::say(b" (there is no ");
+    print::say_alike(m.tile, 1);
+    text::say_byte(b')');
+    next
+}
+
+// Writes which calls are not made in the game, and why.
+pub fn say_not_made(k: checks::Calls, v: rules::Variant) {
+    let melds = k.melds;
+    let count = k.count;
+    let mut first = say_if_not_made(melds[0], 0 < count, v, true);
+    first = say_if_not_made(melds[1], 1 < count, v, first);
+    first = say_if_not_made(melds[2], 2 < count, v, first);
+    say_if_not_made(melds[3], 3 < count, v, first);
 }

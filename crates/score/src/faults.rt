@@ -5,7 +5,7 @@ use printed::text;
 use tile_words::faults;
 
 // What each fault means, after the word at fault, in the order of the numbers in `tile_words::faults`.
-const FAULTS: [[u8; 111]; 27] = [
+const FAULTS: [[u8; 111]; 28] = [
     *b"has no fault                                                                                                   ",
     *b"is not a known word; 'score help' lists them                                                                   ",
     *b"which is no suit: m, p, s or z follows numbers (honors: 1z to 7z, or e s w n wh g r)                           ",
@@ -22,7 +22,7 @@ const FAULTS: [[u8; 111]; 27] = [
     *b"is not one tile: the winning tile is one, as in ron 8s                                                         ",
     *b"is a second winning tile: ron or tsumo is said once                                                            ",
     *b"is no wind: east, south, west or north, or e, s, w, n                                                          ",
-    *b"is said twice: there is one round wind, one seat wind, one double wind setting, and one player for each call   ",
+    *b"is said twice: there is one game, round wind, seat wind and double wind setting, and one player for each call  ",
     *b"is longer than 512 letters                                                                                     ",
     *b"is the last word, and another belongs behind it, as in ron 8s, chi 123m, seat east                             ",
     *b"no winning tile: say ron or tsumo, then the tile, as in ron 8s                                                 ",
@@ -33,18 +33,19 @@ const FAULTS: [[u8; 111]; 27] = [
     *b"has a red five: none is counted, so the han would be too few; write 5 for 0, and add a han for each in the hand",
     *b"says who a call came from, and there is no call before it: it stands behind one, as in pon 111m across         ",
     *b"cannot be: a chi is called from the left alone, a closed kan from nobody                                       ",
+    *b"with three players nobody sits across: a call comes from the left or from the right                            ",
 ];
 
 // The row of a fault.
 fn fault_row(i: usize) -> [u8; 111]
-    requires { ⌜ i < 27 ⌝ }
+    requires { ⌜ i < 28 ⌝ }
 {
     FAULTS[i]
 }
 
 // Writes what a fault means.
 fn say_fault(number: u8) {
-    if 26 < number {
+    if 27 < number {
         return;
     }
     let row = fault_row(number as usize);
@@ -89,7 +90,8 @@ fn say_word(s: said::Said) {
 
 // Is the fault one of a word, and not of all words together?
 fn is_of_word(fault: u8) -> bool {
-    !((fault == faults::NO_WIN) | ((fault == faults::HAITEI_RON) | (fault == faults::HOUTEI_TSUMO)))
+    !(((fault == faults::NO_WIN) | (fault == faults::NO_ACROSS))
+        | ((fault == faults::HAITEI_RON) | (fault == faults::HOUTEI_TSUMO)))
 }
 
 // Writes what is wrong with the words.

@@ -46,6 +46,13 @@ fn say_double_wind(two: bool) {
     }
 }
 
+// Writes that three play; where four do there is nothing to say.
+fn say_game(three: bool) {
+    if three {
+        text::say(b" three");
+    }
+}
+
 // Writes indicators behind their word, in their order; nothing where none is shown.
 fn say_indicators(word: &[u8], k: context::Indicators) {
     let tiles = k.tiles;
@@ -99,6 +106,7 @@ pub fn say_hand(s: said::Said) {
     say_wind(s.seat);
     say_flags(flags);
     say_double_wind(s.double_wind_two);
+    say_game(s.three);
     say_indicators(b" dora ", dora);
     say_indicators(b" ura ", ura);
     text::say_byte(b'\n');

@@ -41,20 +41,21 @@ fn take_arguments(count: usize) -> said::Said {
 // Writes all there is to say about a finished hand.
 fn show(s: said::Said) {
     let counts = s.counts;
-    let k = s.calls;
+    let k = s.seated();
+    let v = s.game();
     let w = s.win();
-    let scored = win::score_win(&counts, k, w);
+    let scored = win::score_win_in(&counts, k, w, v);
     let number = scored.number;
     hand_line::say_hand(s);
     flags::say_notes(w, win::is_opened(k));
     if (number == 0) | (number == 11) {
-        readings::say_all(&counts, k, w, scored);
+        readings::say_all(&counts, k, w, v, scored);
     }
     if number != 0 {
-        answer::say_refused(number, &counts, k, w);
+        answer::say_refused(number, &counts, k, w, v);
         return;
     }
-    answer::say_answer(scored);
+    answer::say_answer(scored, v);
 }
 
 // Takes the words and writes the readings and the answer, or what is wrong with the words.

@@ -19,8 +19,9 @@ fn score_of(
     counts: &[u8; 34],
     k: checks::Calls,
     w: context::GameContext,
+    v: rules::Variant,
 ) -> reading_score::ScoringResult {
-    let scored = win::score_reading(counts, k, w, i);
+    let scored = win::score_reading_in(counts, k, w, v, i);
     scored.score
 }
 
@@ -41,15 +42,23 @@ fn say_reading(
     counts: &[u8; 34],
     k: checks::Calls,
     w: context::GameContext,
+    v: rules::Variant,
 ) {
-    let named = win::name_waits(counts, k, w, i);
+    let named = win::name_waits_in(counts, k, w, v, i);
     let waits = named.waits;
     text::say_byte(b'\n');
     say_which(i, chosen);
     text::say(b": ");
     print::say_reading(h);
     text::say_byte(b'\n');
-    points::say_score(score_of(i, counts, k, w), waits, h, w, win::is_opened(k));
+    points::say_score(
+        score_of(i, counts, k, w, v),
+        waits,
+        h,
+        w,
+        win::is_opened(k),
+        v,
+    );
 }
 
 // Writes all readings with their scores. Their records stand one behind the other.
@@ -60,12 +69,13 @@ fn say_readings(
     counts: &[u8; 34],
     k: checks::Calls,
     w: context::GameContext,
+    v: rules::Variant,
 )
     requires { ⌜ n ≤ 3000 ⌝ }
 {
     for i in 0..n {
         let h = records::reading_at(records, records::place_of(records, i));
-        say_reading(h, i, chosen, counts, k, w);
+        say_reading(h, i, chosen, counts, k, w, v);
     }
 }
 
@@ -76,12 +86,13 @@ fn say_total(
     counts: &[u8; 34],
     k: checks::Calls,
     w: context::GameContext,
+    v: rules::Variant,
 ) {
-    let score = score_of(i, counts, k, w);
+    let score = score_of(i, counts, k, w, v);
     let payment = score.payment;
     text::say_comma(i == 0);
     if points::has_yaku(score) {
-        text::say_points(payment.total());
+        text::say_points(payment.total(v));
         text::say(b" by ");
     } else {
         text::say(b"no yaku in ");
@@ -96,10 +107,11 @@ fn say_totals(
     counts: &[u8; 34],
     k: checks::Calls,
     w: context::GameContext,
+    v: rules::Variant,
 ) {
     text::say(b"totals: ");
     for i in 0..n {
-        say_total(i, chosen, counts, k, w);
+        say_total(i, chosen, counts, k, w, v);
     }
     text::say_byte(b'\n');
 }
@@ -120,6 +132,7 @@ fn say_before(
     i: usize,
     x: reading_score::ScoringResult,
     best: reading_score::ScoringResult,
+    v: rules::Variant,
     first: bool,
 ) -> bool {
     if !points::has_yaku(x) {
@@ -132,7 +145,7 @@ fn say_before(
     }
     text::say(b" before reading ");
     text::say_number(i as u64);
-    say_decided(explained::decided::decided_by(x, best));
+    say_decided(explained::decided::decided_by(x, best, v));
     false
 }
 
@@ -144,11 +157,12 @@ fn say_why(
     counts: &[u8; 34],
     k: checks::Calls,
     w: context::GameContext,
+    v: rules::Variant,
 ) {
     let mut first = true;
     for i in 0..n {
         if i != chosen {
-            first = say_before(i, score_of(i, counts, k, w), best, first);
+            first = say_before(i, score_of(i, counts, k, w, v), best, v, first);
         }
     }
     if !first {
@@ -161,21 +175,22 @@ pub fn say_all(
     counts: &[u8; 34],
     k: checks::Calls,
     w: context::GameContext,
+    v: rules::Variant,
     scored: choice::ScoreAnswer,
 ) {
-    if checks::check_hand(counts, k) != 0 {
+    if checks::check_hand(counts, k, v) != 0 {
         return;
     }
     let chosen = chosen_of(scored);
     let mut buffer = [0u8; hand::ALWAYS_ENOUGH];
     let n = unit::write_all(counts, k, &mut buffer);
-    say_readings(&buffer, n, chosen, counts, k, w);
+    say_readings(&buffer, n, chosen, counts, k, w, v);
     text::say_byte(b'\n');
     if 1 < n {
-        say_totals(n, chosen, counts, k, w);
+        say_totals(n, chosen, counts, k, w, v);
     }
     if scored.number == 0 {
         let best = scored.score;
-        say_why(n, chosen, best, counts, k, w);
+        say_why(n, chosen, best, counts, k, w, v);
     }
 }

@@ -29,6 +29,10 @@ fn say_words() {
     text::say(
         b"ROOM   double-wind-2: a pair that is both round and seat wind has 2 fu; double-wind-4, or neither: 4\n",
     );
+    text::say(
+        b"GAME   three (or sanma): three players, no man 2 to 8, no chi, nobody across, no dora shown; four (or\n",
+    );
+    text::say(b"       yonma), or neither: four players\n");
 }
 
 // Writes how dora is said, and what is to be known beside the words.
@@ -48,7 +52,7 @@ fn say_dora() {
 // Writes how to use it.
 pub fn say_usage() {
     text::say(
-        b"score TILES.. [CALL TILES].. ron|tsumo TILE [round WIND] [seat WIND] [FLAG].. [ROOM] [DORA]..\n",
+        b"score TILES.. [CALL TILES].. ron|tsumo TILE [round WIND] [seat WIND] [FLAG].. [ROOM] [GAME] [DORA]..\n",
     );
     text::say(
         b"writes every reading of a finished hand, what it is worth, and which is chosen\n\n",
@@ -59,5 +63,6 @@ pub fn say_usage() {
     text::say(b"score 222333444m567p88s ron 8s\n");
     text::say(b"score 22m567p345s chi 234m pon 555z across tsumo 5s dealer\n");
     text::say(b"score '22m 567p 345s (234m) (555z) across tsumo 5s dealer'\n");
-    text::say(b"score 123m55m456p234678s ron 8s riichi dora 4m ura 1z\n\n");
+    text::say(b"score 123m55m456p234678s ron 8s riichi dora 4m ura 1z\n");
+    text::say(b"score three 111999m567p88s pon 555z right tsumo 8s\n\n");
 }

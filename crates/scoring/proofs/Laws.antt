@@ -1,12 +1,16 @@
 -- Laws of rounding, of the ron factor and of totals, and the bound of basic points. Assumes nothing.
 use mathlib.Core.Path.{_≡_, refl}
 use mathlib.Core.Bool.{Bool, true, false, cond}
-use Prim.Native.Nat.{ℕ, _+_, _-_, _*_, _%_, _^_, _<_, _≤_, max}
+use Prim.Native.Nat.{ℕ, zero, suc, _+_, _-_, _*_, _%_, _^_, _<_, _≤_, max}
 use native.Mathlib.Omega.{arith}
 use lib.Dec.{lit≤, lit<}
-use Rattle.lists.specs.Fold.{one}
+use lib.ListN.{length, replicate, length-replicate}
+use Rattle.lists.specs.Fold.{one, total as added}
+use Rattle.scoring.specs.declared.Payment.{Payment}
+use Rattle.scoring.specs.declared.Payment.the-variants.{Ron, DealerTsumo, Tsumo}
 use Rattle.scoring.specs.Level.{reachesYakuman, reachesSanbaiman, reachesBaiman, reachesHaneman, reachesMangan, highest, yakumanCount, pointsAt, basicPoints}
 use Rattle.scoring.specs.Payment.{roundUpTo100, payment, totalAt}
+use Rattle.scoring.specs.Payers.{payers}
 
 -- ---- rounding: the least multiple of 100 that is not below n
 pub round-up-above : (n : ℕ) → n ≤ roundUpTo100 n
@@ -28,6 +32,22 @@ ron-factor true = refl
 ron-factor false = refl
 
 -- ---- totals
+repeated : (k n : ℕ) → added (replicate k n) ≡ n * k
+repeated zero n = omega arith
+repeated (suc k) n = let rest = repeated k n in omega arith
+
+-- the winner receives what all the others pay together
+pub payers-total : (players : ℕ) (p : Payment) → added (payers players p) ≡ totalAt players p
+payers-total players (Ron n) = let nothing = repeated (players - 2) 0 in omega arith
+payers-total players (DealerTsumo n) = let all = repeated (players - 1) n in omega arith
+payers-total players (Tsumo dealer other) = let others = repeated (players - 2) other in omega arith
+
+-- and these are all but the winner
+pub payers-many : (players : ℕ) (p : Payment) → 2 ≤ players → length (payers players p) ≡ players - 1
+payers-many players (Ron n) h = let rest = length-replicate {A = ℕ} (players - 2) 0 in omega arith
+payers-many players (DealerTsumo n) h = length-replicate (players - 1) n
+payers-many players (Tsumo dealer other) h = let rest = length-replicate (players - 2) other in omega arith
+
 -- what the winner receives at a table of so many players: each payer's amount is rounded up once, after multiplication
 pub total :
     (players basic : ℕ) (tsumo dealer : Bool)

@@ -1,11 +1,12 @@
 -- Payments by examples, as the tables of a rulebook have them: what each pays for han and fu. Assumes nothing.
 use mathlib.Core.Path.{_≡_, refl}
-use mathlib.Core.Bool.{true, false}
+use mathlib.Core.Bool.{Bool, true, false}
 use Prim.Native.Nat.{ℕ}
 use Rattle.scoring.specs.declared.Payment.the-variants.{Ron, DealerTsumo, Tsumo}
 use Rattle.scoring.specs.declared.PaymentAnswer.the-variants.{Refused, Paid}
 use Rattle.scoring.specs.Level.{basicPoints}
 use Rattle.scoring.specs.Payment.{roundUpTo100, payment, paymentAnswer, totalAt}
+use Rattle.scoring.specs.Payers.{owedInAll}
 
 -- han and fu without a yakuman cost the discarder so much, or so much where the dealer wins
 abbrev ByRon : ℕ → ℕ → ℕ → ℕ → Type 0
@@ -16,7 +17,7 @@ ByRon han fu other dealer =
 abbrev ByTsumo : ℕ → ℕ → ℕ → ℕ → Type 0
 ByTsumo han fu dealer other = payment true false (basicPoints han fu false) ≡ Tsumo dealer other
 
--- and each of the three so much where the dealer wins
+-- and each of the others so much where the dealer wins
 abbrev ByDealerTsumo : ℕ → ℕ → ℕ → Type 0
 ByDealerTsumo han fu each = payment true true (basicPoints han fu false) ≡ DealerTsumo each
 
@@ -203,6 +204,25 @@ dealer-tsumo-total = refl
 
 pub tsumo-total : totalAt 4 (Tsumo 4000 2000) ≡ 8000
 tsumo-total = refl
+
+-- and at a table of three, where by tsumo two pay
+pub ron-total-of-three : totalAt 3 (Ron 3900) ≡ 3900
+ron-total-of-three = refl
+
+pub dealer-tsumo-total-of-three : totalAt 3 (DealerTsumo 4000) ≡ 8000
+dealer-tsumo-total-of-three = refl
+
+pub tsumo-total-of-three : totalAt 3 (Tsumo 4000 2000) ≡ 6000
+tsumo-total-of-three = refl
+
+-- how often the basic points are owed in all: at a table of four 4 times, to the dealer 6 times, by ron and by tsumo alike
+pub owed-at-four : (byTsumo : Bool) → (owedInAll 4 byTsumo false ≡ 4) × (owedInAll 4 byTsumo true ≡ 6)
+owed-at-four true = (refl, refl)
+owed-at-four false = (refl, refl)
+
+-- at a table of three by tsumo 3 times, to the dealer 4 times
+pub owed-at-three : (owedInAll 3 true false ≡ 3) × (owedInAll 3 true true ≡ 4)
+owed-at-three = (refl, refl)
 
 -- ---- what is refused: basic points above 152,000 with 13, a win type that is neither ron nor tsumo with 8, and 8 before 13
 pub most-is-paid : paymentAnswer 152000 true 0 ≡ Paid (Ron 912000)

@@ -1,18 +1,21 @@
 -- Payments, for all basic points: what each pays, that more basic points never pay less, and what is refused. Assumes nothing.
-use mathlib.Core.Path.{_≡_, refl, sym, _∙_}
+use mathlib.Core.Path.{_≡_, refl, sym, ap, _∙_}
 use mathlib.Core.Logic.{inl, inr, ⊎-elim, _↔_}
 use mathlib.Core.Bool.{Bool, true, false, cond}
 use mathlib.Core.List.{[], _∷_}
 use Prim.Native.Nat.{ℕ, _+_, _-_, _*_, _/_, _<_, _≤_}
 use native.Mathlib.Omega.{arith}
 use native.Mathlib.Decide.{decLe}
-use native.Mathlib.Nat.{mul-le-mul-right}
+use native.Mathlib.Nat.{mul-le-mul-left, mul-le-mul-right}
 use lib.Dec.{eqb}
 use borrow.Author.Tests.{lt-ltb, le-ltb}
 use Rattle.lists.specs.Refusals.{Answers, unless}
+use Rattle.scoring.specs.declared.Payment.{Payment}
+use Rattle.scoring.specs.declared.Payment.the-variants.{Ron, DealerTsumo, Tsumo}
 use Rattle.scoring.specs.declared.PaymentAnswer.the-variants.{Paid}
 use Rattle.scoring.specs.Level.{basicPoints}
 use Rattle.scoring.specs.Payment.{roundUpTo100, payment, totalAt, paymentAnswer, refusalOf}
+use Rattle.scoring.specs.Payers.{asked, owedInAll}
 use Rattle.scoring.specs.Settled.{Pays, Settled, ron, dealer-ron, tsumo, dealer-tsumo}
 use Rattle.scoring.proofs.Laws.{round-up-above, round-up-multiple, round-up-least, basic-le}
 
@@ -48,15 +51,41 @@ total-rises players true false basic basic′ h =
     omega arith
 total-rises players true true basic basic′ h = mul-le-mul-right (players - 1) (rounded-rises (basic * 2) (basic′ * 2) (omega arith))
 
--- at a table of four a winner receives 4 times the basic points, the dealer 6 times, and less than 300 more
+-- and where more sit at the table, a payment is no less in all
+pub table-rises : (p : Payment) (players players′ : ℕ) → players ≤ players′ → totalAt players p ≤ totalAt players′ p
+table-rises (Ron n) players players′ h = omega arith
+table-rises (DealerTsumo n) players players′ h = mul-le-mul-left n (omega arith)
+table-rises (Tsumo dealer other) players players′ h =
+    let rest : players - 2 ≤ players′ - 2 = omega arith in
+    omega (arith, mul-le-mul-left other rest)
+
+-- ---- how near the total is to what is owed
+-- so many payers owe and pay alike
+alike : (k owed : ℕ) → (owed * k ≤ roundUpTo100 owed * k) × (roundUpTo100 owed * k ≤ owed * k + k * 99)
+alike k owed =
+    let most : roundUpTo100 owed ≤ owed + 99 = omega arith in
+    (mul-le-mul-right k (round-up-above owed), omega (arith, mul-le-mul-right k most))
+
+-- the dealer owes for two, and each of the rest for one
+for-each : (players n : ℕ) → 2 ≤ players → players * n ≡ n * 2 + n * (players - 2)
+for-each players n h = ap (λ (p : ℕ). p * n) (omega arith) ∙ go (players - 2)
+  where
+    go : (k : ℕ) → (k + 2) * n ≡ n * 2 + n * k
+    go k = omega arith
+
+-- the winner receives the basic points as often as the others owe them together, and less than 100 more for each who is asked
 pub total-near :
-    (byTsumo dealer : Bool) (basic : ℕ)
-    → (cond dealer 6 4 * basic ≤ totalAt 4 (payment byTsumo dealer basic)) × (totalAt 4 (payment byTsumo dealer basic) < cond dealer 6 4 * basic + 300)
+    (players : ℕ) → 2 ≤ players → (byTsumo dealer : Bool) (basic : ℕ)
+    → (owedInAll players byTsumo dealer * basic ≤ totalAt players (payment byTsumo dealer basic))
+    × (totalAt players (payment byTsumo dealer basic) < owedInAll players byTsumo dealer * basic + asked players byTsumo * 100)
 unfolding payment
-total-near false false basic = (omega arith, omega arith)
-total-near false true basic = (omega arith, omega arith)
-total-near true false basic = (omega arith, omega arith)
-total-near true true basic = (omega arith, omega arith)
+total-near players h false false basic = (omega arith, omega arith)
+total-near players h false true basic = (omega arith, omega arith)
+total-near players h true false basic =
+    let rest = alike (players - 2) basic in
+    let owed = for-each players basic h in
+    (omega arith, omega arith)
+total-near players h true true basic = let all = alike (players - 1) (basic * 2) in (omega arith, omega arith)
 
 -- ---- what is refused: 8 for a win type that is neither ron nor tsumo, then 13 for basic points above 152,000
 module _ (basic : ℕ) (dealer : Bool) (winType : ℕ) where

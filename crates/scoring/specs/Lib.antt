@@ -1,3 +1,4 @@
 pub mod Level
 pub mod Payment
+pub mod Payers
 pub mod Settled

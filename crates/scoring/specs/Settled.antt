@@ -13,7 +13,7 @@ pub record Pays (owed paid : ℕ) : Type 0 where
   pub least : (n : ℕ) → n % 100 ≡ 0 → owed ≤ n → paid ≤ n
 
 -- first whether by tsumo, then whether the dealer won: by ron the discarder owes 4 times the basic points, to the dealer 6 times; by tsumo the dealer owes twice and each of the others once, or each
--- of the three twice to the dealer
+-- of the others twice to the dealer
 pub data Settled (basic : ℕ) : Bool → Bool → Payment → Type 0 where
   ron : {n : ℕ} → Pays (4 * basic) n → Settled basic false false (Ron n)
   dealer-ron : {n : ℕ} → Pays (6 * basic) n → Settled basic false true (Ron n)

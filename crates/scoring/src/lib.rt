@@ -3,6 +3,7 @@ ghost use mathlib.Core.Path.{_≡_};
 ghost use mathlib.Core.Bool.{cond, _&&_, _||_};
 ghost use Prim.Native.Nat.{_+_, _*_, _/_, _^_, _≤_, max, min};
 ghost use lib.Dec.{eqb, leb};
+ghost use Rattle.rules.specs.Rules.{game};
 ghost use Rattle.scoring.specs.Level.{reachesMangan, yakumanCount, level, basicPoints};
 ghost use Rattle.scoring.specs.Payment.{roundUpTo100, payment, paymentAnswer, totalAt};
 
@@ -161,17 +162,18 @@ pub fn score_payment(basic_points: u32, is_dealer: bool, win_type: u8) -> Paymen
 }
 
 impl Payment {
-    // All that the winner receives, at a table of four.
-    pub fn total(self) -> u64
-        ensures { λ r. ⌜ r ≡ totalAt 4 self ⌝ }
+    // All that the winner receives, at the table of the game that is played.
+    pub fn total(self, v: rules::Variant) -> u64
+        ensures { λ r. ⌜ r ≡ totalAt (game v .players) self ⌝ }
     {
+        let players = v.players();
         match self {
             Payment::Ron { from_discarder } => from_discarder as u64,
-            Payment::DealerTsumo { from_each } => (from_each as u64) * 3,
+            Payment::DealerTsumo { from_each } => (from_each as u64) * (players - 1),
             Payment::Tsumo {
                 from_dealer,
                 from_non_dealer,
-            } => (from_dealer as u64) + (from_non_dealer as u64) * 2,
+            } => (from_dealer as u64) + (from_non_dealer as u64) * (players - 2),
         }
     }
 }

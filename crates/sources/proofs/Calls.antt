@@ -1,4 +1,4 @@
--- In a hand that passes the checks the source never decides the order of melds: two melds of a reading that have the same tile and kind have the same
+-- In a hand that passes the checks of a game the source never decides the order of melds: two melds of a reading that have the same tile and kind have the same
 -- source. Sequences and concealed melds have but one source, and two triplets or kans of one tile would be more than four tiles. Assumes nothing.
 use mathlib.Core.Path.{_≡_, refl, sym, ap, ap₂, _∙_, subst}
 use mathlib.Core.Logic.{_⊎_, inl, inr}
@@ -13,6 +13,7 @@ use Rattle.lists.proofs.Finite.{and-left, and-right, true→T}
 use Rattle.lists.proofs.Members.{all-mem, all-append, perm-mem}
 use Rattle.lists.proofs.Sums.{sum-in}
 use Rattle.lists.proofs.Arranged.{pick-mem}
+use Rattle.rules.specs.Rules.{Game}
 use Rattle.meld.specs.declared.Meld.{Meld}
 use Rattle.meld.specs.Meld.{isSequence, isConcealed, isMeld, uses, meld, butSource, handMelds, sorted}
 use Rattle.meld.proofs.Melds.{melds-at, meld-tile, picked-melds, sorted-perm}
@@ -21,7 +22,7 @@ use Rattle.hand.specs.Counts.{held}
 use Rattle.hand.specs.Reading.{Reading, pairs, orphans, standard}
 use Rattle.complete.proofs.Listed.{Listed, as-pairs, as-orphans, as-standard, listed}
 use Rattle.checks.specs.declared.Calls.{Calls}
-use Rattle.checks.specs.Checks.{called, handCheck}
+use Rattle.checks.specs.Checks.{called, handCheckIn}
 use Rattle.checks.proofs.Passed.{passed}
 use Rattle.unit.specs.Listing.{handReadings}
 use Rattle.sources.proofs.Checked.{calls-melds}
@@ -84,7 +85,7 @@ hand-told a b v j q =
     sym (concealed-but a v (subst T (sym (ap isConcealed q)) hidden)) ∙ q ∙ but-handMeld b j
 
 -- ---- the calls and melds of the hand
-module _ (cs : List ℕ) (k : Calls) (hand : handCheck cs k ≡ 0) where
+module _ (g : Game) (cs : List ℕ) (k : Calls) (hand : handCheckIn g cs k ≡ 0) where
   called-told : (a b : Meld) → List·Memᴰ a (called k) → List·Memᴰ b (called k) → Told a b
   called-told =
       let p = passed cs k hand in

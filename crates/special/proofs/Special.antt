@@ -2,7 +2,7 @@
 use mathlib.Core.Path.{_≡_, refl, sym, ap, _∙_, subst}
 use mathlib.Core.Bool.{Bool, true, false, _&&_, _||_, not, cond, and-true, and-false}
 use mathlib.Core.List.{List, [], _∷_, _++_, map, append-nil, List·Memᴰ}
-use Prim.Native.Nat.{ℕ, suc, _+_, _≤_, _<_}
+use Prim.Native.Nat.{ℕ, suc, _+_, _%_, _≤_, _<_}
 use native.Mathlib.Omega.{arith}
 use native.Mathlib.Numerals.{add-four}
 use lib.Dec.{T, eqb, ltb, eqb→eq}
@@ -11,11 +11,11 @@ use lib.ListN.{length, set}
 use lib.Seq.{sets}
 use borrow.Author.Tests.{eq-eqb, ne-eqb, lt-ltb}
 use Rattle.lists.specs.Fold.{all, count, keep, one, total}
-use Rattle.lists.proofs.Finite.{and-left, and-right, true→T, or-elim}
-use Rattle.lists.proofs.Members.{map-members}
+use Rattle.lists.proofs.Finite.{and-left, and-right, and-both, true→T, ¬T→false, or-elim}
+use Rattle.lists.proofs.Members.{all-mem, all-intro, map-members}
 use Rattle.lists.proofs.Kept.{keep-none}
 use Rattle.tile.specs.Tile.{isTerminalOrHonor, tiles}
-use Rattle.tile.proofs.Tiles.{tile-lt}
+use Rattle.tile.proofs.Tiles.{in-tiles, tile-lt}
 use Rattle.hand.specs.Reading.{pairs, orphans}
 use Rattle.hand.specs.Records.{recordOf, records, twoBytes}
 use Rattle.hand.specs.Readings.{twos, isPairs, sevenPairs, isOrphans, thirteenOrphans}
@@ -145,3 +145,28 @@ module _ (c : ℕ → ℕ) (h : isPairs c ≡ true) where
       ∙ ap (λ (o : List ℕ). sets o (at + 4) (twos c)) e
       ∙ ap (λ (n : ℕ). sets (sets out at (11 ∷ 0 ∷ 1 ∷ 0 ∷ [])) n (twos c)) (add-four at)
       ∙ ap (λ (l : List ℕ). sets out at l) (sym seven-record)
+
+-- ---- what a hand of pairs or of orphans has at the least
+abbrev pub even : (ℕ → ℕ) → ℕ → Bool
+even c t = eqb (c t % 2) 0
+
+-- no count of seven pairs is odd
+pub pairs-even : (c : ℕ → ℕ) → all (even c) tiles ≡ false → isPairs c ≡ false
+pairs-even c e =
+    ¬T→false (isPairs c)
+    (λ h. subst T e (all-intro (even c) tiles (λ t i. of-two (c t) (all-mem (noneOrTwo c) (and-left (all (noneOrTwo c) tiles) _ h) i))))
+  where
+    of-two : (n : ℕ) → T (eqb n 0 || eqb n 2) → T (eqb (n % 2) 0)
+    of-two n t =
+        or-elim (eqb n 0) (eqb n 2) t (λ z. true→T _ (eq-eqb (n % 2) 0 (let q = eqb→eq n 0 z in omega arith)))
+        (λ z. true→T _ (eq-eqb (n % 2) 0 (let q = eqb→eq n 2 z in omega arith)))
+
+-- thirteen orphans have man 1, the first tile, and Red, the last
+pub orphans-ends : (c : ℕ → ℕ) → (there c 0 && there c 33) ≡ false → thirteenOrphans c ≡ []
+unfolding thirteenOrphans
+orphans-ends c e =
+    ap (map orphans)
+    (keep-none (isOrphans c) tiles
+    (λ p m h.
+    absurd
+    (subst T e (and-both (there c 0) (there c 33) (true→T _ (orphan-there c p h 0 (in-tiles 0 (omega arith)))) (true→T _ (orphan-there c p h 33 (in-tiles 33 (omega arith))))))))

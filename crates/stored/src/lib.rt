@@ -183,7 +183,7 @@ fn same_amounts(s: &[u8], at: usize, non_dealer: u32, dealer: u32, discarder: u3
 pub fn same_payment(s: &[u8], at: usize, p: scoring::Payment) -> bool
     requires { ⌜ at + 16 ≤ length (now s) ⌝ }
 {
-    if p.total() != u32_at(s, at + 12) as u64 {
+    if p.total(rules::Variant::Yonma) != u32_at(s, at + 12) as u64 {
         return false;
     }
     match p {

@@ -44,7 +44,7 @@ pub const TWO_WINS: u8 = 14;
 // the word behind round or seat is no wind
 pub const NO_WIND: u8 = 15;
 
-// the round, the seat, the double wind setting or whom a call came from is said twice
+// the game, the round, the seat, the double wind setting or whom a call came from is said twice
 pub const TWICE: u8 = 16;
 
 // an argument that is empty or too long
@@ -77,5 +77,8 @@ pub const NO_CALL_BEFORE: u8 = 25;
 // a call that cannot come from there
 pub const NO_SEAT: u8 = 26;
 
+// a call from across with three players
+pub const NO_ACROSS: u8 = 27;
+
 // how many numbers there are, 0 among them
-pub const FAULTS: usize = 27;
+pub const FAULTS: usize = 28;

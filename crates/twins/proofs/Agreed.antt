@@ -9,6 +9,7 @@ use lib.ListN.{length}
 use borrow.Author.Tests.{eq-eqb}
 use Rattle.lists.proofs.Finite.{and-left, and-right, true→T}
 use Rattle.tile.specs.declared.Renaming.{Renaming}
+use Rattle.rules.specs.Rules.{Game}
 use Rattle.context.specs.declared.GameContext.{GameContext}
 use Rattle.context.specs.Context.{renWin}
 use Rattle.renamed.specs.Renamed.{renCounts}
@@ -19,10 +20,10 @@ use Rattle.scoring.specs.declared.Payment.the-variants.{Ron, DealerTsumo, Tsumo
 use Rattle.dora.specs.declared.DoraCount.{DoraCount}
 use Rattle.checks.specs.declared.Calls.{Calls}
 use Rattle.choice.specs.declared.ScoreAnswer.{ScoreAnswer}
-use Rattle.win.specs.Win.{winCheck, scoreWin}
-use Rattle.agreement.specs.Agreement.{SameAnswer, NotGreen, Comparable}
+use Rattle.win.specs.Win.{winCheckIn, scoreWinIn}
+use Rattle.agreement.specs.Agreement.{StaysAllowed, SameAnswer, NotGreen, Comparable}
 use Rattle.agreement.proofs.Indicators.{renamed-win}
-use Rattle.agreement.proofs.Demand3.{demand3}
+use Rattle.agreement.proofs.Demand3.{demand3-in}
 use Rattle.twins.specs.Twins.{renCalls, levelNumber, kindOf, firstAmount, secondAmount, agrees}
 use Rattle.twins.proofs.Renamed.{four-renamed, calls-renamed}
 
@@ -116,9 +117,9 @@ agree-means a b h =
 
 -- under the conditions of the theorem the answers of the two calls agree
 pub calls-agree :
-    (ρ : Renaming) (cs : List ℕ) (k : Calls) (w : GameContext) → length (k .melds) ≡ 4 → winCheck cs k w ≡ 0 → NotGreen cs k
-    → NotGreen (renCounts ρ cs) (renCalls ρ k) → Comparable ρ w
-    → agrees (scoreWin (renCounts ρ cs) (renCalls ρ k) (renWin ρ w)) (scoreWin cs k w) ≡ true
-calls-agree ρ cs k w four passes plain plain′ fair =
-    let alike = demand3 ρ cs k (renCalls ρ k) w (renWin ρ w) four (four-renamed ρ k four) (calls-renamed ρ k) (renamed-win ρ w) in
+    (g : Game) (ρ : Renaming) → StaysAllowed g ρ → (cs : List ℕ) (k : Calls) (w : GameContext) → length (k .melds) ≡ 4 → winCheckIn g cs k w ≡ 0
+    → NotGreen cs k → NotGreen (renCounts ρ cs) (renCalls ρ k) → Comparable ρ w
+    → agrees (scoreWinIn g (renCounts ρ cs) (renCalls ρ k) (renWin ρ w)) (scoreWinIn g cs k w) ≡ true
+calls-agree g ρ stays cs k w four passes plain plain′ fair =
+    let alike = demand3-in g ρ stays cs k (renCalls ρ k) w (renWin ρ w) four (four-renamed ρ k four) (calls-renamed ρ k) (renamed-win ρ w) in
     agreed _ _ (alike .scored passes plain plain′ fair .won)

@@ -3,11 +3,12 @@ ghost use mathlib.Core.Path.{_≡_};
 ghost use mathlib.Core.Bool.{true};
 ghost use Prim.Native.Nat.{_<_};
 ghost use Rattle.tile.specs.Renaming.{ren, orderBack, back};
+ghost use Rattle.rules.specs.Rules.{game};
 ghost use Rattle.context.specs.Context.{renWin};
 ghost use Rattle.hand.specs.Counts.{held};
 ghost use Rattle.renamed.specs.Renamed.{renCounts};
-ghost use Rattle.win.specs.Win.{winCheck, scoreWin};
-ghost use Rattle.agreement.specs.Agreement.{NotGreen, Comparable};
+ghost use Rattle.win.specs.Win.{winCheckIn, scoreWinIn, winCheck, scoreWin};
+ghost use Rattle.agreement.specs.Agreement.{StaysAllowed, NotGreen, Comparable};
 ghost use Rattle.twins.specs.Twins.{renCalls, levelNumber, kindOf, firstAmount, secondAmount, agrees};
 
 // The order that undoes a change of places.
@@ -167,14 +168,28 @@ fn same_answer(a: choice::ScoreAnswer, b: choice::ScoreAnswer) -> bool
                                         & (second_amount(xp) == second_amount(yp))))))))))
 }
 
-// Scores a win and the same win renamed, and says whether the two answers agree. Where the first passes the checks, neither hand is all
-// green and, if an indicator is shown, suits alone are exchanged, they do.
+// Scores a win of the game and the same win renamed, and says whether the two answers agree. Where each tile in the wall becomes one that is in it, the first
+// passes the checks, neither hand is all green and, if an indicator is shown, suits alone are exchanged, they do.
+pub fn agree_in(
+    counts: &[u8],
+    k: checks::Calls,
+    w: context::GameContext,
+    v: rules::Variant,
+    by: tile::Renaming,
+) -> bool
+    ensures answer { λ r. ⌜ r ≡ agrees (scoreWinIn (game v) (renCounts by (now (counts .entry))) (renCalls by k) (renWin by w)) (scoreWinIn (game v) (now (counts .entry)) k w) ⌝ }
+    ensures agreement { λ r. ⌜ (StaysAllowed (game v) by → winCheckIn (game v) (now (counts .entry)) k w ≡ 0 → NotGreen (now (counts .entry)) k → NotGreen (renCounts by (now (counts .entry))) (renCalls by k) → Comparable by w → r ≡ true) ⌝ }
+{
+    let first = win::score_win_in(counts, k, w, v);
+    let renamed = renamed_counts(counts, by);
+    let second = win::score_win_in(&renamed, renamed_calls(k, by), w.renamed(by), v);
+    same_answer(second, first)
+}
+
+// With four players: where the first passes the checks, neither hand is all green and, if an indicator is shown, suits alone are exchanged, the two agree.
 pub fn agree(counts: &[u8], k: checks::Calls, w: context::GameContext, by: tile::Renaming) -> bool
     ensures answer { λ r. ⌜ r ≡ agrees (scoreWin (renCounts by (now (counts .entry))) (renCalls by k) (renWin by w)) (scoreWin (now (counts .entry)) k w) ⌝ }
     ensures agreement { λ r. ⌜ (winCheck (now (counts .entry)) k w ≡ 0 → NotGreen (now (counts .entry)) k → NotGreen (renCounts by (now (counts .entry))) (renCalls by k) → Comparable by w → r ≡ true) ⌝ }
 {
-    let first = win::score_win(counts, k, w);
-    let renamed = renamed_counts(counts, by);
-    let second = win::score_win(&renamed, renamed_calls(k, by), w.renamed(by));
-    same_answer(second, first)
+    agree_in(counts, k, w, rules::Variant::Yonma, by)
 }

@@ -11,50 +11,51 @@ use lib.Dec.{leb}
 use lib.ListN.{length}
 use borrow.Author.Tests.{leb-true, leb-false}
 use Rattle.lists.specs.Refusals.{Answers}
+use Rattle.rules.specs.Rules.{Game}
 use Rattle.checks.specs.declared.Calls.{Calls}
-use Rattle.checks.specs.Checks.{handCheck}
+use Rattle.checks.specs.Checks.{handCheckIn}
 use Rattle.checks.specs.Refusals.{handChecks}
 use Rattle.checks.proofs.InOrder.{then-checks, exactly}
 use Rattle.checks.proofs.Refusals.{hand-refusals}
 use Rattle.unit.specs.declared.Listing.{Listing}
 use Rattle.unit.specs.declared.Listing.the-variants.{Refused, Listed}
-use Rattle.unit.specs.Listing.{numberOf, readingsOf, bytesOf, handReadings, handRecords, listing, written}
+use Rattle.unit.specs.Listing.{numberOf, readingsOf, bytesOf, handReadings, handRecords, listingIn, writtenIn}
 use Rattle.unit.specs.Refusals.{roomCheck, listChecks, RefusedAlone}
 use Rattle.unit.proofs.Answers.{refused-answer, refused-buffer, short-answer, short-buffer, listed-answer}
 
-module _ (cs : List ℕ) (k : Calls) where
-  listing-answers : (lent : ℕ) → Answers (listChecks cs k lent) (numberOf (listing cs k lent))
+module _ (g : Game) (cs : List ℕ) (k : Calls) where
+  listing-answers : (lent : ℕ) → Answers (listChecks g cs k lent) (numberOf (listingIn g cs k lent))
   listing-answers lent =
-      then-checks (handChecks cs k) (roomCheck cs k lent ∷ []) tt (handCheck cs k) (numberOf (listing cs k lent)) (hand-refusals cs k (handCheck cs k) .0 refl)
-      (λ z. ap numberOf (sym (refused-answer cs k (handCheck cs k) lent refl z))) (λ z. room z (leb (length (handRecords cs k)) lent) refl)
+      then-checks (handChecks g cs k) (roomCheck cs k lent ∷ []) tt (handCheckIn g cs k) (numberOf (listingIn g cs k lent)) (hand-refusals cs k (handCheckIn g cs k) .0 refl)
+      (λ z. ap numberOf (sym (refused-answer g cs k (handCheckIn g cs k) lent refl z))) (λ z. room z (leb (length (handRecords cs k)) lent) refl)
     where
-      room : handCheck cs k ≡ 0 → (b : Bool) → leb (length (handRecords cs k)) lent ≡ b → Answers (roomCheck cs k lent ∷ []) (numberOf (listing cs k lent))
+      room : handCheckIn g cs k ≡ 0 → (b : Bool) → leb (length (handRecords cs k)) lent ≡ b → Answers (roomCheck cs k lent ∷ []) (numberOf (listingIn g cs k lent))
       room z true e =
           let h = leb-true (length (handRecords cs k)) lent e in
-          inl (h, ap numberOf (sym (listed-answer cs k z lent (length (handReadings cs k)) (length (handRecords cs k)) h refl refl)))
+          inl (h, ap numberOf (sym (listed-answer g cs k z lent (length (handReadings cs k)) (length (handRecords cs k)) h refl refl)))
       room z false e =
           let h = leb-false (length (handRecords cs k)) lent e in
-          inr (λ l. omega arith, ap numberOf (sym (short-answer cs k z lent h)))
+          inr (λ l. omega arith, ap numberOf (sym (short-answer g cs k z lent h)))
 
   -- n is answered exactly where the checks before it pass and this one fails; 0 where all pass
-  pub listing-refusals : (lent n : ℕ) → (numberOf (listing cs k lent) ≡ n) ↔ Answers (listChecks cs k lent) n
-  listing-refusals lent n = exactly (listChecks cs k lent) (numberOf (listing cs k lent)) (listing-answers lent) n
+  pub listing-refusals : (lent n : ℕ) → (numberOf (listingIn g cs k lent) ≡ n) ↔ Answers (listChecks g cs k lent) n
+  listing-refusals lent n = exactly (listChecks g cs k lent) (numberOf (listingIn g cs k lent)) (listing-answers lent) n
 
   -- beside a refusal: no count, and the buffer as it was
-  pub refused-alone : (lent : List ℕ) → (numberOf (listing cs k (length lent)) ≡ 0 → ⊥) → RefusedAlone cs k lent
+  pub refused-alone : (lent : List ℕ) → (numberOf (listingIn g cs k (length lent)) ≡ 0 → ⊥) → RefusedAlone g cs k lent
   refused-alone lent z =
-      record { readings = none (listing cs k (length lent)) z .0; bytes = none (listing cs k (length lent)) z .1; buffer = go (ℕ-discrete (handCheck cs k) 0) }
+      record { readings = none (listingIn g cs k (length lent)) z .0; bytes = none (listingIn g cs k (length lent)) z .1; buffer = go (ℕ-discrete (handCheckIn g cs k) 0) }
     where
       none : (l : Listing) → (numberOf l ≡ 0 → ⊥) → (readingsOf l ≡ 0) × (bytesOf l ≡ 0)
       none (Refused n) h = (refl, refl)
       none (Listed readings bytes) h = absurd (h refl)
 
-      room : handCheck cs k ≡ 0 → (b : Bool) → leb (length (handRecords cs k)) (length lent) ≡ b → written cs k lent ≡ lent
+      room : handCheckIn g cs k ≡ 0 → (b : Bool) → leb (length (handRecords cs k)) (length lent) ≡ b → writtenIn g cs k lent ≡ lent
       room c true e =
           let h = leb-true (length (handRecords cs k)) (length lent) e in
-          absurd (z (ap numberOf (sym (listed-answer cs k c (length lent) (length (handReadings cs k)) (length (handRecords cs k)) h refl refl))))
-      room c false e = sym (short-buffer cs k c lent (leb-false (length (handRecords cs k)) (length lent) e))
+          absurd (z (ap numberOf (sym (listed-answer g cs k c (length lent) (length (handReadings cs k)) (length (handRecords cs k)) h refl refl))))
+      room c false e = sym (short-buffer g cs k c lent (leb-false (length (handRecords cs k)) (length lent) e))
 
-      go : Dec (handCheck cs k ≡ 0) → written cs k lent ≡ lent
-      go (no c) = sym (refused-buffer cs k (handCheck cs k) lent refl c)
+      go : Dec (handCheckIn g cs k ≡ 0) → writtenIn g cs k lent ≡ lent
+      go (no c) = sym (refused-buffer g cs k (handCheckIn g cs k) lent refl c)
       go (yes c) = room c (leb (length (handRecords cs k)) (length lent)) refl

@@ -1,18 +1,23 @@
 // The operations of the unit. Each has no `requires`, and its `ensures` says for every input what is answered and what the lent bytes hold.
 ghost use mathlib.Core.Path.{_≡_};
-ghost use mathlib.Core.Bool.{true, cond};
-ghost use Prim.Native.Nat.{_+_, _≤_};
+ghost use mathlib.Core.Bool.{true, false, cond};
+ghost use mathlib.Core.List.{[]};
+ghost use Prim.Native.Nat.{_+_, _%_, _≤_};
+ghost use lib.Dec.{eqb};
 ghost use lib.ListN.{length};
 ghost use lib.Seq.{sets};
+ghost use Rattle.lists.specs.Fold.{all};
+ghost use Rattle.tile.specs.Tile.{tiles};
+ghost use Rattle.rules.specs.Rules.{game};
 ghost use Rattle.meld.specs.Meld.{key};
 ghost use Rattle.hand.specs.Counts.{held};
 ghost use Rattle.hand.specs.Records.{records};
-ghost use Rattle.hand.specs.Readings.{isPairs};
+ghost use Rattle.hand.specs.Readings.{isPairs, thirteenOrphans};
 ghost use Rattle.search.specs.Slots.{slotsOf};
 ghost use Rattle.decompose.specs.Packed.{inWords, Fit};
 ghost use Rattle.decompose.specs.Pairs.{OnlyAt};
 ghost use Rattle.checks.specs.Checks.{called, handCheck};
-ghost use Rattle.unit.specs.Listing.{listing, written, handReadings, handRecords};
+ghost use Rattle.unit.specs.Listing.{listing, written, listingIn, writtenIn, handReadings, handRecords};
 ghost use Rattle.unit.specs.FirstPass.{specials, standardRecords, Finds, FindsSpecial, readingsIn, bytesIn, readingsFound, bytesFound, sevenRecords, orphanRecords, putCall};
 
 // The answer to a listing: refused with a number, or listed, with the count of readings and the count of bytes written.
@@ -77,13 +82,41 @@ impl Found {
     }
 }
 
-// Seven pairs and thirteen orphans of a hand that has passed the checks. There are none beside a call.
+// Is no count odd?
+fn none_odd(counts: &[u8]) -> bool
+    requires { ⌜ length (now counts) ≡ 34 ⌝ }
+    ensures { λ r. ⌜ r ≡ all (λ t. eqb (held (now (counts .entry)) t % 2) 0) tiles ⌝ }
+{
+    let mut good = true;
+    let mut i = 0;
+    while i < 34 {
+        good = good & (counts[i] % 2 == 0);
+        i += 1;
+    }
+    good
+}
+
+// May they be seven pairs or thirteen orphans? A no is certain: of pairs no count is odd, and of orphans the first tile and the last are there.
+fn may_be_special(counts: &[u8]) -> bool
+    requires { ⌜ length (now counts) ≡ 34 ⌝ }
+    ensures { λ r. ⌜ (r ≡ false → isPairs (held (now (counts .entry))) ≡ false) × (r ≡ false → thirteenOrphans (held (now (counts .entry))) ≡ []) ⌝ }
+{
+    none_odd(counts) | ((counts[0] != 0) & (counts[33] != 0))
+}
+
+// Seven pairs and thirteen orphans of a hand that has passed the checks. There are none beside a call, and a cheap question tells most other hands.
 fn find_special(counts: &[u8], k: checks::Calls) -> FoundSpecial
     requires { ⌜ handCheck (now counts) k ≡ 0 ⌝ }
     ensures { λ r. ⌜ FindsSpecial (now (counts .entry)) k r ⌝ }
 {
     let count = k.count;
     if count != 0 {
+        return FoundSpecial {
+            seven: false,
+            orphan: 34,
+        };
+    }
+    if !may_be_special(counts) {
         return FoundSpecial {
             seven: false,
             orphan: 34,
@@ -223,12 +256,17 @@ pub fn write_all(counts: &[u8], k: checks::Calls, out: &mut [u8]) -> usize
     (end - start) / hand::STANDARD_BYTES + special.readings
 }
 
-// Lists the readings of a finished hand. A refusal answers its number and leaves the buffer as it was.
-pub fn list_readings(counts: &[u8], k: checks::Calls, out: &mut [u8]) -> Listing
-    ensures answer { λ r. ⌜ r ≡ listing (now (counts .entry)) k (length (now (out .entry))) ⌝ }
-    ensures buffer { λ _. ⌜ now (out .exit) ≡ written (now (counts .entry)) k (now (out .entry)) ⌝ }
+// Lists the readings of a finished hand of the game. A refusal answers its number and leaves the buffer as it was.
+pub fn list_readings_in(
+    counts: &[u8],
+    k: checks::Calls,
+    v: rules::Variant,
+    out: &mut [u8],
+) -> Listing
+    ensures answer { λ r. ⌜ r ≡ listingIn (game v) (now (counts .entry)) k (length (now (out .entry))) ⌝ }
+    ensures buffer { λ _. ⌜ now (out .exit) ≡ writtenIn (game v) (now (counts .entry)) k (now (out .entry)) ⌝ }
 {
-    let number = checks::check_hand(counts, k);
+    let number = checks::check_hand(counts, k, v);
     if number != 0 {
         return Listing::Refused(number);
     }
@@ -243,4 +281,12 @@ pub fn list_readings(counts: &[u8], k: checks::Calls, out: &mut [u8]) -> Listing
     let start = write_found(counts, k, special, out);
     write_standards(h, places, k, out, start);
     Listing::Listed(found.readings(), bytes)
+}
+
+// Lists the readings of a finished hand with four players.
+pub fn list_readings(counts: &[u8], k: checks::Calls, out: &mut [u8]) -> Listing
+    ensures answer { λ r. ⌜ r ≡ listing (now (counts .entry)) k (length (now (out .entry))) ⌝ }
+    ensures buffer { λ _. ⌜ now (out .exit) ≡ written (now (counts .entry)) k (now (out .entry)) ⌝ }
+{
+    list_readings_in(counts, k, rules::Variant::Yonma, out)
 }

@@ -3,10 +3,11 @@ use mathlib.Core.Path.{_≡_, refl, sym, _∙_}
 use mathlib.Core.List.{List}
 use Prim.Native.Nat.{ℕ, zero, suc}
 use native.Mathlib.Omega.{arith}
+use Rattle.rules.specs.Rules.{Game}
 use Rattle.context.specs.declared.GameContext.{GameContext}
 use Rattle.checks.specs.declared.Calls.{Calls}
-use Rattle.checks.specs.Checks.{handCheck}
-use Rattle.win.specs.Win.{orThen, winCheck}
+use Rattle.checks.specs.Checks.{handCheckIn}
+use Rattle.win.specs.Win.{orThen, winCheckIn}
 
 or-first : (n m : ℕ) → (n ≡ 0 → ⊥) → orThen n m ≡ n
 unfolding orThen
@@ -22,11 +23,11 @@ unfolding orThen
 or-none zero m e = refl
 or-none (suc n) m e = absurd (omega arith)
 
-module _ (cs : List ℕ) (k : Calls) (w : GameContext) where
-  pub refused-hand : (n : ℕ) → n ≡ handCheck cs k → (n ≡ 0 → ⊥) → n ≡ winCheck cs k w
-  unfolding winCheck
-  refused-hand n e z = e ∙ sym (or-first (handCheck cs k) _ (λ q. z (e ∙ q)))
+module _ (g : Game) (cs : List ℕ) (k : Calls) (w : GameContext) where
+  pub refused-hand : (n : ℕ) → n ≡ handCheckIn g cs k → (n ≡ 0 → ⊥) → n ≡ winCheckIn g cs k w
+  unfolding winCheckIn
+  refused-hand n e z = e ∙ sym (or-first (handCheckIn g cs k) _ (λ q. z (e ∙ q)))
 
-  pub hand-passes : winCheck cs k w ≡ 0 → handCheck cs k ≡ 0
-  unfolding winCheck
-  hand-passes e = or-none (handCheck cs k) _ e
+  pub hand-passes : winCheckIn g cs k w ≡ 0 → handCheckIn g cs k ≡ 0
+  unfolding winCheckIn
+  hand-passes e = or-none (handCheckIn g cs k) _ e

@@ -6,7 +6,7 @@ use mathlib.Core.List.{List, List·Memᴰ, List·Memᴰ·head, List·Memᴰ·tai
 use Prim.Native.Nat.{ℕ}
 use native.Mathlib.Omega.{arith}
 use lib.Dec.{T, eqb, ltb, leb, eqb→eq, ltb→lt, leb→le, eqb-refl}
-use borrow.Author.Tests.{lt-ltb, le-leb, ltb-true}
+use borrow.Author.Tests.{eq-eqb, lt-ltb, le-leb, ltb-true}
 use Rattle.lists.specs.Fold.{all, allBelow, any}
 use Rattle.lists.specs.Refusals.{Answers}
 use Rattle.lists.proofs.Arranged.{any-mem}
@@ -14,16 +14,17 @@ use Rattle.lists.proofs.Finite.{true→T, and-left, and-right, and-both, or-eli
 use Rattle.lists.proofs.Members.{all-mem, all-intro}
 use Rattle.tile.specs.Tile.{isWind}
 use Rattle.tile.proofs.Tiles.{wind-below}
+use Rattle.rules.specs.Rules.{Game}
 use Rattle.context.specs.declared.Indicators.{Indicators}
 use Rattle.context.specs.declared.GameContext.{GameContext}
-use Rattle.context.specs.Context.{isSetting, inRange, shown, areIndicators, indicatorsIn}
+use Rattle.context.specs.Context.{isSetting, inRange, shown, areIndicators, indicatorsIn, noneShown}
 use Rattle.context.proofs.Range.{type-in, round-in, seat-in, setting-in}
 use Rattle.checks.specs.declared.Calls.{Calls}
-use Rattle.checks.specs.Checks.{handCheck}
+use Rattle.checks.specs.Checks.{handCheckIn}
 use Rattle.checks.specs.Refusals.{handChecks}
 use Rattle.checks.proofs.InOrder.{next-check, then-checks, exactly}
 use Rattle.checks.proofs.Refusals.{hand-refusals}
-use Rattle.win.specs.Win.{winCheck}
+use Rattle.win.specs.Win.{indicatedIn, winCheckIn}
 use Rattle.win.specs.Refusals.{winTypes, winds, settings, InRange, Indicated, BothIndicated, contextChecks, winChecks}
 use Rattle.win.proofs.Checked.{or-second, refused-hand}
 
@@ -76,22 +77,36 @@ indicated-test i r =
     and-both (leb (i .count) 10) _ (true→T _ (le-leb (i .count) 10 (r .few)))
     (all-intro (λ t. ltb t 34) (shown i) (λ t m. true→T _ (lt-ltb t 34 (r .tiles t m))))
 
-module _ (w : GameContext) where
+module _ (g : Game) (w : GameContext) where
   abbrev d : Indicators
   d = w .«dora_indicators»
 
   abbrev u : Indicators
   u = w .«ura_dora_indicators»
 
-  pub both-indicated : T (indicatorsIn w) → BothIndicated w
-  both-indicated h =
+  none-shown : T (noneShown w) → (d .count ≡ 0) × (u .count ≡ 0)
+  none-shown h = (eqb→eq (d .count) 0 (and-left (eqb (d .count) 0) _ h), eqb→eq (u .count) 0 (and-right (eqb (d .count) 0) (eqb (u .count) 0) h))
+
+  pub both-indicated : T (indicatedIn g w) → BothIndicated g w
+  both-indicated t =
+      let h = and-left (indicatorsIn w) _ t in
       record {
         dora = indicated d (and-left (areIndicators d) (areIndicators u) h);
         ura = indicated u (and-right (areIndicators d) (areIndicators u) h);
+        none = λ e.
+            or-elim (g .dora) _ (and-right (indicatorsIn w) _ t) (λ y. absurd (subst T e y)) none-shown;
       }
 
-  pub indicators-test : BothIndicated w → T (indicatorsIn w)
-  indicators-test r = and-both (areIndicators d) (areIndicators u) (indicated-test d (r .dora)) (indicated-test u (r .ura))
+  shown-test : (b : Bool) → (b ≡ false → (d .count ≡ 0) × (u .count ≡ 0)) → T (b || noneShown w)
+  shown-test true f = tt
+  shown-test false f =
+      and-both (eqb (d .count) 0) (eqb (u .count) 0) (true→T _ (eq-eqb (d .count) 0 (f refl .0))) (true→T _ (eq-eqb (u .count) 0 (f refl .1)))
+
+  pub indicators-test : BothIndicated g w → T (indicatedIn g w)
+  indicators-test r =
+      and-both (indicatorsIn w) (g .dora || noneShown w)
+      (and-both (areIndicators d) (areIndicators u) (indicated-test d (r .dora)) (indicated-test u (r .ura)))
+      (shown-test (g .dora) (r .none))
 
 -- ---- two tests together
 both-true : (a b : Bool) → (a && b) ≡ true → (a ≡ true) × (b ≡ true)
@@ -102,18 +117,18 @@ both-false : (a b : Bool) → (a && b) ≡ false → a ≡ true → b ≡ true �
 both-false a b e f g = subst T e (and-both a b (true→T a f) (true→T b g))
 
 -- ---- the checks of a win
-module _ (cs : List ℕ) (k : Calls) (w : GameContext) where
-  context-answers : handCheck cs k ≡ 0 → (n : ℕ) → n ≡ winCheck cs k w → Answers (contextChecks cs w) n
-  unfolding winCheck
+module _ (g : Game) (cs : List ℕ) (k : Calls) (w : GameContext) where
+  context-answers : handCheckIn g cs k ≡ 0 → (n : ℕ) → n ≡ winCheckIn g cs k w → Answers (contextChecks g cs w) n
+  unfolding winCheckIn
   context-answers z n e =
-      next-check _ _ _ (e ∙ or-second (handCheck cs k) _ z) (λ h. in-range w (true→T (inRange w) h)) (λ h r. subst T h (range-test w r))
-      (λ range e. next-check _ _ _ e (λ h. both-indicated w (true→T (indicatorsIn w) h)) (λ h r. subst T h (indicators-test w r))
+      next-check _ _ _ (e ∙ or-second (handCheckIn g cs k) _ z) (λ h. in-range w (true→T (inRange w) h)) (λ h r. subst T h (range-test w r))
+      (λ range e. next-check _ _ _ e (λ h. both-indicated g w (true→T (indicatedIn g w) h)) (λ h r. subst T h (indicators-test g w r))
       (λ shown e. next-check _ _ _ e (λ h. let p = both-true (ltb (w .«winning_tile») 34) _ h in record { tile = omega (arith, ltb-true); there = omega (arith, ltb-true) })
       (λ h i. both-false (ltb (w .«winning_tile») 34) _ h (lt-ltb _ _ (i .tile)) (lt-ltb _ _ (i .there))) (λ tile e. e)))
 
   -- n is answered exactly where the checks before it pass and this one fails; 0 where all pass
-  pub win-refusals : (n : ℕ) → (winCheck cs k w ≡ n) ↔ Answers (winChecks cs k w) n
+  pub win-refusals : (n : ℕ) → (winCheckIn g cs k w ≡ n) ↔ Answers (winChecks g cs k w) n
   win-refusals =
-      exactly (winChecks cs k w) (winCheck cs k w)
-      (then-checks (handChecks cs k) (contextChecks cs w) tt (handCheck cs k) (winCheck cs k w) (hand-refusals cs k (handCheck cs k) .0 refl)
-      (λ z. sym (refused-hand cs k w (handCheck cs k) refl z)) (λ z. context-answers z (winCheck cs k w) refl))
+      exactly (winChecks g cs k w) (winCheckIn g cs k w)
+      (then-checks (handChecks g cs k) (contextChecks g cs w) tt (handCheckIn g cs k) (winCheckIn g cs k w) (hand-refusals cs k (handCheckIn g cs k) .0 refl)
+      (λ z. sym (refused-hand g cs k w (handCheckIn g cs k) refl z)) (λ z. context-answers z (winCheckIn g cs k w) refl))

@@ -1,11 +1,14 @@
--- What the operations on a win ask, in the words of the scope paper. These are definitions.
+-- What the operations on a win of a game ask, in the words of the scope paper. These are definitions.
+use mathlib.Core.Path.{_≡_}
 use mathlib.Core.Logic.{_≢_}
+use mathlib.Core.Bool.{false}
 use mathlib.Core.List.{List, [], _∷_, _++_, List·Memᴰ}
 use Prim.Native.Nat.{ℕ, _<_, _≤_}
 use lib.Dec.{T}
 use lib.ListN.{length}
 use Rattle.lists.specs.Refusals.{Check, unless}
 use Rattle.tile.specs.Named.{East, South, West, North}
+use Rattle.rules.specs.Rules.{Game}
 use Rattle.context.specs.declared.Indicators.{Indicators}
 use Rattle.context.specs.declared.GameContext.{GameContext}
 use Rattle.context.specs.Context.{shown}
@@ -40,22 +43,23 @@ pub record Indicated (i : Indicators) : Type 0 where
   pub few : i .count ≤ 10
   pub tiles : (t : ℕ) → List·Memᴰ t (shown i) → t < 34
 
--- those of both sorts, whether or not they count
-pub record BothIndicated (w : GameContext) : Type 0 where
+-- those of both sorts, whether or not they count; in a game without them none is shown
+pub record BothIndicated (g : Game) (w : GameContext) : Type 0 where
   pub dora : Indicated (w .«dora_indicators»)
   pub ura : Indicated (w .«ura_dora_indicators»)
+  pub none : g .dora ≡ false → (w .«dora_indicators» .count ≡ 0) × (w .«ura_dora_indicators» .count ≡ 0)
 
 -- the winning tile is a tile, and the hand without its calls holds it
 pub record InHand (cs : List ℕ) (t : ℕ) : Type 0 where
   pub tile : t < 34
   pub there : 0 < held cs t
 
-abbrev pub contextChecks : List ℕ → GameContext → List Check
-contextChecks cs w = unless 8 (InRange w) ∷ unless 14 (BothIndicated w) ∷ unless 9 (InHand cs (w .«winning_tile»)) ∷ []
+abbrev pub contextChecks : Game → List ℕ → GameContext → List Check
+contextChecks g cs w = unless 8 (InRange w) ∷ unless 14 (BothIndicated g w) ∷ unless 9 (InHand cs (w .«winning_tile»)) ∷ []
 
 -- the checks of the hand, then those of the win
-abbrev pub winChecks : List ℕ → Calls → GameContext → List Check
-winChecks cs k w = handChecks cs k ++ contextChecks cs w
+abbrev pub winChecks : Game → List ℕ → Calls → GameContext → List Check
+winChecks g cs k w = handChecks g cs k ++ contextChecks g cs w
 
 -- a reading of the hand has a yaku
 pub record SomeYaku (cs : List ℕ) (k : Calls) (w : GameContext) : Type 0 where
@@ -67,12 +71,12 @@ pub record SomeYaku (cs : List ℕ) (k : Calls) (w : GameContext) : Type 0 where
 abbrev pub readingChecks : List ℕ → Calls → GameContext → List Check
 readingChecks cs k w = unless 10 (handReadings cs k ≢ []) ∷ unless 11 (SomeYaku cs k w) ∷ []
 
-abbrev pub scoreChecks : List ℕ → Calls → GameContext → List Check
-scoreChecks cs k w = winChecks cs k w ++ readingChecks cs k w
+abbrev pub scoreChecks : Game → List ℕ → Calls → GameContext → List Check
+scoreChecks g cs k w = winChecks g cs k w ++ readingChecks cs k w
 
 -- scoring or naming the waits of reading number n, counted from 0: there are more than n readings
 abbrev pub numberCheck : List ℕ → Calls → ℕ → Check
 numberCheck cs k n = unless 12 (n < length (handReadings cs k))
 
-abbrev pub numberChecks : List ℕ → Calls → GameContext → ℕ → List Check
-numberChecks cs k w n = winChecks cs k w ++ (numberCheck cs k n ∷ [])
+abbrev pub numberChecks : Game → List ℕ → Calls → GameContext → ℕ → List Check
+numberChecks g cs k w n = winChecks g cs k w ++ (numberCheck cs k n ∷ [])

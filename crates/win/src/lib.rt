@@ -3,11 +3,12 @@
 ghost use mathlib.Core.Path.{_≡_};
 ghost use mathlib.Core.Bool.{true, _&&_};
 ghost use lib.ListN.{length};
+ghost use Rattle.rules.specs.Rules.{game};
 ghost use Rattle.meld.specs.Meld.{isOpen};
 ghost use Rattle.context.specs.Context.{indicatorsIn};
 ghost use Rattle.dora.specs.Dora.{AtMostForty};
 ghost use Rattle.checks.specs.Checks.{handCheck};
-ghost use Rattle.win.specs.Win.{isOpened, tilesTogether, doraTogether, inHand, winCheck, scoreWin, scoreReading, refusedWaits, nameWaits};
+ghost use Rattle.win.specs.Win.{isOpened, tilesTogether, doraTogether, inHand, indicatedIn, winCheckIn, scoreWinIn, scoreReadingIn, nameWaitsIn, scoreWin, scoreReading, refusedWaits, nameWaits};
 
 // The answer to naming waits: number 0 and a tally for each wait, Ryanmen, Kanchan, Penchan, Shanpon, Tanki, Kokushi13; or a refusal's number alone.
 pub struct WaitsAnswer {
@@ -47,12 +48,19 @@ fn in_hand(counts: &[u8], t: u8) -> bool
     0 < counts[t as usize]
 }
 
-// The number of the first check that fails, or 0.
-fn check_win(counts: &[u8], k: checks::Calls, w: context::GameContext) -> u8
-    ensures { λ r. ⌜ r ≡ winCheck (now (counts .entry)) k w ⌝ }
+// Are the indicators in order, and is none shown in a game without them?
+fn is_indicated(w: context::GameContext, v: rules::Variant) -> bool
+    ensures { λ r. ⌜ r ≡ indicatedIn (game v) w ⌝ }
 {
-    let shown = w.has_indicators();
-    let number = checks::check_hand(counts, k);
+    w.has_indicators() & (v.allows_dora() | w.shows_none())
+}
+
+// The number of the first check that fails, or 0.
+fn check_win(counts: &[u8], k: checks::Calls, w: context::GameContext, v: rules::Variant) -> u8
+    ensures { λ r. ⌜ r ≡ winCheckIn (game v) (now (counts .entry)) k w ⌝ }
+{
+    let shown = is_indicated(w, v);
+    let number = checks::check_hand(counts, k, v);
     if number != 0 {
         return number;
     }
@@ -89,11 +97,16 @@ fn dora_together(counts: &[u8], k: checks::Calls, w: context::GameContext) -> do
     dora::count_dora_detailed(&whole, w)
 }
 
-// Scores a win: the reading with a yaku that pays most.
-pub fn score_win(counts: &[u8], k: checks::Calls, w: context::GameContext) -> choice::ScoreAnswer
-    ensures { λ r. ⌜ r ≡ scoreWin (now (counts .entry)) k w ⌝ }
+// Scores a win of the game: the reading with a yaku that pays most at its table.
+pub fn score_win_in(
+    counts: &[u8],
+    k: checks::Calls,
+    w: context::GameContext,
+    v: rules::Variant,
+) -> choice::ScoreAnswer
+    ensures { λ r. ⌜ r ≡ scoreWinIn (game v) (now (counts .entry)) k w ⌝ }
 {
-    let number = check_win(counts, k, w);
+    let number = check_win(counts, k, w, v);
     if number != 0 {
         return choice::refused(number);
     }
@@ -103,19 +116,28 @@ pub fn score_win(counts: &[u8], k: checks::Calls, w: context::GameContext) -> ch
         return choice::refused(10);
     }
     let d = dora_together(counts, k, w);
-    choice::choose(&buffer, n, tiles_together(counts, k, w), d, w, is_opened(k))
+    let s = tiles_together(counts, k, w);
+    choice::choose(&buffer, n, s, d, w, is_opened(k), v)
 }
 
-// Scores reading number n, counted from 0.
-pub fn score_reading(
+// Scores a win with four players.
+pub fn score_win(counts: &[u8], k: checks::Calls, w: context::GameContext) -> choice::ScoreAnswer
+    ensures { λ r. ⌜ r ≡ scoreWin (now (counts .entry)) k w ⌝ }
+{
+    score_win_in(counts, k, w, rules::Variant::Yonma)
+}
+
+// Scores reading number n of the game, counted from 0.
+pub fn score_reading_in(
     counts: &[u8],
     k: checks::Calls,
     w: context::GameContext,
+    v: rules::Variant,
     n: usize,
 ) -> choice::ScoreAnswer
-    ensures { λ r. ⌜ r ≡ scoreReading (now (counts .entry)) k w n ⌝ }
+    ensures { λ r. ⌜ r ≡ scoreReadingIn (game v) (now (counts .entry)) k w n ⌝ }
 {
-    let number = check_win(counts, k, w);
+    let number = check_win(counts, k, w, v);
     if number != 0 {
         return choice::refused(number);
     }
@@ -132,6 +154,18 @@ pub fn score_reading(
     )
 }
 
+// Scores reading number n with four players.
+pub fn score_reading(
+    counts: &[u8],
+    k: checks::Calls,
+    w: context::GameContext,
+    n: usize,
+) -> choice::ScoreAnswer
+    ensures { λ r. ⌜ r ≡ scoreReading (now (counts .entry)) k w n ⌝ }
+{
+    score_reading_in(counts, k, w, rules::Variant::Yonma, n)
+}
+
 // A refusal to name waits.
 fn refused_waits(number: u8) -> WaitsAnswer
     ensures { λ r. ⌜ r ≡ refusedWaits number ⌝ }
@@ -142,11 +176,17 @@ fn refused_waits(number: u8) -> WaitsAnswer
     }
 }
 
-// Names the waits of reading number n, counted from 0.
-pub fn name_waits(counts: &[u8], k: checks::Calls, w: context::GameContext, n: usize) -> WaitsAnswer
-    ensures { λ r. ⌜ r ≡ nameWaits (now (counts .entry)) k w n ⌝ }
+// Names the waits of reading number n of the game, counted from 0.
+pub fn name_waits_in(
+    counts: &[u8],
+    k: checks::Calls,
+    w: context::GameContext,
+    v: rules::Variant,
+    n: usize,
+) -> WaitsAnswer
+    ensures { λ r. ⌜ r ≡ nameWaitsIn (game v) (now (counts .entry)) k w n ⌝ }
 {
-    let number = check_win(counts, k, w);
+    let number = check_win(counts, k, w, v);
     if number != 0 {
         return refused_waits(number);
     }
@@ -160,4 +200,11 @@ pub fn name_waits(counts: &[u8], k: checks::Calls, w: context::GameContext, n: u
         number: 0,
         waits: wait::detect_wait_types(reading, tile::Tile(w.winning_tile)),
     }
+}
+
+// Names the waits of reading number n with four players.
+pub fn name_waits(counts: &[u8], k: checks::Calls, w: context::GameContext, n: usize) -> WaitsAnswer
+    ensures { λ r. ⌜ r ≡ nameWaits (now (counts .entry)) k w n ⌝ }
+{
+    name_waits_in(counts, k, w, rules::Variant::Yonma, n)
 }

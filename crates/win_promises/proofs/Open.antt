@@ -13,6 +13,7 @@ use Rattle.lists.proofs.Permuted.{map-perm, some-perm}
 use Rattle.meld.specs.declared.Meld.{Meld}
 use Rattle.meld.specs.Meld.{isMeld, isOpen}
 use Rattle.meld.proofs.Melds.{closed-melds, sorted-perm}
+use Rattle.rules.specs.Rules.{Game}
 use Rattle.context.specs.declared.GameContext.{GameContext}
 use Rattle.hand.specs.Counts.{held}
 use Rattle.hand.specs.Reading.{Reading, pairs, orphans, standard, Admits}
@@ -21,11 +22,12 @@ use Rattle.yaku.specs.Names.{hanOpen, tallied}
 use Rattle.yaku.proofs.Closed.{isOpenReading, needs-closed}
 use Rattle.reading_score.specs.Score.{result, scoreOf}
 use Rattle.checks.specs.declared.Calls.{Calls}
-use Rattle.checks.specs.Checks.{called, handCheck}
+use Rattle.checks.specs.Checks.{called, handCheckIn}
+use Rattle.checks.proofs.Passed.{passes-four}
 use Rattle.promises.proofs.Listing.{admitted}
 use Rattle.unit.specs.Listing.{handReadings}
 use Rattle.unit.proofs.Listed.{melds-called}
-use Rattle.win.specs.Win.{winCheck, isOpened, tilesTogether, scoreIn}
+use Rattle.win.specs.Win.{winCheckIn, isOpened, tilesTogether, scoreIn}
 use Rattle.win.proofs.Passed.{checked}
 use Rattle.win.proofs.Readings.{listed-short}
 
@@ -34,9 +36,9 @@ any-first p [] m t = absurd t
 any-first p (a ∷ l) m t =
     or-elim (p a) (any p l) t (or-left (p a) (any p (l ++ m))) (λ u. or-right (p a) (any p (l ++ m)) (any-first p l m u))
 
--- ---- a win that passes the checks; the four melds of the calls are four (an array of four in the code)
-module _ (cs : List ℕ) (k : Calls) (w : GameContext) (four : length (k .melds) ≡ 4) (passes : winCheck cs k w ≡ 0) (opened : isOpened k ≡ true) where
-  hand-passes : handCheck cs k ≡ 0
+-- ---- a win that passes the checks of a game; the four melds of the calls are four (an array of four in the code)
+module _ (g : Game) (cs : List ℕ) (k : Calls) (w : GameContext) (four : length (k .melds) ≡ 4) (passes : winCheckIn g cs k w ≡ 0) (opened : isOpened k ≡ true) where
+  hand-passes : handCheckIn g cs k ≡ 0
   hand-passes = checked cs k w passes .hand
 
   nothing-called : called k ≡ [] → ⊥
@@ -46,16 +48,16 @@ module _ (cs : List ℕ) (k : Calls) (w : GameContext) (four : length (k .melds)
   open-admitted (pairs ps) a = absurd (nothing-called (a .uncalled))
   open-admitted (orphans p) a = absurd (nothing-called (a .uncalled))
   open-admitted (standard p ms) a =
-      let melds = all-append isMeld (called k) (a .hand) (melds-called cs k hand-passes) (closed-melds (a .hand) (a .closed)) in
+      let melds = all-append isMeld (called k) (a .hand) (melds-called cs k (passes-four g cs k hand-passes)) (closed-melds (a .hand) (a .closed)) in
       let same : any isOpen ms ≡ any isOpen (called k ++ a .hand) =
       ap (any isOpen) (a .whole) ∙ some-perm (map-perm isOpen (sorted-perm (called k ++ a .hand) melds)) in
       rw same (any-first isOpen (called k) (a .hand) (true→T _ opened))
 
   pub open-reading : (r : Reading) → List·Memᴰ r (handReadings cs k) → T (isOpenReading r)
-  open-reading r i = open-admitted r (admitted cs k four hand-passes r i)
+  open-reading r i = open-admitted r (admitted g cs k four hand-passes r i)
 
   -- a yaku that needs a closed hand by the table of han
   pub needs-closed-hand : (y : Yaku) → hanOpen y ≡ 0 → (r : Reading) → List·Memᴰ r (handReadings cs k) → tallied y (scoreIn cs k w r .tallies) ≡ 0
   unfolding scoreIn scoreOf result
   needs-closed-hand y z r i =
-      rw opened (needs-closed w (tilesTogether cs k w) y z r (open-reading r i) (listed-short cs k four hand-passes r i))
+      rw opened (needs-closed w (tilesTogether cs k w) y z r (open-reading r i) (listed-short cs k four (passes-four g cs k hand-passes) r i))

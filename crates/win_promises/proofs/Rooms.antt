@@ -10,6 +10,7 @@ use borrow.Author.Tests.{eqb-true}
 use lib.ListN.{length}
 use Rattle.lists.specs.Fold.{any}
 use Rattle.lists.proofs.Members.{empty-map, map-members}
+use Rattle.rules.specs.Rules.{Game}
 use Rattle.context.specs.declared.GameContext.{GameContext}
 use Rattle.context.specs.Context.{inRoom}
 use Rattle.hand.specs.Reading.{Reading}
@@ -17,6 +18,7 @@ use Rattle.scoring.specs.Payment.{totalAt}
 use Rattle.fu.proofs.DoubleWind.{hasDoubleWind}
 use Rattle.dora.specs.Dora.{doraIn}
 use Rattle.checks.specs.declared.Calls.{Calls}
+use Rattle.checks.proofs.Passed.{passes-four}
 use Rattle.unit.specs.Listing.{handReadings}
 use Rattle.records.specs.Pick.{pickAt}
 use Rattle.reading_score.specs.declared.ScoringResult.{ScoringResult}
@@ -27,7 +29,7 @@ use Rattle.choice.specs.declared.ScoreAnswer.{ScoreAnswer}
 use Rattle.choice.specs.Choice.{refused, scored, choice, numbered}
 use Rattle.choice.specs.Standing.{StandsAt}
 use Rattle.choice.proofs.Standing.{stands-mem, stands-of-map}
-use Rattle.win.specs.Win.{winCheck, isOpened, tilesTogether, doraTogether, scoreIn, scores, scoreWin, scoreReading, nameWaits}
+use Rattle.win.specs.Win.{winCheckIn, isOpened, tilesTogether, doraTogether, scoreIn, scores, scoreWinIn, scoreReadingIn, nameWaitsIn}
 use Rattle.win.proofs.Passed.{checked}
 use Rattle.win.proofs.Forty.{dora-forty}
 use Rattle.win.proofs.Readings.{listed-short}
@@ -40,13 +42,13 @@ pub record LessAnswer (a b : ScoreAnswer) : Type 0 where
   pub less : LessFu (a .score) (b .score)
 
 -- two answers of a win: both are scored, or refused with the same number, and the first pays no more. Which reading is chosen may differ
-pub record PaysLess (a b : ScoreAnswer) : Type 0 where
+pub record PaysLess (players : ℕ) (a b : ScoreAnswer) : Type 0 where
   pub same-number : a .number ≡ b .number
-  pub total-le : totalAt 4 (a .score .payment) ≤ totalAt 4 (b .score .payment)
+  pub total-le : totalAt players (a .score .payment) ≤ totalAt players (b .score .payment)
 
 -- ---- the choice among the scores of the same readings: f scores them where the room gives two, g where it gives four
 module _
-    (f g : Reading → ScoringResult) (rs : List Reading) (less : (r : Reading) → LessFu (f r) (g r))
+    (players : ℕ) (f g : Reading → ScoringResult) (rs : List Reading) (less : (r : Reading) → LessFu (f r) (g r))
     (small : (r : Reading) → List·Memᴰ r rs → Small (g r))
   where
     -- a yaku in one room is one in the other
@@ -63,40 +65,40 @@ module _
       is : x ≡ h reading
       yaku : T (hasYaku (h reading))
 
-    reading-of : (h : Reading → ScoringResult) (i : ℕ) (x : ScoringResult) → IsChosen (map h rs) i x → Of h x
+    reading-of : (h : Reading → ScoringResult) (i : ℕ) (x : ScoringResult) → IsChosen players (map h rs) i x → Of h x
     reading-of h i x c =
         let r = stands-of-map h x i rs (c .stands) in
         record {
           reading = r .0;
           listed = stands-mem (r .0) i rs (r .1);
           is = r .2;
-          yaku = subst (λ (y : ScoringResult). T (hasYaku y)) (r .2) (rank-yaku x (c .some));
+          yaku = subst (λ (y : ScoringResult). T (hasYaku y)) (r .2) (rank-yaku players x (c .some));
         }
 
-    both : (x y : ScoringResult) (i j : ℕ) → IsChosen (map f rs) i x → IsChosen (map g rs) j y → totalAt 4 (x .payment) ≤ totalAt 4 (y .payment)
+    both : (x y : ScoringResult) (i j : ℕ) → IsChosen players (map f rs) i x → IsChosen players (map g rs) j y → totalAt players (x .payment) ≤ totalAt players (y .payment)
     both x y i j c d =
         let p = reading-of f i x c in
         let q = reading-of g j y d in
         let r = p .reading in
-        let below = less r .total-le in
-        let most = rank-total (g r) y (small r (p .listed)) (subst Small (sym (q .is)) (small (q .reading) (q .listed)))
+        let below = less r .total-le players in
+        let most = rank-total players (g r) y (small r (p .listed)) (subst Small (sym (q .is)) (small (q .reading) (q .listed)))
         (yaku-in r (p .yaku)) (d .most (g r) (Memᴰ·map g (p .listed))) in
-        let e = ap (λ (z : ScoringResult). totalAt 4 (z .payment)) (p .is) in
+        let e = ap (λ (z : ScoringResult). totalAt players (z .payment)) (p .is) in
         omega arith
 
-    choices : Outcome (map f rs) → Outcome (map g rs) → PaysLess (choice (map f rs)) (choice (map g rs))
+    choices : Outcome players (map f rs) → Outcome players (map g rs) → PaysLess players (choice players (map f rs)) (choice players (map g rs))
     choices (without-score e a) (without-score e′ a′) =
-        subst₂ PaysLess (sym a) (sym a′) (record { same-number = refl; total-le = omega arith })
+        subst₂ (PaysLess players) (sym a) (sym a′) (record { same-number = refl; total-le = omega arith })
     choices (without-score e a) (without-yaku s z a′) = absurd (s (ap (map g) (empty-map f rs e)))
     choices (without-score e a) (with-score j y d a′) =
         absurd (subst (λ (l : List Reading). StandsAt y j (map g l)) (empty-map f rs e) (d .stands))
     choices (without-yaku s z a) (without-score e′ a′) = absurd (s (ap (map f) (empty-map g rs e′)))
     choices (without-yaku s z a) (without-yaku s′ z′ a′) =
-        subst₂ PaysLess (sym a) (sym a′) (record { same-number = refl; total-le = omega arith })
+        subst₂ (PaysLess players) (sym a) (sym a′) (record { same-number = refl; total-le = omega arith })
     choices (without-yaku s z a) (with-score j y d a′) =
         let q = reading-of g j y d in
         absurd
-        (let k = yaku-rank (f (q .reading)) (yaku-back (q .reading) (q .yaku)) in
+        (let k = yaku-rank players (f (q .reading)) (yaku-back (q .reading) (q .yaku)) in
         let l = z (f (q .reading)) (Memᴰ·map f (q .listed)) in
         omega arith)
     choices (with-score i x c a) (without-score e′ a′) =
@@ -104,17 +106,17 @@ module _
     choices (with-score i x c a) (without-yaku s′ z′ a′) =
         let p = reading-of f i x c in
         absurd
-        (let k = yaku-rank (g (p .reading)) (yaku-in (p .reading) (p .yaku)) in
+        (let k = yaku-rank players (g (p .reading)) (yaku-in (p .reading) (p .yaku)) in
         let l = z′ (g (p .reading)) (Memᴰ·map g (p .listed)) in
         omega arith)
     choices (with-score i x c a) (with-score j y d a′) =
-        subst₂ PaysLess (sym a) (sym a′) (record { same-number = refl; total-le = both x y i j c d })
+        subst₂ (PaysLess players) (sym a) (sym a′) (record { same-number = refl; total-le = both x y i j c d })
 
 -- ---- the three operations
-module _ (cs : List ℕ) (k : Calls) (w : GameContext) where
+module _ (g : Game) (cs : List ℕ) (k : Calls) (w : GameContext) where
   -- the waits are the same
-  pub waits-any-room : (n : ℕ) → nameWaits cs k (inRoom 2 w) n ≡ nameWaits cs k (inRoom 4 w) n
-  unfolding nameWaits winCheck
+  pub waits-any-room : (n : ℕ) → nameWaitsIn g cs k (inRoom 2 w) n ≡ nameWaitsIn g cs k (inRoom 4 w) n
+  unfolding nameWaitsIn winCheckIn
   waits-any-room n = refl
 
   less-in : (r : Reading) → LessFu (scoreIn cs k (inRoom 2 w) r) (scoreIn cs k (inRoom 4 w) r)
@@ -133,40 +135,40 @@ module _ (cs : List ℕ) (k : Calls) (w : GameContext) where
   picked n (r ∷ rs) (suc i) = picked n rs i
 
   -- reading number n: refused alike, or the same reading with the same yaku and han, and no more fu and points
-  pub reading-in-two : (n : ℕ) → LessAnswer (scoreReading cs k (inRoom 2 w) n) (scoreReading cs k (inRoom 4 w) n)
-  unfolding scoreReading winCheck numbered scores
-  reading-in-two n = go (eqb (winCheck cs k (inRoom 2 w)) 0)
+  pub reading-in-two : (n : ℕ) → LessAnswer (scoreReadingIn g cs k (inRoom 2 w) n) (scoreReadingIn g cs k (inRoom 4 w) n)
+  unfolding scoreReadingIn winCheckIn numbered scores
+  reading-in-two n = go (eqb (winCheckIn g cs k (inRoom 2 w)) 0)
     where
       go :
           (b : Bool)
           → LessAnswer
-          (cond b (numbered (scores cs k (inRoom 2 w)) n) (refused (winCheck cs k (inRoom 2 w))))
-          (cond b (numbered (scores cs k (inRoom 4 w)) n) (refused (winCheck cs k (inRoom 2 w))))
+          (cond b (numbered (scores cs k (inRoom 2 w)) n) (refused (winCheckIn g cs k (inRoom 2 w))))
+          (cond b (numbered (scores cs k (inRoom 4 w)) n) (refused (winCheckIn g cs k (inRoom 2 w))))
       go true = picked n (handReadings cs k) n
-      go false = refused-alike (winCheck cs k (inRoom 2 w))
+      go false = refused-alike (winCheckIn g cs k (inRoom 2 w))
 
   small-in :
-      length (k .melds) ≡ 4 → winCheck cs k (inRoom 4 w) ≡ 0 → (r : Reading) → List·Memᴰ r (handReadings cs k)
+      length (k .melds) ≡ 4 → winCheckIn g cs k (inRoom 4 w) ≡ 0 → (r : Reading) → List·Memᴰ r (handReadings cs k)
       → Small (scoreIn cs k (inRoom 4 w) r)
   unfolding scoreIn doraIn
   small-in four passes r i =
       let p = checked cs k (inRoom 4 w) passes in
       score-small (inRoom 4 w) (isOpened k) (tilesTogether cs k w) (doraTogether cs k w) r (dora-forty cs k (inRoom 4 w) p)
-      (listed-short cs k four (p .hand) r i)
+      (listed-short cs k four (passes-four g cs k (p .hand)) r i)
 
   -- the win: it pays no more where the room gives two
-  pub win-in-two : length (k .melds) ≡ 4 → PaysLess (scoreWin cs k (inRoom 2 w)) (scoreWin cs k (inRoom 4 w))
-  unfolding scoreWin winCheck scores
-  win-in-two four = go (eqb (winCheck cs k (inRoom 2 w)) 0) refl
+  pub win-in-two : length (k .melds) ≡ 4 → PaysLess (g .players) (scoreWinIn g cs k (inRoom 2 w)) (scoreWinIn g cs k (inRoom 4 w))
+  unfolding scoreWinIn winCheckIn scores
+  win-in-two four = go (eqb (winCheckIn g cs k (inRoom 2 w)) 0) refl
     where
       go :
-          (b : Bool) → eqb (winCheck cs k (inRoom 4 w)) 0 ≡ b
-          → PaysLess
-          (cond b (choice (scores cs k (inRoom 2 w))) (refused (winCheck cs k (inRoom 2 w))))
-          (cond b (choice (scores cs k (inRoom 4 w))) (refused (winCheck cs k (inRoom 2 w))))
+          (b : Bool) → eqb (winCheckIn g cs k (inRoom 4 w)) 0 ≡ b
+          → PaysLess (g .players)
+          (cond b (choice (g .players) (scores cs k (inRoom 2 w))) (refused (winCheckIn g cs k (inRoom 2 w))))
+          (cond b (choice (g .players) (scores cs k (inRoom 4 w))) (refused (winCheckIn g cs k (inRoom 2 w))))
       go true e =
-          choices (scoreIn cs k (inRoom 2 w)) (scoreIn cs k (inRoom 4 w)) (handReadings cs k) less-in
-          (small-in four (eqb-true (winCheck cs k (inRoom 4 w)) 0 e)) (outcome _) (outcome _)
+          choices (g .players) (scoreIn cs k (inRoom 2 w)) (scoreIn cs k (inRoom 4 w)) (handReadings cs k) less-in
+          (small-in four (eqb-true (winCheckIn g cs k (inRoom 4 w)) 0 e)) (outcome (g .players) _) (outcome (g .players) _)
       go false e = record { same-number = refl; total-le = omega arith }
 
   -- a hand of which no reading has the double wind as its pair is scored alike in both rooms
@@ -179,12 +181,12 @@ module _ (cs : List ℕ) (k : Calls) (w : GameContext) where
         score-any-room w 2 (isOpened k) (tilesTogether cs k w) (doraTogether cs k w) r (other r i)
         ∙ sym (score-any-room w 4 (isOpened k) (tilesTogether cs k w) (doraTogether cs k w) r (other r i)))
 
-    pub win-any-room : scoreWin cs k (inRoom 2 w) ≡ scoreWin cs k (inRoom 4 w)
-    unfolding scoreWin winCheck
+    pub win-any-room : scoreWinIn g cs k (inRoom 2 w) ≡ scoreWinIn g cs k (inRoom 4 w)
+    unfolding scoreWinIn winCheckIn
     win-any-room =
-        ap (λ (xs : List ScoringResult). cond (eqb (winCheck cs k (inRoom 2 w)) 0) (choice xs) (refused (winCheck cs k (inRoom 2 w)))) same-scores
+        ap (λ (xs : List ScoringResult). cond (eqb (winCheckIn g cs k (inRoom 2 w)) 0) (choice (g .players) xs) (refused (winCheckIn g cs k (inRoom 2 w)))) same-scores
 
-    pub reading-any-room : (n : ℕ) → scoreReading cs k (inRoom 2 w) n ≡ scoreReading cs k (inRoom 4 w) n
-    unfolding scoreReading winCheck
+    pub reading-any-room : (n : ℕ) → scoreReadingIn g cs k (inRoom 2 w) n ≡ scoreReadingIn g cs k (inRoom 4 w) n
+    unfolding scoreReadingIn winCheckIn
     reading-any-room n =
-        ap (λ (xs : List ScoringResult). cond (eqb (winCheck cs k (inRoom 2 w)) 0) (numbered xs n) (refused (winCheck cs k (inRoom 2 w)))) same-scores
+        ap (λ (xs : List ScoringResult). cond (eqb (winCheckIn g cs k (inRoom 2 w)) 0) (numbered xs n) (refused (winCheckIn g cs k (inRoom 2 w)))) same-scores

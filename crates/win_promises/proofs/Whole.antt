@@ -22,6 +22,7 @@ use Rattle.meld.specs.Meld.{isCall, isConcealed, isKan, isMeld, isOpen, isTripl
 use Rattle.meld.proofs.Melds.{closed-melds, sorted-perm}
 use Rattle.meld.proofs.Sorts.{call-is}
 use Rattle.meld.proofs.Renamed.{not-sequence}
+use Rattle.rules.specs.Rules.{Game}
 use Rattle.context.specs.declared.GameContext.{GameContext}
 use Rattle.context.proofs.Range.{round-in, seat-in}
 use Rattle.hand.specs.Counts.{held}
@@ -38,12 +39,12 @@ use Rattle.yaku.specs.Tally.{oneHan, moreHan, ordinary, tallies}
 use Rattle.yaku.proofs.Excludes.{by-answer, by-yakuman}
 use Rattle.reading_score.specs.Score.{result, scoreOf}
 use Rattle.checks.specs.declared.Calls.{Calls}
-use Rattle.checks.specs.Checks.{called, handCheck, together}
-use Rattle.checks.proofs.Passed.{passed, called-length}
+use Rattle.checks.specs.Checks.{called, handCheckIn, together}
+use Rattle.checks.proofs.Passed.{passed, passes-four, called-length}
 use Rattle.promises.proofs.Listing.{admitted}
 use Rattle.unit.specs.Listing.{handReadings}
 use Rattle.unit.proofs.Listed.{melds-called}
-use Rattle.win.specs.Win.{winCheck, isOpened, tilesTogether, scoreIn}
+use Rattle.win.specs.Win.{winCheckIn, isOpened, tilesTogether, scoreIn}
 use Rattle.win.proofs.Passed.{checked}
 
 -- ---- a call is open or a kan
@@ -131,21 +132,21 @@ gates-asked w opened s (standard p ms) e =
     three-no true false c e = refl
     three-no true true c e = absurd (subst T e tt)
 
--- ---- a win that passes the checks; the four melds of the calls are four (an array of four in the code)
-module _ (cs : List ℕ) (k : Calls) (w : GameContext) (four : length (k .melds) ≡ 4) (passes : winCheck cs k w ≡ 0) where
-  hand-passes : handCheck cs k ≡ 0
+-- ---- a win that passes the checks of a game; the four melds of the calls are four (an array of four in the code)
+module _ (g : Game) (cs : List ℕ) (k : Calls) (w : GameContext) (four : length (k .melds) ≡ 4) (passes : winCheckIn g cs k w ≡ 0) where
+  hand-passes : handCheckIn g cs k ≡ 0
   hand-passes = checked cs k w passes .hand
 
   gates-no-kan : T (nineGates (together cs (called k))) → count isKan (called k) ≡ 0
   gates-no-kan =
       let h = passed cs k hand-passes in
-      nine-gates-no-kan (held cs) (called k) (melds-called cs k hand-passes) (subst (λ (n : ℕ). sum (held cs) tiles + 3 * n ≡ 14) (sym (called-length k (h .few) four)) (h .tiles))
+      nine-gates-no-kan (held cs) (called k) (melds-called cs k (passes-four g cs k hand-passes)) (subst (λ (n : ℕ). sum (held cs) tiles + 3 * n ≡ 14) (sym (called-length k (h .few) four)) (h .tiles))
 
   -- nine gates never stand beside a call, not even a closed kan
   no-gates : (called k ≡ [] → ⊥) → (not (isOpened k) && nineGates (together cs (called k))) ≡ false
   no-gates called-some =
       by-answer (isOpened k) (λ e. rw e)
-      (λ e. rw e (¬T→false _ (λ g. called-some (no-calls (called k) (passed cs k hand-passes .calls) e (gates-no-kan g)))))
+      (λ e. rw e (¬T→false _ (λ y. called-some (no-calls (called k) (passed cs k hand-passes .calls) e (gates-no-kan y)))))
 
   pub nine-gates-uncalled :
       (called k ≡ [] → ⊥) → (r : Reading)
@@ -169,14 +170,14 @@ module _ (cs : List ℕ) (k : Calls) (w : GameContext) (four : length (k .melds)
   pub no-pairs-of-terminals : (ps : List ℕ) → List·Memᴰ (pairs ps) (handReadings cs k) → tallied Chinroutou (scoreIn cs k w (pairs ps) .tallies) ≡ 0
   unfolding scoreIn scoreOf result tileYaku ordinary oneHan moreHan
   no-pairs-of-terminals ps i =
-      let e = ap one (no-chinroutou ps (admitted cs k four hand-passes (pairs ps) i)) in
+      let e = ap one (no-chinroutou ps (admitted g cs k four hand-passes (pairs ps) i)) in
       by-yakuman w (isOpened k) (tilesTogether cs k w) (pairs ps) (λ ts. tallied Chinroutou ts ≡ 0) e e
 
   -- ---- of four tiles there is one triplet or kan
   module _ (p : ℕ) (ms : List Meld) (a : AdmitsStandard (held cs) (called k) p ms) (t : ℕ) (tile : t < 34) where
     melds-hold : sum (λ m. uses m t) ms ≤ 4
     melds-hold =
-        let melds = all-append isMeld (called k) (a .hand) (melds-called cs k hand-passes) (closed-melds (a .hand) (a .closed)) in
+        let melds = all-append isMeld (called k) (a .hand) (melds-called cs k (passes-four g cs k hand-passes)) (closed-melds (a .hand) (a .closed)) in
         let same : sum (λ m. uses m t) ms ≡ sum (λ m. uses m t) (called k ++ a .hand) =
         ap (sum (λ m. uses m t)) (a .whole) ∙ total-perm (map-perm (λ m. uses m t) (sorted-perm (called k ++ a .hand) melds)) in
         omega (arith, same, sum-append (λ m. uses m t) (called k) (a .hand), a .exact t tile, passed cs k hand-passes .whole t tile)
@@ -209,4 +210,4 @@ module _ (cs : List ℕ) (k : Calls) (w : GameContext) (four : length (k .melds)
 
   pub yakuhai-at-most-twice : (r : Reading) → List·Memᴰ r (handReadings cs k) → T (atMostTwice (scoreIn cs k w r .tallies))
   unfolding scoreIn scoreOf result
-  yakuhai-at-most-twice r i = admitted-twice r (admitted cs k four hand-passes r i)
+  yakuhai-at-most-twice r i = admitted-twice r (admitted g cs k four hand-passes r i)

@@ -6,3 +6,4 @@ pub mod Points
 pub mod Dora
 pub mod Readings
 pub mod Refusals
+pub mod Three

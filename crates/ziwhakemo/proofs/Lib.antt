@@ -1,1 +1,3 @@
+pub mod Listed
 pub mod Numbered
+pub mod Won

@@ -8,8 +8,11 @@ ghost use Rattle.scoring.specs.Payment.{paymentAnswer};
 ghost use Rattle.win.specs.Win.{scoreWin, scoreReading, nameWaits};
 ghost use Rattle.answers.specs.Answers.{version, listingAnswer, levelAnswer, paymentValues, scoreValues, waitsValues};
 
+pub mod games;
+pub mod three;
+
 // The version of this interface.
-const VERSION: u32 = 6;
+const VERSION: u32 = 7;
 
 // The version of this interface, for a caller that was written for one.
 #[no_mangle]
@@ -24,7 +27,7 @@ fn list_values(counts: &[u8], k: checks::Calls, out: &mut [u8]) -> answers::List
     ensures answer { λ r. ⌜ r ≡ listingAnswer (listing (now (counts .entry)) k (length (now (out .entry)))) ⌝ }
     ensures buffer { λ _. ⌜ now (out .exit) ≡ written (now (counts .entry)) k (now (out .entry)) ⌝ }
 {
-    answers::listing_of(unit::list_readings(counts, k, out))
+    games::list_values(counts, k, rules::Variant::Yonma, out)
 }
 
 // Lists the readings of a finished hand into the lent buffer.
@@ -65,14 +68,17 @@ pub extern "C" fn ziwhakemo_payment(
 ) -> answers::PaymentValues
     ensures { λ r. ⌜ r ≡ paymentValues (paymentAnswer «basic_points» «is_dealer» «win_type») ⌝ }
 {
-    answers::payment_values(scoring::score_payment(basic_points, is_dealer, win_type))
+    answers::payment_values(
+        scoring::score_payment(basic_points, is_dealer, win_type),
+        rules::Variant::Yonma,
+    )
 }
 
 // Scores a win, its calls given by value.
 fn win_values(counts: &[u8], k: checks::Calls, w: context::GameContext) -> answers::ScoreValues
     ensures { λ r. ⌜ r ≡ scoreValues (scoreWin (now (counts .entry)) k w) ⌝ }
 {
-    answers::score_values(win::score_win(counts, k, w))
+    games::win_values(counts, k, w, rules::Variant::Yonma)
 }
 
 // Scores a win: the reading with a yaku that pays most.
@@ -96,7 +102,7 @@ fn reading_values(
 ) -> answers::ScoreValues
     ensures { λ r. ⌜ r ≡ scoreValues (scoreReading (now (counts .entry)) k w n) ⌝ }
 {
-    answers::score_values(win::score_reading(counts, k, w, n))
+    games::reading_values(counts, k, w, rules::Variant::Yonma, n)
 }
 
 // Scores reading number n, counted from 0.
@@ -121,7 +127,7 @@ fn waits_values(
 ) -> answers::WaitsValues
     ensures { λ r. ⌜ r ≡ waitsValues (nameWaits (now (counts .entry)) k w n) ⌝ }
 {
-    answers::waits_values(win::name_waits(counts, k, w, n))
+    games::waits_values(counts, k, w, rules::Variant::Yonma, n)
 }
 
 // Names the waits of reading number n, counted from 0.

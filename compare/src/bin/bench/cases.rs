@@ -5,6 +5,7 @@ use compare::library::{Indicators, RON, TSUMO, Win};
 use compare::oracle::Expected;
 use compare::random::{self, Pool, Style};
 use compare::rng::Rng;
+use compare::three_wins;
 
 const SEED: u64 = 1;
 /// Of a hundred winning hands, so many have 0, 1, 2, 3 and 4 calls.
@@ -137,6 +138,17 @@ pub fn with_and_without_indicators(wins: &[Won]) -> [Vec<Won>; 2] {
         won.win = won.win.showing([shown(3), shown(2)]);
     }
     [with, riichi]
+}
+
+/// So many hands of three players as `compare three` deals them, each won by one of its tiles.
+pub fn wins_of_three(number: usize) -> Vec<Won> {
+    let mut rng = Rng::new(SEED);
+    let deal = |_| {
+        let hand = three_wins::hand(&mut rng);
+        let win = win(&mut rng, &hand);
+        Won { hand, win }
+    };
+    (0..number).map(deal).collect()
 }
 
 /// A hand, and how it was won.

@@ -4,18 +4,19 @@ mod cases;
 mod timing;
 mod worst;
 
-use cases::{CASES, Case, Won, with_and_without_indicators};
+use cases::{CASES, Case, Won, wins_of_three, with_and_without_indicators};
 use compare::agari;
 use compare::agari_wins::AgariWin;
 use compare::answers;
 use compare::arguments;
+use compare::game::Game;
 use compare::hand::Hand;
-use compare::library::{ALWAYS_ENOUGH, list_readings, score_win};
+use compare::library::{ALWAYS_ENOUGH, THREE_OPERATIONS, list_readings, score_win};
 use compare::oracle::Expected;
 use std::hint::black_box;
 use std::process::ExitCode;
 
-const USAGE: &str = "usage: bench [readings | wins | dora | worst]
+const USAGE: &str = "usage: bench [readings | wins | dora | three | worst]
        bench profile readings|wins CASE N
 where CASE is mixture, several, flush, none or changing";
 const NUMBER: usize = 20_000;
@@ -26,6 +27,11 @@ fn list(hand: &Hand, out: &mut [u8]) {
 }
 
 fn score(won: &Won) {
+    black_box(score_win(won.hand.counts(), won.hand.calls, won.win));
+}
+
+fn score_of_three(won: &Won) {
+    let score_win = THREE_OPERATIONS.score_win;
     black_box(score_win(won.hand.counts(), won.hand.calls, won.win));
 }
 
@@ -107,6 +113,26 @@ fn measure_dora() {
     }
 }
 
+/// Scoring a win of three players on both sides, and the same wins as of four.
+fn measure_three() {
+    println!(
+        "scoring a win of three players: {NUMBER} wins, {}",
+        timing::about_passes()
+    );
+    let wins = wins_of_three(NUMBER);
+    for (name, game, score) in [
+        ("three players", Game::Three, score_of_three as fn(&Won)),
+        ("the same wins of four players", Game::Four, score),
+    ] {
+        println!("{name}");
+        let theirs: Vec<_> = wins
+            .iter()
+            .map(|won| AgariWin::in_game(game, &won.hand, &won.win))
+            .collect();
+        timing::compare(&theirs, score_by_agari, &wins, score);
+    }
+}
+
 /// Runs the library alone, so many times, going round the hands or wins of a case.
 fn profile(operation: &str, name: &str, times: usize) -> Option<()> {
     let case = CASES.iter().find(|case| case.name == name)?;
@@ -128,11 +154,13 @@ fn main() -> ExitCode {
                 measure_readings();
                 measure_wins();
                 measure_dora();
+                measure_three();
                 worst::measure(NUMBER);
             }
             ["readings"] => measure_readings(),
             ["wins"] => measure_wins(),
             ["dora"] => measure_dora(),
+            ["three"] => measure_three(),
             ["worst"] => worst::measure(NUMBER),
             ["profile", operation, case, times] => profile(operation, case, times.parse().ok()?)?,
             _ => return None,

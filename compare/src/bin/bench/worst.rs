@@ -24,7 +24,7 @@ pub fn measure(number: usize) {
 fn closed_flushes() -> Vec<Won> {
     let hands = suit_counts(14)
         .into_iter()
-        .map(|numbers| hand_of(0, &numbers, &[0; 7]));
+        .map(|numbers| hand_of(0, &numbers));
     hands
         .filter(|hand| Expected::of(hand).readings > 0)
         .flat_map(|hand| {

@@ -6,18 +6,20 @@ use Prim.Native.Nat.{_-_, _≤_}
 use native.Mathlib.Omega.{arith}
 use lib.ListN.{length, getD, take, drop, length-map}
 use Rattle.lists.specs.Fold.{all}
-use Rattle.meld.specs.Meld.{isCall, meld}
+use Rattle.rules.specs.Rules.{game}
+use Rattle.meld.specs.Meld.{meld}
 use Rattle.lists.proofs.First.{first-pass, first-fail, first-end}
+use Rattle.checks.specs.Checks.{isCallIn}
 use borrow.Author.Tests.{not-true, not-false}
 use borrow.Author.Needs.{needs}
 use Rattle.checks.proofs.are_calls.Statement.{statement}
 use Rattle.checks.proofs.are_calls.Tie as tie
 
 abbrev Inv-loop : tie.InvT-loop
-Inv-loop melds count i₀ i = (length melds ≡ 4) × ((i ≤ count) × (all isCall (drop i (take count melds)) ≡ all isCall (take count melds)))
+Inv-loop v melds count i₀ i = (length melds ≡ 4) × ((i ≤ count) × (all (isCallIn (game v)) (drop i (take count melds)) ≡ all (isCallIn (game v)) (take count melds)))
 
 abbrev μ-loop : tie.MeasureT-loop
-μ-loop melds count i₀ i = count - i
+μ-loop v melds count i₀ i = count - i
 
 loop-holds : tie.Need-loop-holds Inv-loop μ-loop
 loop-holds c = (sym (length-map (c .before .args .k .melds) _) ∙ c .before .good .0 .1 .1 .1 .0 .1 .0 .1, (omega arith, refl))
@@ -28,15 +30,16 @@ mul-m c = omega arith
 array-copy-out-m : tie.Need-array-copy-out-m Inv-loop μ-loop
 array-copy-out-m c = omega arith
 
-is-call-requires : tie.Need-is-call-requires Inv-loop μ-loop
-is-call-requires c κs = search needs
+is-call-in-requires : tie.Need-is-call-in-requires Inv-loop μ-loop
+is-call-in-requires c κs = search needs
 
 returns : tie.Need-returns Inv-loop μ-loop
 returns c =
     let l = c .before .before .before .before .loop in
     let k = c .before .before .before .before .before .before .args .k in
-    let e : isCall (getD (k .melds) (l .i) (meld 0 0)) ≡ false = sym (c .before .is-call .ensures) ∙ not-true _ (c .if1 .taken) in
-    sym (first-fail isCall (k .melds) (k .count) (l .i) (omega arith) (meld 0 0) (omega arith) e) ∙ l .inv .1 .1
+    let v = c .before .before .before .before .before .before .args .v in
+    let e : isCallIn (game v) (getD (k .melds) (l .i) (meld 0 0)) ≡ false = sym (c .before .is-call-in .ensures) ∙ not-true _ (c .if1 .taken) in
+    sym (first-fail (isCallIn (game v)) (k .melds) (k .count) (l .i) (omega arith) (meld 0 0) (omega arith) e) ∙ l .inv .1 .1
 
 add-i : tie.Need-add-i Inv-loop μ-loop
 add-i c = omega arith
@@ -48,14 +51,16 @@ loop-again : tie.Need-loop-again Inv-loop μ-loop
 loop-again c =
     let l = c .before .before .before .before .loop in
     let k = c .before .before .before .before .before .before .args .k in
-    let e : isCall (getD (k .melds) (l .i) (meld 0 0)) ≡ true = sym (c .before .is-call .ensures) ∙ not-false _ (c .if1 .left) in
-    (l .inv .0, (omega arith, first-pass isCall (k .melds) (k .count) (l .i) (omega arith) (meld 0 0) (omega arith) e ∙ l .inv .1 .1))
+    let v = c .before .before .before .before .before .before .args .v in
+    let e : isCallIn (game v) (getD (k .melds) (l .i) (meld 0 0)) ≡ true = sym (c .before .is-call-in .ensures) ∙ not-false _ (c .if1 .left) in
+    (l .inv .0, (omega arith, first-pass (isCallIn (game v)) (k .melds) (k .count) (l .i) (omega arith) (meld 0 0) (omega arith) e ∙ l .inv .1 .1))
 
 returns-2 : tie.Need-returns-2 Inv-loop μ-loop
 returns-2 c =
     let l = c .before .loop in
     let k = c .before .before .before .args .k in
-    sym (first-end isCall (k .melds) (k .count) (l .i) (omega arith) (omega arith)) ∙ l .inv .1 .1
+    let v = c .before .before .before .args .v in
+    sym (first-end (isCallIn (game v)) (k .melds) (k .count) (l .i) (omega arith) (omega arith)) ∙ l .inv .1 .1
 
 pub are-calls-spec : {M : Type 1} → statement M
 are-calls-spec =
@@ -66,7 +71,7 @@ are-calls-spec =
     loop-holds
     mul-m
     array-copy-out-m
-    is-call-requires
+    is-call-in-requires
     returns
     add-i
     loop-less

@@ -2,13 +2,14 @@
 use mathlib.Core.Path.{_≡_, sym, ap, _∙_}
 use mathlib.Core.Bool.{Bool, true, false}
 use Prim.Native.Nat.{ℕ, _+_, _*_}
-use lib.Dec.{eqb, leb}
-use Rattle.lists.specs.Fold.{all, sum}
-use Rattle.lists.proofs.Finite.{true→T}
+use lib.Dec.{eqb}
+use Rattle.lists.specs.Fold.{sum}
 use Rattle.tile.specs.Tile.{tiles}
+use Rattle.rules.specs.Rules.{game}
 use Rattle.hand.specs.Counts.{held}
-use Rattle.checks.specs.Checks.{handCheck}
+use Rattle.checks.specs.Checks.{called, handCheckIn}
 use Rattle.checks.proofs.Checked.{pass, refuse}
+use Rattle.checks.proofs.Played.{calls-made, few-in-wall}
 use Rattle.checks.proofs.Four.{four-below, four-each}
 use borrow.Author.Tests.{eq-eqb, ne-eqb, le-leb, lt-leb, not-true, not-false}
 use borrow.Author.Needs.{needs}
@@ -20,11 +21,11 @@ total : (n s k whole : ℕ) (b : Bool) → n ≡ s → eqb (n + 3 * k) whole ≡
 total n s k whole b e t = ap (λ (x : ℕ). eqb (x + 3 * k) whole) (sym e) ∙ t
 
 returns : tie.Need-returns
-unfolding handCheck
+unfolding handCheckIn
 returns c = sym (refuse _ _ _ (ne-eqb _ _ (c .if1 .taken)))
 
 returns-2 : tie.Need-returns-2
-unfolding handCheck
+unfolding handCheckIn
 returns-2 c =
     sym
     (pass _ _ _ (eq-eqb _ _ (c .before .if1 .left))
@@ -34,45 +35,49 @@ are-calls-requires : tie.Need-are-calls-requires
 are-calls-requires c κs = search needs
 
 returns-3 : tie.Need-returns-3
-unfolding handCheck
+unfolding handCheckIn
 returns-3 c =
     sym
     (pass _ _ _ (eq-eqb _ _ (c .before .before .before .if1 .left))
     ∙ pass _ _ _ (le-leb _ _ (c .before .before .if2 .left))
     ∙ refuse _ _ _ (sym (c .before .are-calls .ensures) ∙ not-true _ (c .if3 .taken)))
 
-at-most-four-requires : tie.Need-at-most-four-requires
-at-most-four-requires c κs = search needs
+within-wall-requires : tie.Need-within-wall-requires
+within-wall-requires c κs = search needs
 
 returns-4 : tie.Need-returns-4
-unfolding handCheck
+unfolding handCheckIn
 returns-4 c =
     sym
     (pass _ _ _ (eq-eqb _ _ (c .before .before .before .before .before .if1 .left))
     ∙ pass _ _ _ (le-leb _ _ (c .before .before .before .before .if2 .left))
     ∙ pass _ _ _ (sym (c .before .before .before .are-calls .ensures) ∙ not-false _ (c .before .before .if3 .left))
-    ∙ refuse _ _ _ (sym (c .before .at-most-four .ensures) ∙ not-true _ (c .if4 .taken)))
+    ∙ refuse _ _ _ (sym (c .before .within-wall .ensures) ∙ not-true _ (c .if4 .taken)))
 
 together-at-most-four-requires : tie.Need-together-at-most-four-requires
 together-at-most-four-requires c κs =
     let cs = c .before .before .before .before .before .before .before .args .counts .now in
+    let g = game (c .before .before .before .before .before .before .before .args .v) in
     let long = c .before .before .before .before .before .if1 .left in
-    let four = sym (c .before .at-most-four .ensures) ∙ not-false _ (c .if4 .left) in (
+    let four = sym (c .before .within-wall .ensures) ∙ not-false _ (c .if4 .left) in (
       long,
       (
-        four-each cs long (four-below (held cs) (true→T (all (λ t. leb (held cs t) 4) tiles) four)),
-        (c .before .before .before .before .if2 .left, sym (c .before .before .before .are-calls .ensures) ∙ not-false _ (c .before .before .if3 .left)),
+        four-each cs long (four-below (held cs) (few-in-wall g cs four)),
+        (
+          c .before .before .before .before .if2 .left,
+          calls-made g (called (c .before .before .before .before .before .before .before .args .k)) (sym (c .before .before .before .are-calls .ensures) ∙ not-false _ (c .before .before .if3 .left)),
+        ),
       ),
     )
 
 returns-5 : tie.Need-returns-5
-unfolding handCheck
+unfolding handCheckIn
 returns-5 c =
     sym
     (pass _ _ _ (eq-eqb _ _ (c .before .before .before .before .before .before .before .if1 .left))
     ∙ pass _ _ _ (le-leb _ _ (c .before .before .before .before .before .before .if2 .left))
     ∙ pass _ _ _ (sym (c .before .before .before .before .before .are-calls .ensures) ∙ not-false _ (c .before .before .before .before .if3 .left))
-    ∙ pass _ _ _ (sym (c .before .before .before .at-most-four .ensures) ∙ not-false _ (c .before .before .if4 .left))
+    ∙ pass _ _ _ (sym (c .before .before .before .within-wall .ensures) ∙ not-false _ (c .before .before .if4 .left))
     ∙ refuse _ _ _ (sym (c .before .together-at-most-four .ensures) ∙ not-true _ (c .if5 .taken)))
 
 sum-range-requires : tie.Need-sum-range-requires
@@ -85,26 +90,26 @@ add-if6 : tie.Need-add-if6
 add-if6 c = search needs
 
 returns-6 : tie.Need-returns-6
-unfolding handCheck
+unfolding handCheckIn
 returns-6 c =
     let a = c .before .before .before .before .before .before .before .before .before .before .before .args in
     sym
     (pass _ _ _ (eq-eqb _ _ (c .before .before .before .before .before .before .before .before .before .if1 .left))
     ∙ pass _ _ _ (le-leb _ _ (c .before .before .before .before .before .before .before .before .if2 .left))
     ∙ pass _ _ _ (sym (c .before .before .before .before .before .before .before .are-calls .ensures) ∙ not-false _ (c .before .before .before .before .before .before .if3 .left))
-    ∙ pass _ _ _ (sym (c .before .before .before .before .before .at-most-four .ensures) ∙ not-false _ (c .before .before .before .before .if4 .left))
+    ∙ pass _ _ _ (sym (c .before .before .before .before .before .within-wall .ensures) ∙ not-false _ (c .before .before .before .before .if4 .left))
     ∙ pass _ _ _ (sym (c .before .before .before .together-at-most-four .ensures) ∙ not-false _ (c .before .before .if5 .left))
     ∙ refuse _ _ _ (total (c .before .sum-range .result) (sum (held (a .counts .now)) tiles) (a .k .count) _ false (c .before .sum-range .ensures .0) (ne-eqb _ _ (c .if6 .taken))))
 
 returns-7 : tie.Need-returns-7
-unfolding handCheck
+unfolding handCheckIn
 returns-7 c =
     let a = c .before .before .before .before .before .before .before .before .before .before .before .args in
     sym
     (pass _ _ _ (eq-eqb _ _ (c .before .before .before .before .before .before .before .before .before .if1 .left))
     ∙ pass _ _ _ (le-leb _ _ (c .before .before .before .before .before .before .before .before .if2 .left))
     ∙ pass _ _ _ (sym (c .before .before .before .before .before .before .before .are-calls .ensures) ∙ not-false _ (c .before .before .before .before .before .before .if3 .left))
-    ∙ pass _ _ _ (sym (c .before .before .before .before .before .at-most-four .ensures) ∙ not-false _ (c .before .before .before .before .if4 .left))
+    ∙ pass _ _ _ (sym (c .before .before .before .before .before .within-wall .ensures) ∙ not-false _ (c .before .before .before .before .if4 .left))
     ∙ pass _ _ _ (sym (c .before .before .before .together-at-most-four .ensures) ∙ not-false _ (c .before .before .if5 .left))
     ∙ pass _ _ _ (total (c .before .sum-range .result) (sum (held (a .counts .now)) tiles) (a .k .count) _ true (c .before .sum-range .ensures .0) (eq-eqb _ _ (c .if6 .left))))
 
@@ -116,7 +121,7 @@ check-hand-spec =
     returns-2
     are-calls-requires
     returns-3
-    at-most-four-requires
+    within-wall-requires
     returns-4
     together-at-most-four-requires
     returns-5

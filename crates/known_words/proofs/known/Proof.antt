@@ -5,10 +5,10 @@ use Rattle.known_words.proofs.known.Statement.{statement}
 use Rattle.known_words.proofs.known.Tie as tie
 
 abbrev Inv-loop : tie.InvT-loop
-Inv-loop word i₀ i = i ≤ 37
+Inv-loop word i₀ i = i ≤ 45
 
 abbrev μ-loop : tie.MeasureT-loop
-μ-loop word i₀ i = 37 - i
+μ-loop word i₀ i = 45 - i
 
 loop-holds : tie.Need-loop-holds Inv-loop μ-loop
 loop-holds c = search needs

@@ -3,6 +3,9 @@ use mathlib.Core.Path.{_≡_}
 use mathlib.Core.Logic.{⊎-elim}
 use Prim.Native.Nat.{_*_, _≤_}
 use native.Mathlib.Omega.{arith}
+use Rattle.rules.specs.Rules.{game}
+use Rattle.rules.proofs.Games.{table}
+use Rattle.scoring.proofs.Shares.{table-rises}
 use Rattle.reading_score.specs.Score.{yakumanFirst}
 use Rattle.reading_score.proofs.Fits.{total-fits, rank-none, rank-some}
 use borrow.Author.Needs.{needs}
@@ -17,7 +20,7 @@ has-yaku-requires : tie.Need-has-yaku-requires
 has-yaku-requires c κs = search needs
 
 returns : tie.Need-returns
-returns c = rank-none (c .before .before .args .x) (c .before .has-yaku .result) (c .before .has-yaku .ensures) (c .if1 .taken)
+returns c = let a = c .before .before .args in rank-none (game (a .v) .players) (a .x) (c .before .has-yaku .result) (c .before .has-yaku .ensures) (c .if1 .taken)
 
 total-requires : tie.Need-total-requires
 total-requires c κs = search needs
@@ -35,7 +38,9 @@ Digits = lts.After-struct-known2 (has-yaku-reads.Asked, has-yaku-reads.Learnt, t
 small : (c : Digits) → (c .before .before .before .total .result ≤ 3 * 4294967295) × (c .before .before .if2 .yakuman ≤ 1)
 small c =
     let start = c .before .before .before .before .before .before in
-    let few = total-fits (start .args .x .payment) _ (start .good .0 .1 .1 .1 .1 .1 .1 .1 .1 .0) in
+    let p = start .args .x .payment in
+    let four = total-fits p _ (start .good .0 .1 .1 .1 .1 .1 .1 .1 .1 .0) in
+    let few = table-rises p (game (start .args .v) .players) 4 (table (start .args .v) .1) in
     let told = c .before .before .before .total .ensures in
     (omega arith, ⊎-elim (λ w. omega (arith, w .1)) (λ w. omega (arith, w .1)) (c .before .before .if2 .came))
 
@@ -64,9 +69,9 @@ returns-2 : tie.Need-returns-2
 returns-2 c =
     let branch = c .before .before .before in
     let called = branch .before in
-    let x = called .before .before .before .args .x in
-    let digit : branch .if2 .yakuman ≡ yakumanFirst (x .«is_yakuman») = ⊎-elim (λ w. rw (w .0 .taken) (omega (arith, w .1))) (λ w. rw (w .0 .left) (omega (arith, w .1))) (branch .if2 .came) in
-    rank-some x (called .before .before .has-yaku .result) (called .total .result) (branch .if2 .yakuman)
+    let a = called .before .before .before .args in
+    let digit : branch .if2 .yakuman ≡ yakumanFirst (a .x .«is_yakuman») = ⊎-elim (λ w. rw (w .0 .taken) (omega (arith, w .1))) (λ w. rw (w .0 .left) (omega (arith, w .1))) (branch .if2 .came) in
+    rank-some (game (a .v) .players) (a .x) (called .before .before .has-yaku .result) (called .total .result) (branch .if2 .yakuman)
     (called .before .before .has-yaku .ensures) (called .before .if1 .left) (called .total .ensures) digit
 
 pub rank-spec : {M : Type 1} → statement M

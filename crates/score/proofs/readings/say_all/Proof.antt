@@ -1,6 +1,8 @@
 -- `say_all` is safe: the buffer has room for the records of every hand that passes the checks. Assumes nothing.
 use mathlib.Core.Path.{sym, _∙_}
 use lib.ListN.{length-map}
+use Rattle.rules.specs.Rules.{game}
+use Rattle.checks.proofs.Passed.{passes-four}
 use Rattle.promises.proofs.Listing.{room}
 use borrow.Author.Needs.{needs}
 use Rattle.score.proofs.readings.say_all.Statement.{statement}
@@ -23,9 +25,10 @@ write-all-requires c κs =
     let s = c .before .before .before .before .before .before in
     let cs = s .args .counts .now in
     let k = s .args .k in
-    let ok = sym (c .before .before .before .before .check-hand .ensures) ∙ c .before .before .before .if1 .left in
+    let g = game (s .args .v) in
+    let inGame = sym (c .before .before .before .before .check-hand .ensures) ∙ c .before .before .before .if1 .left in
     let four = sym (length-map (k .melds) _) ∙ s .good .1 .0 .1 .1 .1 .0 .1 .0 .1 in
-    (ok, room cs k four ok)
+    (passes-four g cs k inGame, room g cs k four inGame)
 
 slice-aggregate-say-readings : tie.Need-slice-aggregate-say-readings
 slice-aggregate-say-readings c = search needs

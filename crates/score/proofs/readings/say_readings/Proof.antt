@@ -5,10 +5,10 @@ use Rattle.score.proofs.readings.say_readings.Statement.{statement}
 use Rattle.score.proofs.readings.say_readings.Tie as tie
 
 abbrev Inv-loop : tie.InvT-loop
-Inv-loop records n chosen counts k w i₀ i = i ≤ n
+Inv-loop records n chosen counts k w v i₀ i = i ≤ n
 
 abbrev μ-loop : tie.MeasureT-loop
-μ-loop records n chosen counts k w i₀ i = n - i
+μ-loop records n chosen counts k w v i₀ i = n - i
 
 loop-holds : tie.Need-loop-holds Inv-loop μ-loop
 loop-holds c = search needs

@@ -5,10 +5,10 @@ use Rattle.score.proofs.readings.say_totals.Statement.{statement}
 use Rattle.score.proofs.readings.say_totals.Tie as tie
 
 abbrev Inv-loop : tie.InvT-loop
-Inv-loop n chosen counts k w i₀ i = i ≤ n
+Inv-loop n chosen counts k w v i₀ i = i ≤ n
 
 abbrev μ-loop : tie.MeasureT-loop
-μ-loop n chosen counts k w i₀ i = n - i
+μ-loop n chosen counts k w v i₀ i = n - i
 
 slice-aggregate-say : tie.Need-slice-aggregate-say Inv-loop μ-loop
 slice-aggregate-say c = search needs

@@ -5,10 +5,10 @@ use Rattle.score.proofs.readings.say_why.Statement.{statement}
 use Rattle.score.proofs.readings.say_why.Tie as tie
 
 abbrev Inv-loop : tie.InvT-loop
-Inv-loop n chosen best counts k w first₀ i₀ first i = i ≤ n
+Inv-loop n chosen best counts k w v first₀ i₀ first i = i ≤ n
 
 abbrev μ-loop : tie.MeasureT-loop
-μ-loop n chosen best counts k w first₀ i₀ first i = n - i
+μ-loop n chosen best counts k w v first₀ i₀ first i = n - i
 
 loop-holds : tie.Need-loop-holds Inv-loop μ-loop
 loop-holds c = search needs
