@@ -27,8 +27,8 @@
  * compare two answers compare their fields, not their bytes (memcmp).
  *
  * No function keeps anything between calls or allocates memory, so any number of threads may call
- * at the same time. Of stack, the deepest calls on a million random hands used 3,081 bytes in
- * ziwhakemo_score_win, 3,017 in ziwhakemo_score_reading, 2,645 in ziwhakemo_name_waits and 725 in
+ * at the same time. Of stack, the deepest calls on a million random hands used 3,337 bytes in
+ * ziwhakemo_score_win, 3,257 in ziwhakemo_score_reading, 2,805 in ziwhakemo_name_waits and 885 in
  * ziwhakemo_list_readings. This is measured and not proved: leave some room.
  */
 #ifndef ZIWHAKEMO_H
