@@ -25,7 +25,7 @@ ARCHIVE = target/staticlib/libziwhakemo.a
 HEADERS = include/ziwhakemo.h include/ziwhakemo_names.h
 # what stands after the name in the header (a dot for the number sign, which begins a comment here)
 VERSION := $(shell sed -n 's/^.define ZIWHAKEMO_VERSION //p' include/ziwhakemo.h)
-PROGRAMS = score calls three names boundary
+PROGRAMS = score calls three book names boundary
 STANDARDS = c99 c17 c++17
 
 LIB = $(DESTDIR)$(PREFIX)/lib
@@ -58,7 +58,7 @@ examples: $(PROGRAMS:%=target/c/%.c99)
 test: $(foreach standard,$(STANDARDS),$(PROGRAMS:%=target/c/%.$(standard)))
 	set -e; for standard in $(STANDARDS); do \
 	    echo "as $$standard"; \
-	    for program in score calls three; do \
+	    for program in score calls three book; do \
 	        target/c/$$program.$$standard > target/c/$$program.out; \
 	        diff examples/c/$$program.out target/c/$$program.out; \
 	    done; \
@@ -68,7 +68,7 @@ test: $(foreach standard,$(STANDARDS),$(PROGRAMS:%=target/c/%.$(standard)))
 	done
 
 memcheck: $(PROGRAMS:%=target/c/%.c99)
-	set -e; for program in score calls three names; do \
+	set -e; for program in score calls three book names; do \
 	    valgrind --error-exitcode=9 target/c/$$program.c99 > /dev/null; \
 	done
 	valgrind --error-exitcode=9 target/c/boundary.c99 $(INPUTS)

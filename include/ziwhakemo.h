@@ -4,12 +4,14 @@
  *
  * It lists every reading of a finished hand, scores a win by the reading that pays most, scores any
  * reading by its number, names its waits, and gives level, basic points and payments. Dora are
- * counted by the indicators that come with a win. The game is that of four players; that of three
- * has functions of its own (see "Three players"). Each function is proved to answer as its
- * definition says on every input: every call comes back, and malformed input gets a number (see
- * "Refusals") instead of a score. This file is not part of the proof; examples/c/boundary.c and the
- * tests in rust/ hold it to the library. ziwhakemo_names.h, which nobody has to use, has names to
- * print: of yaku, waits, levels, settlements and refusals.
+ * counted by the indicators that come with a win. It books deals: the points of the four seats, the
+ * riichi sticks and the repeat counter stand in a book, which the caller keeps and lends (see "The
+ * seat book"). The game is that of four players; that of three has functions of its own (see "Three
+ * players"), and no book. Each function is proved to answer as its definition says on every input:
+ * every call comes back, and malformed input gets a number (see "Refusals") instead of a score.
+ * This file is not part of the proof; examples/c/boundary.c and the tests in rust/ hold it to the
+ * library. ziwhakemo_names.h, which nobody has to use, has names to print: of yaku, waits, levels,
+ * settlements and refusals.
  *
  * C99 and later, and C++. Link with libziwhakemo.a. All that the archive needs from outside is
  * memset, of any C library or your own.
@@ -20,11 +22,16 @@
  *     written through the pointer, and NULL will do.
  *   - The buffer `out` does not overlap the counts or the calls, and no other thread changes what
  *     is lent before the call returns.
+ *   - A book overlaps nothing else that is lent. It lies where its type may lie, at a multiple of
+ *     8, in memory that can be written: a refused booking may write the same bytes again. No other
+ *     thread reads it before the call returns.
  *   - A bool holds 0 or 1. C stores one of these in every assignment; memcpy or a cast may not.
- *     Bools cross this boundary in ziwhakemo_game_context, and as `is_yakuman` and `is_dealer`.
+ *     Bools cross this boundary in ziwhakemo_game_context, ziwhakemo_deal and ziwhakemo_winner, and
+ *     as `is_yakuman` and `is_dealer`.
  *
  * What an answer has between its fields, where a compiler leaves room (padding), is not written. To
- * compare two answers compare their fields, not their bytes (memcmp).
+ * compare two answers compare their fields, not their bytes (memcmp). A book has no such room:
+ * every one of its 40 bytes is a field's, and memcmp is fine on books.
  *
  * No function keeps anything between calls or allocates memory, so any number of threads may call
  * at the same time. Of stack, the deepest calls on a million random hands used 3,337 bytes in
@@ -74,8 +81,12 @@ extern "C" {
  *   7   Three players: ziwhakemo_three_list_readings, ziwhakemo_three_score_win,
  *       ziwhakemo_three_score_reading, ziwhakemo_three_name_waits and ziwhakemo_three_payment. No
  *       struct and no number changed, and the other functions answer as in version 6.
+ *   8   The seat book: ziwhakemo_new_book, ziwhakemo_book_draw and ziwhakemo_book_win, the structs
+ *       ziwhakemo_seat_book, ziwhakemo_deal and ziwhakemo_winner, and refusals 15 and 16, which no
+ *       other function has. No other struct and no other number changed, and the other functions
+ *       answer as in version 7.
  */
-#define ZIWHAKEMO_VERSION 7
+#define ZIWHAKEMO_VERSION 8
 
 /* The version of the archive. An archive of version 1 does not have this function. */
 uint32_t ziwhakemo_version(void);
@@ -199,9 +210,11 @@ typedef struct ziwhakemo_game_context {
  *
  * An answer that may be a refusal begins with `number`: 0 where the call is accepted, else the first
  * that applies of those that stand beside the function, in the order in which they stand there. That
- * is the order of the numbers, but for 14, which comes after 8 and before 9. A refusal has its
- * number, and 0 in every other field. What is refused with three players alone stands here behind
- * "three:".
+ * is the order of the numbers, but for 14, which comes after 8 and before 9, and for 15 and 16 of a
+ * booking, which come before 1; only that a dealer's win would raise a counter of 255, which is 16
+ * too, comes last. A refusal has its number, and 0 in every other field. A booking answers the
+ * number alone, and where it is refused the book is as it was. What is refused with three players
+ * alone stands here behind "three:".
  */
 enum {
     ZIWHAKEMO_ACCEPTED = 0,
@@ -221,9 +234,16 @@ enum {
     ZIWHAKEMO_REFUSED_NO_YAKU = 11,         /* no reading has a yaku */
     ZIWHAKEMO_REFUSED_NO_SUCH_READING = 12, /* there are not more readings than that number */
     ZIWHAKEMO_REFUSED_BASIC_POINTS = 13,    /* basic points above 152,000 */
-    ZIWHAKEMO_REFUSED_INDICATORS = 14       /* an indicator is above 33, or there are more than ten
+    ZIWHAKEMO_REFUSED_INDICATORS = 14,      /* an indicator is above 33, or there are more than ten
                                              * of a sort; three: there is any of either sort; comes
                                              * after 8 and before 9 */
+    ZIWHAKEMO_REFUSED_SEATS = 15,           /* a seat is above 3, or the discarder is the winner;
+                                             * comes first of all */
+    ZIWHAKEMO_REFUSED_BOOK = 16             /* the book takes no deal more: 1,024 are booked, a seat
+                                             * is beyond 1,000,000,000 points either way, or there
+                                             * are more than 4,096 sticks; or this deal would raise
+                                             * a counter of 255; comes after 15 and before 1, but of
+                                             * a dealer's win at a counter of 255 after 11 */
 };
 
 /* ---- Listing readings ---------------------------------------------------------------------------
@@ -530,6 +550,107 @@ ziwhakemo_waits_answer ziwhakemo_three_name_waits(const uint8_t *counts, size_t 
 ziwhakemo_payment_answer ziwhakemo_three_payment(uint32_t basic_points, bool is_dealer,
                                                  uint8_t win_type);
 
+/* ---- The seat book ------------------------------------------------------------------------------
+ *
+ * The points of the four seats, the riichi sticks on the table and the repeat counter (honba), from
+ * deal to deal. The caller keeps the book, lends it to each booking, and finds it altered where it
+ * is kept. A game begins with ziwhakemo_new_book, and each of its deals is booked once, by
+ * ziwhakemo_book_draw or ziwhakemo_book_win.
+ *
+ * The book is of four players only. Nothing that is lent says which game is played: a win at a
+ * table of three, if it is booked, is scored and paid as with four.
+ *
+ * Seats are 0 to 3 in turn order: 0, 1, 2, 3, 0. A seat keeps its number when the deal passes on.
+ * What a booking does where it is accepted:
+ *
+ *                        draw                win by tsumo             win by ron
+ *   each seat that       puts one stick of   the same                 the same
+ *   declared riichi      1,000 points on
+ *                        the table
+ *   the hand             moves nothing       the others pay the       the discarder pays the
+ *                                            winner what              winner what
+ *                                            ziwhakemo_score_win      ziwhakemo_score_win
+ *                                            says                     says
+ *   for each repeat      nothing             each of the three        the discarder pays the
+ *   counter before                           others pays the winner   winner 300
+ *   this deal                                100
+ *   sticks               stay on the table   all go to the winner,    the same
+ *                                            this deal's too
+ *   counter              rises by one        rises by one if the      the same
+ *                                            winner is the dealer,
+ *                                            else returns to 0
+ *   deals                rises by one        the same                 the same
+ *
+ * So points are moved and never made: the points of the four seats and 1,000 for each stick add up
+ * to the same before and after any booking, on any book. Over any bookings from a new book:
+ *   - that sum is 100,000;
+ *   - `sticks` are those declared in the accepted deals after the last win;
+ *   - `counter` is the number of accepted deals since the last win of another than the dealer;
+ *   - `deals` is the number of accepted deals.
+ *
+ * Of the book a booking checks the limits (refusal 16) and nothing else: within them any book is
+ * taken, one that was set by hand too. A deal is not compared with the one before: the caller says
+ * who deals. A seat may declare riichi with any points, and may fall below zero.
+ */
+
+/* The figures of the book. */
+#define ZIWHAKEMO_SEATS 4
+#define ZIWHAKEMO_START_POINTS 25000     /* what each seat starts with */
+#define ZIWHAKEMO_STICK_POINTS 1000      /* what a riichi stick is worth */
+#define ZIWHAKEMO_MOST_DEALS 1024        /* a book with so many deals takes no other */
+#define ZIWHAKEMO_MOST_STICKS 4096       /* a book with more sticks takes no deal */
+#define ZIWHAKEMO_MOST_POINTS 1000000000 /* a book with a seat beyond, either way, takes no deal */
+#define ZIWHAKEMO_MOST_COUNTER 255       /* a deal that would raise this counter is not taken */
+
+/* The book of a table. It is 40 bytes long, and what each byte holds after any booking is said
+ * here, so a book may be compared, copied and stored by its bytes. */
+typedef struct ziwhakemo_seat_book {
+    int64_t points[ZIWHAKEMO_SEATS]; /* of seats 0 to 3; may be below zero */
+    uint32_t sticks;                 /* the riichi sticks on the table */
+    uint16_t deals;                  /* how many deals are booked */
+    uint8_t counter;                 /* the repeat counter (honba) */
+    uint8_t reserved;                /* 0 in a new book; every booking keeps it. It is there so that
+                                      * the book has no padding */
+} ziwhakemo_seat_book;
+
+/* A deal. Each bool must be 0 or 1. It is 5 bytes long. */
+typedef struct ziwhakemo_deal {
+    uint8_t dealer;                 /* the dealer's seat */
+    bool declared[ZIWHAKEMO_SEATS]; /* which of seats 0 to 3 declared riichi */
+} ziwhakemo_deal;
+
+/* Who won, and on whose discard. The bool must be 0 or 1. It is 3 bytes long. */
+typedef struct ziwhakemo_winner {
+    uint8_t seat;       /* the winner's seat */
+    bool has_discarder; /* set: the win is by ron; not set: by tsumo */
+    uint8_t discarder;  /* the discarder's seat; by tsumo it is not read */
+} ziwhakemo_winner;
+
+/* A book in which nothing is booked: each seat has 25,000 points, and every other field is 0. */
+ziwhakemo_seat_book ziwhakemo_new_book(void);
+
+/* Books a deal that ended in a draw. Answers 0, or the number of the refusal, with all 40 bytes of
+ * the book as they were. Refuses with 15 (the dealer's seat) and 16 (a counter of 255 too). */
+uint32_t ziwhakemo_book_draw(ziwhakemo_seat_book *book, ziwhakemo_deal deal);
+
+/* Books a deal that ended in a win. Answers 0, or the number of the refusal, with all 40 bytes of
+ * the book as they were.
+ *
+ * The win is scored with four players, as ziwhakemo_score_win does, but that `win_type` and
+ * `seat_wind` of `win` are not read, and any byte will do. The win is by ron where there is a
+ * discarder, else by tsumo. The winner's seat wind is ZIWHAKEMO_EAST + (seat + 4 - dealer) % 4: the
+ * dealer is East, the next seat South, the one across West, the one before North. A caller that
+ * shows the score as well sets these two and asks ziwhakemo_score_win. `is_riichi` is not compared
+ * with the seats that declared.
+ *
+ * Refuses with 15 (dealer, winner, and the discarder where there is one), 16, 1 to 6, 8 (the round
+ * wind or double_wind_fu), 14, 9, 10, 11, and with 16 again where the dealer's win scores and would
+ * raise a counter of 255. At that counter another's win is booked and returns it to 0. */
+uint32_t ziwhakemo_book_win(ziwhakemo_seat_book *book, const uint8_t *counts, size_t counts_length,
+                            const ziwhakemo_meld *calls, size_t calls_length,
+                            ziwhakemo_game_context win, ziwhakemo_deal deal,
+                            ziwhakemo_winner winner);
+
 /* ---- Layout -------------------------------------------------------------------------------------
  *
  * The sizes of these structs in the library, and where some of their fields stand. Where a compiler
@@ -557,6 +678,19 @@ ZIWHAKEMO_STANDS(ziwhakemo_score_answer, ura_dora, 69);
 ZIWHAKEMO_STANDS(ziwhakemo_score_answer, basic_points, 72);
 ZIWHAKEMO_STANDS(ziwhakemo_score_answer, total, 88);
 ZIWHAKEMO_FITS(ziwhakemo_waits_answer, 12);
+ZIWHAKEMO_FITS(ziwhakemo_seat_book, 40);
+ZIWHAKEMO_STANDS(ziwhakemo_seat_book, points, 0);
+ZIWHAKEMO_STANDS(ziwhakemo_seat_book, sticks, 32);
+ZIWHAKEMO_STANDS(ziwhakemo_seat_book, deals, 36);
+ZIWHAKEMO_STANDS(ziwhakemo_seat_book, counter, 38);
+ZIWHAKEMO_STANDS(ziwhakemo_seat_book, reserved, 39);
+ZIWHAKEMO_FITS(ziwhakemo_deal, 5);
+ZIWHAKEMO_STANDS(ziwhakemo_deal, dealer, 0);
+ZIWHAKEMO_STANDS(ziwhakemo_deal, declared, 1);
+ZIWHAKEMO_FITS(ziwhakemo_winner, 3);
+ZIWHAKEMO_STANDS(ziwhakemo_winner, seat, 0);
+ZIWHAKEMO_STANDS(ziwhakemo_winner, has_discarder, 1);
+ZIWHAKEMO_STANDS(ziwhakemo_winner, discarder, 2);
 #undef ZIWHAKEMO_FITS
 #undef ZIWHAKEMO_STANDS
 

@@ -104,9 +104,9 @@ static inline const char *ziwhakemo_settlement_name(uint32_t settlement) {
     return settlement <= ZIWHAKEMO_SETTLEMENT_TSUMO ? names[settlement] : "?";
 }
 
-/* What the number of an answer means, ZIWHAKEMO_ACCEPTED to ZIWHAKEMO_REFUSED_INDICATORS. */
+/* What the number of an answer means, ZIWHAKEMO_ACCEPTED to ZIWHAKEMO_REFUSED_BOOK. */
 static inline const char *ziwhakemo_number_meaning(uint32_t number) {
-    static const char *const meanings[ZIWHAKEMO_REFUSED_INDICATORS + 1] = {
+    static const char *const meanings[ZIWHAKEMO_REFUSED_BOOK + 1] = {
         "accepted",
         "the counts are not 34 long",
         "more than four calls",
@@ -121,9 +121,11 @@ static inline const char *ziwhakemo_number_meaning(uint32_t number) {
         "no reading has a yaku",
         "there are not more readings than that number",
         "basic points above 152,000",
-        "an indicator is above 33, there are more than ten, or one with three players"
+        "an indicator is above 33, there are more than ten, or one with three players",
+        "a seat is above 3, or the discarder is the winner",
+        "the book takes no deal more, or its counter would pass 255"
     };
-    return number <= ZIWHAKEMO_REFUSED_INDICATORS ? meanings[number] : "?";
+    return number <= ZIWHAKEMO_REFUSED_BOOK ? meanings[number] : "?";
 }
 
 #ifdef __cplusplus

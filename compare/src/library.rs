@@ -1,10 +1,10 @@
 //! The proved library, by its C interface.
 
-use crate::hand::KINDS;
+use crate::hand::{Hand, KINDS};
 use crate::rng::Rng;
 
 /// The version of the interface that is declared here.
-pub const VERSION: u32 = 7;
+pub const VERSION: u32 = 8;
 
 /// The number of yaku tallies: one for each entry of `Yaku`, Yakuhai apart for each honour, without
 /// the three local entries.
@@ -26,6 +26,9 @@ pub const MOST_INDICATORS: usize = 10;
 
 /// A buffer of so many bytes always suffices for the records of a hand.
 pub const ALWAYS_ENOUGH: usize = 1915;
+
+/// The number of seats at a table of four players.
+pub const SEATS: usize = 4;
 
 /// The number of mixtures of win type, winds and flags.
 pub const MIXTURES: usize = 2 * 4 * 4 * 256;
@@ -295,6 +298,41 @@ pub struct Waits {
     pub waits: [u8; WAITS],
 }
 
+/// A seat book: the points of seats 0 to 3, the riichi sticks on the table, how many deals are
+/// booked, the repeat counter, and a byte that every booking keeps. All of its 40 bytes are named.
+#[repr(C)]
+#[derive(Clone, Copy, Debug, PartialEq, Eq)]
+pub struct SeatBook {
+    pub points: [i64; SEATS],
+    pub sticks: u32,
+    pub deals: u16,
+    pub counter: u8,
+    pub reserved: u8,
+}
+
+impl SeatBook {
+    /// The number of its bytes, as they are lent.
+    pub const BYTES: usize = size_of::<SeatBook>();
+}
+
+/// A deal: the dealer's seat, and which seats declared riichi.
+#[repr(C)]
+#[derive(Clone, Copy, Debug, PartialEq, Eq)]
+pub struct Deal {
+    pub dealer: u8,
+    pub declared: [bool; SEATS],
+}
+
+/// Who won a deal, and at ron on whose tile. By tsumo there is no discarder, and the last byte must
+/// not matter.
+#[repr(C)]
+#[derive(Clone, Copy, Debug, PartialEq, Eq)]
+pub struct Winner {
+    pub seat: u8,
+    pub has_discarder: bool,
+    pub discarder: u8,
+}
+
 unsafe extern "C" {
     fn ziwhakemo_version() -> u32;
     pub fn ziwhakemo_list_readings(
@@ -363,16 +401,29 @@ unsafe extern "C" {
         number: usize,
     ) -> Waits;
     fn ziwhakemo_three_payment(basic_points: u32, is_dealer: bool, win_type: u8) -> PaymentAnswer;
+    fn ziwhakemo_new_book() -> SeatBook;
+    pub fn ziwhakemo_book_draw(book: *mut SeatBook, deal: Deal) -> u32;
+    pub fn ziwhakemo_book_win(
+        book: *mut SeatBook,
+        counts: *const u8,
+        counts_len: usize,
+        calls: *const Meld,
+        calls_len: usize,
+        win: Win,
+        deal: Deal,
+        winner: Winner,
+    ) -> u32;
 }
 
-// The library asks nothing of its input beyond slices that may be read, and one that may be written.
+// The library asks nothing of its input beyond slices that may be read, and one that may be
+// written; of a booking beyond a book that may be read and written and overlaps nothing else.
 
 /// As many calls as are lent where there are more than four.
 const MOST_LENT: usize = 300;
 
 /// Lends the calls as a slice of melds. What stands behind up to four of them in memory means nothing; of more than four the first four
 /// are the hand's.
-fn lend<T>(calls: &Calls, ask: impl FnOnce(*const Meld, usize) -> T) -> T {
+pub(crate) fn lend<T>(calls: &Calls, ask: impl FnOnce(*const Meld, usize) -> T) -> T {
     if let Some(melds) = calls.melds.get(..calls.count) {
         return ask(melds.as_ptr(), melds.len());
     }
@@ -485,6 +536,25 @@ pub fn three_payment(basic_points: u32, is_dealer: bool, win_type: u8) -> Paymen
     unsafe { ziwhakemo_three_payment(basic_points, is_dealer, win_type) }
 }
 
+/// A new book.
+pub fn new_book() -> SeatBook {
+    unsafe { ziwhakemo_new_book() }
+}
+
+/// Books a draw, and answers its number.
+pub fn book_draw(book: &mut SeatBook, deal: Deal) -> u32 {
+    unsafe { ziwhakemo_book_draw(book, deal) }
+}
+
+/// Books a win of this hand, and answers its number.
+pub fn book_win(book: &mut SeatBook, hand: &Hand, win: Win, deal: Deal, winner: Winner) -> u32 {
+    let counts = hand.counts();
+    let (place, length) = (counts.as_ptr(), counts.len());
+    lend(&hand.calls, |melds, called| unsafe {
+        ziwhakemo_book_win(book, place, length, melds, called, win, deal, winner)
+    })
+}
+
 #[cfg(test)]
 mod tests {
     use super::*;
@@ -526,6 +596,20 @@ mod tests {
         assert_eq!(offset_of!(Score, ura_dora), 69);
         assert_eq!(offset_of!(Score, basic_points), 72);
         assert_eq!(offset_of!(Score, total), 88);
+    }
+
+    #[test]
+    fn a_book_is_40_bytes_a_deal_5_and_a_winner_3() {
+        assert_eq!((size_of::<SeatBook>(), align_of::<SeatBook>()), (40, 8));
+        assert_eq!(offset_of!(SeatBook, points), 0);
+        assert_eq!(offset_of!(SeatBook, sticks), 32);
+        assert_eq!(offset_of!(SeatBook, deals), 36);
+        assert_eq!(offset_of!(SeatBook, counter), 38);
+        assert_eq!(offset_of!(SeatBook, reserved), 39);
+        assert_eq!((size_of::<Deal>(), align_of::<Deal>()), (5, 1));
+        assert_eq!(offset_of!(Deal, declared), 1);
+        assert_eq!((size_of::<Winner>(), align_of::<Winner>()), (3, 1));
+        assert_eq!(offset_of!(Winner, discarder), 2);
     }
 
     #[test]

@@ -1,7 +1,7 @@
 //! Compares the proved library with agari-core.
 
 use compare::arguments::{self, Options};
-use compare::{points, readings, scored_wins, scores, sources, three, twins};
+use compare::{books, points, readings, scored_wins, scores, sources, three, twins};
 use std::process::ExitCode;
 use std::time::Duration;
 
@@ -12,7 +12,8 @@ const USAGE: &str = "usage: compare readings [--seed N] [--random N] [--suit] [-
        compare twins [--seed N] [--random N] [--winds [N]]
        compare sources [--seed N] [--pairs N]
        compare three [--seed N] [--random N] [--damaged [N]] [--twins [N]]
-               [--payments] [--sources] [--suit] [--mixed SECONDS]";
+               [--payments] [--sources] [--suit] [--mixed SECONDS]
+       compare books [--seed N] [--random N]";
 const SEED: u64 = 1;
 const RANDOM_HANDS: u64 = 5_000_000;
 const MIXED_SECONDS: u64 = 600;
@@ -26,6 +27,7 @@ const SOURCE_PAIRS: u64 = 2_000_000;
 const THREE_WINS: u64 = 5_000_000;
 const THREE_DAMAGED: u64 = 3_000_000;
 const THREE_TWINS: u64 = 1_000_000;
+const BOOK_HISTORIES: u64 = 1_000_000;
 
 fn main() -> ExitCode {
     arguments::run(USAGE, |words| {
@@ -49,6 +51,7 @@ fn compare(words: &[&str]) -> Option<u64> {
         "twins" => compare_twins(words),
         "sources" => compare_sources(words),
         "three" => compare_three(words),
+        "books" => compare_books(words),
         _ => None,
     }
 }
@@ -159,4 +162,12 @@ fn compare_three(words: &[&str]) -> Option<u64> {
         options.mixed = Some(Duration::from_secs(MIXED_SECONDS));
     }
     Some(three::compare(&options))
+}
+
+fn compare_books(words: &[&str]) -> Option<u64> {
+    let given = Options::read(words, &["--seed", "--random"], &[])?;
+    Some(books::compare(&books::Options {
+        seed: given.number("--seed").unwrap_or(SEED),
+        histories: given.number("--random").unwrap_or(BOOK_HISTORIES),
+    }))
 }

@@ -2,10 +2,12 @@
    answer to what can be said of it without scoring: the refusals, the bytes, the calls among the
    melds, the dora, the choice among the readings, what the room's setting and the indicators change,
    that the sources of the calls change nothing else, and that the functions for three players refuse
-   what they have to and else answer as those for four, but for the total. Whatever is lent is
-   allocated at exactly its size, so that valgrind sees every read or write outside of it. Before
-   them, single hands: one under every setting, some with dora, one with a call of every kind and
-   source, and one with what three players alone are refused. In the root:
+   what they have to and else answer as those for four, but for the total. A booking is held to the
+   book that follows from the score, byte for byte, and to the book as it was where it is refused.
+   Whatever is lent is allocated at exactly its size, so that valgrind sees every read or write
+   outside of it. Before them, single hands: one under every setting, some with dora, one with a
+   call of every kind and source, one with what three players alone are refused, and one that is
+   booked with every byte for a seat and at every limit of a book. In the root:
 
      cc -std=c99 -O1 -g -Iinclude examples/c/boundary.c target/staticlib/libziwhakemo.a \
          -o target/boundary
@@ -13,16 +15,17 @@
      valgrind --error-exitcode=9 target/boundary 1000000
 
    The first argument is the number of inputs, the second the seed (1 without it). An input is a
-   hand, its calls, a win, a number of a reading, a number of bytes to lend, han, fu and basic points;
-   each is given to all functions. It exits with status 1 where an answer is wrong, and where of
-   10,000 inputs or more none was refused with a number that a function has. */
+   hand, its calls, a win, a number of a reading, a number of bytes to lend, han, fu, basic points,
+   a book, a deal and its winner; each is given to all functions. It exits with status 1 where an
+   answer is wrong, and where of 10,000 inputs or more none was refused with a number that a
+   function has. */
 #include "ziwhakemo.h"
 #include <stdio.h>
 #include <stdlib.h>
 #include <string.h>
 
 enum { MOST_COUNTS = 40, MOST_CALLS = 6, MOST_BYTES = 120, GUARD = 64 };
-enum { NUMBERS = 15, MANY = 5, ENOUGH = 10000 };
+enum { NUMBERS = 17, MANY = 5, ENOUGH = 10000 };
 enum { FIRST_MELD = 5 }; /* where the melds of a standard record begin */
 
 /* ---- Random numbers (splitmix64) ---- */
@@ -62,6 +65,9 @@ typedef struct {
     uint8_t han, fu;
     bool flag;
     uint32_t basic_points;
+    ziwhakemo_seat_book book;
+    ziwhakemo_deal deal;
+    ziwhakemo_winner winner;
 } input;
 
 /* ---- The checks ---- */
@@ -414,6 +420,55 @@ static void damage(input *in) {
     }
 }
 
+/* A number near another: up to three below it, up to three above. */
+static int64_t near_to(int64_t number) {
+    return number - 3 + below(7);
+}
+
+/* The points of a seat: mostly those of a game, else at a limit, near one, or any. */
+static int64_t draw_points(void) {
+    int64_t limit = percent(50) ? ZIWHAKEMO_MOST_POINTS : -ZIWHAKEMO_MOST_POINTS;
+    unsigned kind = below(100);
+    if (kind < 75) return (int64_t)below(200000) - 50000;
+    if (kind < 90) return limit;
+    if (kind < 97) return near_to(limit);
+    return (int64_t)(percent(50) ? word() : (uint64_t)1 << below(64));
+}
+
+/* A new book, or one in which each field may be near its limit or anything. */
+static ziwhakemo_seat_book draw_book(void) {
+    ziwhakemo_seat_book book = ziwhakemo_new_book();
+    if (percent(20)) return book;
+    for (int i = 0; i < ZIWHAKEMO_SEATS; i++) book.points[i] = draw_points();
+    book.sticks = below(10);
+    if (percent(15)) book.sticks = (uint32_t)near_to(ZIWHAKEMO_MOST_STICKS);
+    if (percent(3)) book.sticks = (uint32_t)word();
+    book.deals = (uint16_t)below(ZIWHAKEMO_MOST_DEALS);
+    if (percent(15)) book.deals = (uint16_t)near_to(ZIWHAKEMO_MOST_DEALS);
+    if (percent(3)) book.deals = (uint16_t)word();
+    book.counter = percent(50) ? (uint8_t)below(8) : byte();
+    if (percent(25)) book.counter = (uint8_t)(ZIWHAKEMO_MOST_COUNTER - below(3));
+    book.reserved = percent(50) ? 0 : byte();
+    return book;
+}
+
+/* Mostly a seat, and sometimes any byte. */
+static uint8_t draw_seat(void) {
+    if (percent(95)) return (uint8_t)below(ZIWHAKEMO_SEATS);
+    return percent(50) ? ZIWHAKEMO_SEATS : byte();
+}
+
+/* A deal and its winner. By tsumo any byte stands for the discarder. */
+static void draw_deal(input *in) {
+    unsigned share = below(3) * 40;
+    ziwhakemo_winner *winner = &in->winner;
+    in->deal.dealer = draw_seat();
+    for (int i = 0; i < ZIWHAKEMO_SEATS; i++) in->deal.declared[i] = percent(share);
+    winner->seat = percent(30) ? in->deal.dealer : draw_seat();
+    winner->has_discarder = percent(50);
+    winner->discarder = winner->has_discarder ? draw_seat() : byte();
+}
+
 static input draw_input(void) {
     input in;
     bool may_hold_five = percent(10);
@@ -428,6 +483,8 @@ static input draw_input(void) {
     in.fu = byte();
     in.flag = percent(50);
     in.basic_points = percent(50) ? below(160000) : (uint32_t)word();
+    in.book = draw_book();
+    draw_deal(&in);
     return in;
 }
 
@@ -438,6 +495,18 @@ static uint64_t wrong;
 static void print_indicators(const char *name, const ziwhakemo_indicators *shown) {
     printf("\n  %s (%d):", name, shown->count);
     for (int i = 0; i < ZIWHAKEMO_INDICATORS; i++) printf(" %d", shown->tiles[i]);
+}
+
+static void print_booking(const input *in) {
+    const ziwhakemo_seat_book *book = &in->book;
+    printf("  book:");
+    for (int i = 0; i < ZIWHAKEMO_SEATS; i++) printf(" %ld", (long)book->points[i]);
+    printf(", sticks %lu, deals %d, counter %d, reserved %d\n  dealer %d, declared",
+           (unsigned long)book->sticks, book->deals, book->counter, book->reserved,
+           in->deal.dealer);
+    for (int i = 0; i < ZIWHAKEMO_SEATS; i++) printf(" %d", in->deal.declared[i]);
+    printf(", winner %d, discarder %d %d\n", in->winner.seat, in->winner.has_discarder,
+           in->winner.discarder);
 }
 
 static void hold(bool good, const char *what, const input *in) {
@@ -453,6 +522,7 @@ static void hold(bool good, const char *what, const input *in) {
         printf("\n  win %d by %d, winds %d %d, riichi %d, setting %d, reading %zu, %zu bytes\n",
                in->win.win_type, in->win.winning_tile, in->win.round_wind, in->win.seat_wind,
                in->win.is_riichi, in->win.double_wind_fu, in->reading, in->out_length);
+        print_booking(in);
     }
 }
 
@@ -1413,6 +1483,446 @@ static void three_players(void) {
     }
 }
 
+/* ---- The book ---- */
+
+static uint64_t drawn[NUMBERS], booked[NUMBERS], book_settled[NUMBERS];
+static uint64_t full_counters, games, game_deals;
+
+/* What a payer adds for each repeat counter. */
+enum { ADDED_BY_TSUMO = 100, ADDED_BY_RON = 300 };
+
+/* What a booking has to answer, and the book after it. */
+typedef struct {
+    unsigned number;
+    ziwhakemo_seat_book book;
+} booking;
+
+/* All points of a book: those of the seats, and of the sticks. Modulo 2 to the 64th, so that it can
+   be said of any book. */
+static uint64_t all_points(const ziwhakemo_seat_book *book) {
+    uint64_t sum = (uint64_t)ZIWHAKEMO_STICK_POINTS * book->sticks;
+    for (int i = 0; i < ZIWHAKEMO_SEATS; i++) sum += (uint64_t)book->points[i];
+    return sum;
+}
+
+static bool same_book(const ziwhakemo_seat_book *a, const ziwhakemo_seat_book *b) {
+    return memcmp(a, b, sizeof *a) == 0;
+}
+
+/* Are all seats that are read seats, and is the discarder another than the winner? */
+static bool are_seats(const input *in, bool is_win) {
+    ziwhakemo_winner winner = in->winner;
+    if (in->deal.dealer >= ZIWHAKEMO_SEATS) return false;
+    if (!is_win) return true;
+    if (winner.seat >= ZIWHAKEMO_SEATS) return false;
+    if (!winner.has_discarder) return true;
+    return winner.discarder < ZIWHAKEMO_SEATS && winner.discarder != winner.seat;
+}
+
+static bool is_within_limits(const ziwhakemo_seat_book *book) {
+    for (int i = 0; i < ZIWHAKEMO_SEATS; i++) {
+        if (book->points[i] > ZIWHAKEMO_MOST_POINTS) return false;
+        if (book->points[i] < -ZIWHAKEMO_MOST_POINTS) return false;
+    }
+    return book->deals < ZIWHAKEMO_MOST_DEALS && book->sticks <= ZIWHAKEMO_MOST_STICKS;
+}
+
+/* The first of the checks 15 and 16 that fails before a win is scored, or 0. */
+static unsigned book_check(const input *in, bool is_win) {
+    if (!are_seats(in, is_win)) return 15;
+    if (!is_within_limits(&in->book)) return 16;
+    return !is_win && in->book.counter == ZIWHAKEMO_MOST_COUNTER ? 16 : 0;
+}
+
+/* The win with win type and seat wind as the seats say, which pass check 15. */
+static input seated(const input *in) {
+    input other = *in;
+    other.win.win_type = in->winner.has_discarder ? ZIWHAKEMO_RON : ZIWHAKEMO_TSUMO;
+    other.win.seat_wind =
+        (uint8_t)(ZIWHAKEMO_EAST + (in->winner.seat + 4 - in->deal.dealer) % ZIWHAKEMO_SEATS);
+    return other;
+}
+
+/* Each seat that declared puts a stick on the table. */
+static void put_sticks(ziwhakemo_seat_book *book, const ziwhakemo_deal *deal) {
+    for (int i = 0; i < ZIWHAKEMO_SEATS; i++) {
+        if (!deal->declared[i]) continue;
+        book->points[i] -= ZIWHAKEMO_STICK_POINTS;
+        book->sticks++;
+    }
+}
+
+/* What a seat pays for a win: its part of the score, and of the counter. */
+static int64_t share_of(const input *in, const ziwhakemo_score_answer *score, uint8_t seat) {
+    int64_t counter = in->book.counter;
+    bool by_ron = in->winner.has_discarder;
+    if (seat == in->winner.seat) return 0;
+    if (by_ron && seat != in->winner.discarder) return 0;
+    if (by_ron) return score->from_discarder + ADDED_BY_RON * counter;
+    uint32_t hand = seat == in->deal.dealer ? score->from_dealer : score->from_non_dealer;
+    return hand + ADDED_BY_TSUMO * counter;
+}
+
+/* The book after a draw, on a book that takes it. */
+static ziwhakemo_seat_book after_draw(const input *in) {
+    ziwhakemo_seat_book book = in->book;
+    put_sticks(&book, &in->deal);
+    book.counter++;
+    book.deals++;
+    return book;
+}
+
+/* The book after a win with this score, on a book that takes it. */
+static ziwhakemo_seat_book after_win(const input *in, const ziwhakemo_score_answer *score) {
+    ziwhakemo_seat_book book = in->book;
+    int64_t *winner = &book.points[in->winner.seat];
+    put_sticks(&book, &in->deal);
+    for (uint8_t seat = 0; seat < ZIWHAKEMO_SEATS; seat++) {
+        book.points[seat] -= share_of(in, score, seat);
+        *winner += share_of(in, score, seat);
+    }
+    *winner += (int64_t)ZIWHAKEMO_STICK_POINTS * book.sticks;
+    book.sticks = 0;
+    book.counter = (uint8_t)(in->winner.seat == in->deal.dealer ? book.counter + 1 : 0);
+    book.deals++;
+    return book;
+}
+
+static booking expected_draw(const input *in) {
+    booking b = {book_check(in, false), in->book};
+    if (b.number == 0) b.book = after_draw(in);
+    return b;
+}
+
+/* The win is scored by ziwhakemo_score_win, which is asked as the seats say. */
+static booking expected_win(const input *in, lent from) {
+    booking b = {book_check(in, true), in->book};
+    if (b.number != 0) return b;
+    input as_seated = seated(in);
+    unsigned number = win_check(&as_seated);
+    ziwhakemo_score_answer score = ziwhakemo_score_win(from.counts, in->counts_length, from.calls,
+                                                       in->calls_length, as_seated.win);
+    if (number == 0 && score.number != 0) number = score.number == 10 ? 10 : 11;
+    hold_score(&as_seated, &score, number, score.reading);
+    bool is_dealer = in->winner.seat == in->deal.dealer;
+    bool is_full = is_dealer && in->book.counter == ZIWHAKEMO_MOST_COUNTER;
+    b.number = number == 0 && is_full ? 16 : number;
+    if (b.number == 0) b.book = after_win(in, &score);
+    return b;
+}
+
+static booking expected_booking(const input *in, lent from, bool is_win) {
+    return is_win ? expected_win(in, from) : expected_draw(in);
+}
+
+/* Any win type and seat wind, which no booking reads: often some that could be meant, of another
+   seat. */
+static void fill_not_read(ziwhakemo_game_context *win) {
+    win->win_type = percent(50) ? (uint8_t)below(2) : byte();
+    win->seat_wind = percent(50) ? wind() : byte();
+}
+
+/* Books, and answers the number. */
+static uint32_t book_deal(ziwhakemo_seat_book *book, const input *in, lent from, bool is_win) {
+    ziwhakemo_game_context win = in->win;
+    fill_not_read(&win);
+    if (!is_win) return ziwhakemo_book_draw(book, in->deal);
+    return ziwhakemo_book_win(book, from.counts, in->counts_length, from.calls, in->calls_length,
+                              win, in->deal, in->winner);
+}
+
+/* Is it the number, and are all 40 bytes those of the book? A refused booking has to leave them as
+   they were, and any has to keep the points. */
+static void hold_book(const input *in, const booking *expected, uint32_t number,
+                      const ziwhakemo_seat_book *book) {
+    hold(number == expected->number, "the number of a booking", in);
+    hold(number == 0 || same_book(book, &in->book), "a refused booking changed the book", in);
+    hold(same_book(book, &expected->book), "the book after a booking", in);
+    hold(all_points(book) == all_points(&in->book), "the sum of points and sticks", in);
+}
+
+/* Books in a book with bytes on both sides of it that have to stay. */
+static void book_guarded(const input *in, lent from, const booking *expected, bool is_win) {
+    static struct {
+        uint8_t low[GUARD];
+        ziwhakemo_seat_book book;
+        uint8_t high[GUARD];
+    } block;
+    bool stays = true;
+    memset(&block, 0xa5, sizeof block);
+    block.book = in->book;
+    uint32_t number = book_deal(&block.book, in, from, is_win);
+    for (int i = 0; i < GUARD; i++)
+        stays = stays && block.low[i] == 0xa5 && block.high[i] == 0xa5;
+    hold(stays, "a byte beside the book changed", in);
+    hold_book(in, expected, number, &block.book);
+}
+
+/* Books in a book that is lent at exactly its size. */
+static void book_exactly(const input *in, lent from, const booking *expected, bool is_win) {
+    ziwhakemo_seat_book *book = (ziwhakemo_seat_book *)lend(&in->book, sizeof in->book);
+    uint32_t number = book_deal(book, in, from, is_win);
+    hold_book(in, expected, number, book);
+    free(book);
+}
+
+/* Counts a win that was booked by who paid, and one that the counter alone keeps from it. */
+static void count_win(const input *in, unsigned number) {
+    bool is_dealer = in->winner.seat == in->deal.dealer;
+    uint8_t win_type = in->winner.has_discarder ? ZIWHAKEMO_RON : ZIWHAKEMO_TSUMO;
+    booked[number]++;
+    if (number == 0) book_settled[settlement(win_type, is_dealer)]++;
+    if (number == 16 && book_check(in, true) == 0) full_counters++;
+}
+
+/* Both bookings of what was drawn. */
+static void book_both(const input *in, lent from) {
+    for (int is_win = 0; is_win < 2; is_win++) {
+        booking expected = expected_booking(in, from, is_win);
+        book_guarded(in, from, &expected, is_win);
+        book_exactly(in, from, &expected, is_win);
+        if (is_win) count_win(in, expected.number);
+        else drawn[expected.number]++;
+    }
+}
+
+/* ---- Games from a new book ---- */
+
+/* A game, and what its accepted bookings say of the book: how many there were, how many sticks were
+   declared after the last win, and how many there were after the last win of another than the
+   dealer. */
+typedef struct {
+    ziwhakemo_seat_book book;
+    unsigned deals, sticks, counter;
+} game;
+
+static game new_game(void) {
+    game g = {ziwhakemo_new_book(), 0, 0, 0};
+    return g;
+}
+
+static void remember(game *g, const input *in, bool is_win) {
+    bool is_dealer = in->winner.seat == in->deal.dealer;
+    g->deals++;
+    for (int i = 0; i < ZIWHAKEMO_SEATS; i++) g->sticks += in->deal.declared[i];
+    if (is_win) g->sticks = 0;
+    g->counter = is_win && !is_dealer ? 0 : g->counter + 1;
+}
+
+/* Books a deal of a game, whose book is to be what the accepted bookings say. Answers the number
+   that was expected. */
+static unsigned play(game *g, input in, lent from, bool is_win) {
+    const ziwhakemo_seat_book *book = &g->book;
+    in.book = g->book;
+    booking expected = expected_booking(&in, from, is_win);
+    uint32_t number = book_deal(&g->book, &in, from, is_win);
+    hold_book(&in, &expected, number, book);
+    if (number == 0) remember(g, &in, is_win);
+    hold(all_points(book) == (uint64_t)ZIWHAKEMO_SEATS * ZIWHAKEMO_START_POINTS,
+         "the sum of a game", &in);
+    hold(book->deals == g->deals && book->sticks == g->sticks && book->counter == g->counter &&
+             book->reserved == 0,
+         "the book of a game", &in);
+    return expected.number;
+}
+
+/* What was drawn is booked as a deal of the game that goes on. A full book ends it. */
+static void go_on(const input *in, lent from) {
+    static game g;
+    static bool is_on = false;
+    if (!is_on) {
+        g = new_game();
+        games++;
+    }
+    unsigned number = play(&g, *in, from, percent(50));
+    if (number == 0) game_deals++;
+    is_on = number != 16;
+}
+
+/* ---- Single bookings ---- */
+
+/* Lends what stands in an input. */
+static lent lend_as_is(input *in) {
+    lent from = {in->counts, in->calls};
+    return from;
+}
+
+/* The number is this one, and the book is what follows from it. */
+static void hold_deal(input in, bool is_win, unsigned number) {
+    lent from = lend_as_is(&in);
+    booking expected = expected_booking(&in, from, is_win);
+    hold(expected.number == number, "the expected number of a booking", &in);
+    book_guarded(&in, from, &expected, is_win);
+}
+
+/* A win on the last tile, which has a yaku by ron and by tsumo, for any seat. On a new book, in a
+   deal of seat 0 in which seats 1 and 2 declared riichi. */
+static input on_new_book(uint8_t seat, bool has_discarder, uint8_t discarder) {
+    static const ziwhakemo_deal deal = {0, {false, true, true, false}};
+    input in = pair_of_east(ZIWHAKEMO_DOUBLE_WIND_FU_FOUR);
+    in.win.is_last_tile = true;
+    in.book = ziwhakemo_new_book();
+    in.deal = deal;
+    in.winner.seat = seat;
+    in.winner.has_discarder = has_discarder;
+    in.winner.discarder = discarder;
+    return in;
+}
+
+/* Each byte of a new book, as it is said. */
+static void new_books(void) {
+    static const uint8_t zeros[sizeof(ziwhakemo_seat_book)] = {0};
+    input in = on_new_book(0, false, 0);
+    size_t rest = offsetof(ziwhakemo_seat_book, sticks);
+    for (int i = 0; i < ZIWHAKEMO_SEATS; i++)
+        hold(in.book.points[i] == 25000, "the points of a new book", &in);
+    hold(same((const uint8_t *)&in.book + rest, zeros, sizeof in.book - rest),
+         "a new book with more than points", &in);
+}
+
+/* Three seats, the discarder given or not: a win is taken exactly where this says so, and a draw by
+   the dealer alone. */
+static void hold_seats(unsigned dealer, unsigned seat, unsigned discarder) {
+    for (int given = 0; given < 2; given++) {
+        input in = on_new_book((uint8_t)seat, given, (uint8_t)discarder);
+        bool good = dealer < 4 && seat < 4 && (!given || (discarder < 4 && discarder != seat));
+        in.deal.dealer = (uint8_t)dealer;
+        hold_deal(in, true, good ? 0 : 15);
+        hold_deal(in, false, dealer < 4 ? 0 : 15);
+    }
+}
+
+/* Each of the 256 bytes for each seat, with all seats for the two others. */
+static void seat_bytes(void) {
+    for (unsigned n = 0; n < 256; n++) {
+        for (unsigned i = 0; i < 16; i++) {
+            hold_seats(n, i / 4, i % 4);
+            hold_seats(i / 4, n, i % 4);
+            hold_seats(i / 4, i % 4, n);
+        }
+    }
+}
+
+/* Each of the 256 bytes for win type and for seat wind, which are not read; and for `reserved`,
+   which is kept. */
+static void bytes_not_read(void) {
+    for (unsigned i = 0; i < 16; i++) {
+        input in = on_new_book((uint8_t)(i / 4), i / 4 != i % 4, (uint8_t)(i % 4));
+        booking expected = expected_win(&in, lend_as_is(&in));
+        for (unsigned n = 0; n < 512; n++) {
+            ziwhakemo_seat_book book = in.book;
+            fill_not_read(&in.win);
+            *(n < 256 ? &in.win.win_type : &in.win.seat_wind) = (uint8_t)n;
+            book.reserved = expected.book.reserved = (uint8_t)n;
+            uint32_t number =
+                ziwhakemo_book_win(&book, in.counts, in.counts_length, in.calls, in.calls_length,
+                                   in.win, in.deal, in.winner);
+            hold(number == 0 && same_book(&book, &expected.book), "a byte that is not read", &in);
+        }
+    }
+}
+
+/* A draw, a ron, the dealer's tsumo and another's, each on a book that takes it or does not. */
+static void hold_limit(ziwhakemo_seat_book book, bool taken) {
+    input wins[] = {on_new_book(1, true, 2), on_new_book(0, false, 0), on_new_book(3, false, 0)};
+    for (int i = 0; i < 3; i++) {
+        wins[i].book = book;
+        hold_deal(wins[i], true, taken ? 0 : 16);
+    }
+    hold_deal(wins[0], false, taken ? 0 : 16);
+}
+
+/* Each limit of the book from both sides, and the ends of the types. */
+static void limits(void) {
+    const int64_t most = ZIWHAKEMO_MOST_POINTS;
+    const int64_t amounts[] = {most, -most, most + 1, -most - 1, INT64_MAX, INT64_MIN};
+    const uint32_t sticks[] = {4095, 4096, 4097, 65536, UINT32_MAX};
+    const uint16_t deals[] = {1022, 1023, 1024, 1025, 2048, UINT16_MAX};
+    ziwhakemo_seat_book first = ziwhakemo_new_book(), book;
+    for (int i = 0; i < 24; i++) {
+        book = first;
+        book.points[i % 4] = amounts[i / 4];
+        hold_limit(book, i / 4 < 2);
+    }
+    for (int i = 0; i < 5; i++) {
+        book = first;
+        book.sticks = sticks[i];
+        hold_limit(book, i < 2);
+    }
+    for (int i = 0; i < 6; i++) {
+        book = first;
+        book.deals = deals[i];
+        hold_limit(book, i < 2);
+    }
+}
+
+/* Each counter: at 255 a draw is refused, and the dealer's win, and another's is not. */
+static void counters(void) {
+    for (unsigned n = 0; n < 256; n++) {
+        unsigned number = n < 255 ? 0 : 16;
+        for (uint8_t seat = 0; seat < ZIWHAKEMO_SEATS; seat++) {
+            for (int given = 0; given < 2; given++) {
+                input in = on_new_book(seat, given, (uint8_t)((seat + 1) % 4));
+                in.book.counter = (uint8_t)n;
+                hold_deal(in, true, seat == 0 ? number : 0);
+                hold_deal(in, false, number);
+            }
+        }
+    }
+}
+
+/* Grounds for 15, 16, 3, 6, 8, 14, 9, 11 and for 16 by the counter in every mixture: the first of
+   them, in this order, is answered. The hand is the dealer's, and has no yaku by ron. */
+static void book_in_order(void) {
+    static const unsigned numbers[] = {15, 16, 3, 6, 8, 14, 9, 11, 16};
+    for (unsigned grounds = 0; grounds < 512; grounds++) {
+        bool by_ron = grounds & 128;
+        unsigned first = 0;
+        input in = on_new_book(0, by_ron, 1);
+        in.win.is_last_tile = false;
+        if (grounds & 1) in.deal.dealer = ZIWHAKEMO_SEATS;
+        if (grounds & 2) in.book.deals = ZIWHAKEMO_MOST_DEALS;
+        if (grounds & 4) in.calls_length = 1; /* all zeros: no call */
+        if (grounds & 8) in.counts[ZIWHAKEMO_EAST] = 1;
+        if (grounds & 16) in.win.round_wind = ZIWHAKEMO_WHITE;
+        if (grounds & 32) show(&in.win.dora_indicators, 11, ZIWHAKEMO_RED);
+        if (grounds & 64) in.win.winning_tile = ZIWHAKEMO_MAN(9);
+        if (grounds & 256) in.book.counter = ZIWHAKEMO_MOST_COUNTER;
+        while (first < 9 && !(grounds >> first & 1)) first++;
+        hold_deal(in, true, first < 9 ? numbers[first] : 0);
+    }
+}
+
+/* A game as long as it can be: 255 draws and dealer's wins, each of which raises the counter; then
+   neither is taken, but another's win is; and so on to 1,024 deals, after which none is. */
+static void longest_game(void) {
+    input dealers = on_new_book(0, false, 0), others = on_new_book(2, true, 0);
+    lent from = lend_as_is(&dealers), other = lend_as_is(&others);
+    game g = new_game();
+    for (unsigned n = 0; n < ZIWHAKEMO_MOST_DEALS; n++) {
+        bool is_full = g.counter == ZIWHAKEMO_MOST_COUNTER;
+        if (is_full) {
+            hold(play(&g, dealers, from, false) == 16, "a draw at a counter of 255", &dealers);
+            hold(play(&g, dealers, from, true) == 16, "a win at a counter of 255", &dealers);
+        }
+        unsigned number = is_full ? play(&g, others, other, true)
+                                  : play(&g, dealers, from, n % 3 == 0);
+        hold(number == 0, "a deal of the longest game", &dealers);
+    }
+    hold(play(&g, dealers, from, false) == 16, "a draw after 1,024 deals", &dealers);
+    hold(play(&g, others, other, true) == 16, "a win after 1,024 deals", &others);
+}
+
+static void books(void) {
+    new_books();
+    seat_bytes();
+    bytes_not_read();
+    limits();
+    counters();
+    book_in_order();
+    longest_game();
+}
+
 /* ---- The run ---- */
 
 static void run(const input *in) {
@@ -1436,6 +1946,8 @@ static void run(const input *in) {
     three_score(in, from);
     three_by_number(in, from);
     three_points(in);
+    book_both(in, from);
+    go_on(in, from);
     hold(same(from.counts, in->counts, in->counts_length), "the counts changed", in);
     hold(same(from.calls, in->calls, in->calls_length * sizeof(ziwhakemo_meld)), "a call changed",
          in);
@@ -1467,6 +1979,8 @@ static void print_operations(bool enough) {
     static const int win[] = {0, 1, 2, 3, 4, 5, 6, 8, 14, 9, 10, 11, -1};
     static const int reading[] = {0, 1, 2, 3, 4, 5, 6, 8, 14, 9, 12, -1};
     static const int payment[] = {0, 8, 13, -1};
+    static const int draw[] = {0, 15, 16, -1};
+    static const int book_win[] = {0, 15, 16, 1, 2, 3, 4, 5, 6, 8, 14, 9, 10, 11, -1};
     print_numbers("ziwhakemo_list_readings", listed, listing, enough);
     print_numbers("ziwhakemo_score_win", won, win, enough);
     print_numbers("ziwhakemo_score_reading", scored, reading, enough);
@@ -1477,6 +1991,29 @@ static void print_operations(bool enough) {
     print_numbers("ziwhakemo_three_score_reading", three_scored, reading, enough);
     print_numbers("ziwhakemo_three_name_waits", three_named, reading, enough);
     print_numbers("ziwhakemo_three_payment", three_paid, payment, enough);
+    print_numbers("ziwhakemo_book_draw", drawn, draw, enough);
+    print_numbers("ziwhakemo_book_win", booked, book_win, enough);
+}
+
+/* Prints what else was met. */
+static void print_others(void) {
+    print("ziwhakemo_payment, by settlement", settled);
+    print("ziwhakemo_book_win, by settlement", book_settled);
+    print("ziwhakemo_score_level and ziwhakemo_basic_points, by level", levels);
+    printf("accepted hands with 0, 1, 2, 3, 4, more readings:");
+    for (int i = 0; i <= MANY; i++) printf(" %lu", (unsigned long)with_readings[i]);
+    printf("\nreadings whose pair is both winds, as many fu by two as by four, ten fewer:");
+    for (int i = 0; i < 2; i++) printf(" %lu", (unsigned long)fewer_fu[i]);
+    printf("\nreadings without dora, with some, with 13 and more; yakuman with some; no yaku at "
+           "13:");
+    for (int i = 0; i < 3; i++) printf(" %lu", (unsigned long)with_dora[i]);
+    printf(" %lu %lu", (unsigned long)yakuman_with_dora, (unsigned long)no_yaku_at_13);
+    printf("\nhands with other sources: %lu", (unsigned long)other_sources_taken);
+    printf("\ndealer's wins that score at a counter of 255: %lu", (unsigned long)full_counters);
+    printf("\ngames from a new book, and their deals: %lu %lu", (unsigned long)games,
+           (unsigned long)game_deals);
+    printf("\nNULL lent for nothing: %lu\nwrong: %lu\n", (unsigned long)nulls,
+           (unsigned long)wrong);
 }
 
 int main(int words, char **arguments) {
@@ -1492,22 +2029,13 @@ int main(int words, char **arguments) {
     indicators();
     sources();
     three_players();
+    books();
     for (unsigned long i = 0; i < inputs; i++) {
         input in = draw_input();
         run(&in);
     }
     printf("%lu inputs, seed %lu; by answer:\n", inputs, seed);
     print_operations(inputs >= ENOUGH);
-    print("ziwhakemo_payment, by settlement", settled);
-    print("ziwhakemo_score_level and ziwhakemo_basic_points, by level", levels);
-    printf("accepted hands with 0, 1, 2, 3, 4, more readings:");
-    for (int i = 0; i <= MANY; i++) printf(" %lu", (unsigned long)with_readings[i]);
-    printf("\nreadings whose pair is both winds, as many fu by two as by four, ten fewer:");
-    for (int i = 0; i < 2; i++) printf(" %lu", (unsigned long)fewer_fu[i]);
-    printf("\nreadings without dora, with some, with 13 and more; yakuman with some; no yaku at 13:");
-    for (int i = 0; i < 3; i++) printf(" %lu", (unsigned long)with_dora[i]);
-    printf(" %lu %lu", (unsigned long)yakuman_with_dora, (unsigned long)no_yaku_at_13);
-    printf("\nhands with other sources: %lu", (unsigned long)other_sources_taken);
-    printf("\nNULL lent for nothing: %lu\nwrong: %lu\n", (unsigned long)nulls, (unsigned long)wrong);
+    print_others();
     return wrong > 0;
 }

@@ -10,7 +10,7 @@
 #include <stdio.h>
 #include <string.h>
 
-enum { MOST_TEXT = 200, NUMBERS = ZIWHAKEMO_REFUSED_INDICATORS + 1 };
+enum { MOST_TEXT = 200, NUMBERS = ZIWHAKEMO_REFUSED_BOOK + 1 };
 
 static unsigned wrong;
 
@@ -301,6 +301,36 @@ static uint32_t three_shown(void) {
     return ziwhakemo_three_score_win(h.counts, ZIWHAKEMO_TILES, NULL, 0, h.win).number;
 }
 
+/* What a draw is answered with, by the dealer's seat, on a book with this counter. */
+static uint32_t drawn(uint8_t dealer, uint8_t counter) {
+    ziwhakemo_seat_book book = ziwhakemo_new_book();
+    ziwhakemo_deal deal = {dealer, {false, false, false, false}};
+    book.counter = counter;
+    return ziwhakemo_book_draw(&book, deal);
+}
+
+/* What a win on another's discard is answered with, seat 0 being the dealer. */
+static uint32_t booked(uint8_t seat, uint8_t discarder, uint8_t counter) {
+    hand h = read_hand("123678m456p789s22p", "", "1m 12");
+    ziwhakemo_seat_book book = ziwhakemo_new_book();
+    ziwhakemo_deal deal = {0, {false, false, false, false}};
+    ziwhakemo_winner winner = {seat, true, discarder};
+    book.counter = counter;
+    return ziwhakemo_book_win(&book, h.counts, ZIWHAKEMO_TILES, NULL, 0, h.win, deal, winner);
+}
+
+/* The numbers of a booking. */
+static void book_refusals(void) {
+    const char *seats = "a seat is above 3, or the discarder is the winner";
+    const char *full = "the book takes no deal more, or its counter would pass 255";
+    hold_number(drawn(3, ZIWHAKEMO_MOST_COUNTER - 1), "accepted");
+    hold_number(drawn(ZIWHAKEMO_SEATS, 0), seats);
+    hold_number(drawn(0, ZIWHAKEMO_MOST_COUNTER), full);
+    hold_number(booked(1, 0, ZIWHAKEMO_MOST_COUNTER), "accepted");
+    hold_number(booked(1, 1, 0), seats);
+    hold_number(booked(0, 1, ZIWHAKEMO_MOST_COUNTER), full);
+}
+
 static void refusals(void) {
     const char *above = "a count above 4, or with three players one of man 2 to 8 above 0";
     const char *shown =
@@ -329,6 +359,7 @@ static void refusals(void) {
                 "basic points above 152,000");
     hold_number(shown_eleven(), shown);
     hold_number(three_shown(), shown);
+    book_refusals();
     hold_all(answered, NUMBERS, "number");
     hold(ziwhakemo_number_meaning(NUMBERS), "?", "no number");
 }

@@ -158,13 +158,14 @@ impl DoraCount {
 /// gives four fu for a pair that is both winds.
 #[derive(Debug, Clone, Copy, PartialEq, Eq)]
 pub struct GameContext {
-    /// Ron or tsumo
+    /// Ron or tsumo. A booking does not read it ([`SeatBook::win`](crate::SeatBook::win))
     pub win_type: WinType,
     /// The tile that completed the hand. A win without one is refused with 9
     pub winning_tile: Option<Tile>,
     /// The round wind. A dragon is refused with 8
     pub round_wind: Honor,
-    /// The winner's seat wind: East is the dealer. A dragon is refused with 8
+    /// The winner's seat wind: East is the dealer. A dragon is refused with 8. A booking does not
+    /// read it
     pub seat_wind: Honor,
     /// Riichi, also where it is a double one
     pub is_riichi: bool,

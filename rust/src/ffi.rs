@@ -5,7 +5,7 @@ use crate::OTHER_VERSION;
 use crate::rules::Variant;
 
 /// The version of the interface that is declared here: `ZIWHAKEMO_VERSION` of the header.
-pub const VERSION: u32 = 7;
+pub const VERSION: u32 = 8;
 
 /// A meld: the number of its lowest tile, its kind, and who its tile was called from: 1 to 3 seats onward,
 /// with three players 1 or 2, or 0.
@@ -107,6 +107,37 @@ pub struct WaitsAnswer {
     pub waits: [u8; 6],
 }
 
+/// The book of a table: the points of seats 0 to 3, the riichi sticks on the table, how many deals
+/// are booked, and the repeat counter. `reserved` is 0 in a new book and is kept by every booking;
+/// with it there is no padding.
+#[repr(C)]
+#[derive(Clone, Copy, Debug, PartialEq, Eq, Hash)]
+pub struct SeatBook {
+    pub points: [i64; 4],
+    pub sticks: u32,
+    pub deals: u16,
+    pub counter: u8,
+    pub reserved: u8,
+}
+
+/// A deal: the dealer's seat, and which seats declared riichi.
+#[repr(C)]
+#[derive(Clone, Copy, Debug)]
+pub struct Deal {
+    pub dealer: u8,
+    pub declared: [bool; 4],
+}
+
+/// Who won, and by whose discard. Without a discarder the win is by tsumo, and `discarder` is not
+/// read.
+#[repr(C)]
+#[derive(Clone, Copy, Debug)]
+pub struct Winner {
+    pub seat: u8,
+    pub has_discarder: bool,
+    pub discarder: u8,
+}
+
 // Each declaration is that of the header: a lent slice is a pointer and a count.
 unsafe extern "C" {
     fn ziwhakemo_list_readings(
@@ -174,8 +205,22 @@ unsafe extern "C" {
         reading: usize,
     ) -> WaitsAnswer;
 
+    // The seat book, with four players.
+    fn ziwhakemo_book_draw(book: *mut SeatBook, deal: Deal) -> u32;
+    fn ziwhakemo_book_win(
+        book: *mut SeatBook,
+        counts: *const u8,
+        counts_length: usize,
+        calls: *const Meld,
+        calls_length: usize,
+        win: GameContext,
+        deal: Deal,
+        winner: Winner,
+    ) -> u32;
+
     // Safe: these take plain values, any of them, and no pointer.
     safe fn ziwhakemo_version() -> u32;
+    safe fn ziwhakemo_new_book() -> SeatBook;
     safe fn ziwhakemo_score_level(han: u8, fu: u8, is_yakuman: bool) -> LevelAnswer;
     safe fn ziwhakemo_basic_points(han: u8, fu: u8, is_yakuman: bool) -> u32;
     safe fn ziwhakemo_payment(basic_points: u32, is_dealer: bool, win_type: u8) -> PaymentAnswer;
@@ -320,9 +365,53 @@ pub fn payment(
     }
 }
 
+/// A book in which nothing is booked.
+pub fn new_book() -> SeatBook {
+    check_version();
+    ziwhakemo_new_book()
+}
+
+/// Books a deal that ended in a draw. The answer is 0, or a refusal's number with the book as it
+/// was.
+pub fn book_draw(book: &mut SeatBook, deal: Deal) -> u32 {
+    check_version();
+    // SAFETY: one book, which is borrowed alone. The flags of a `Deal` are bools. The library keeps
+    // no pointer and is of the version declared here.
+    unsafe { ziwhakemo_book_draw(book, deal) }
+}
+
+/// Books a deal that ended in a win. The answer is 0, or a refusal's number with the book as it
+/// was.
+pub fn book_win(
+    book: &mut SeatBook,
+    counts: &[u8],
+    calls: &[Meld],
+    win: GameContext,
+    deal: Deal,
+    winner: Winner,
+) -> u32 {
+    check_version();
+    // SAFETY: one book, which is borrowed alone, so it overlaps neither of the two slices. Each of
+    // these is handed over as its pointer and its length and is only read. All flags are bools. The
+    // library keeps no pointer and is of the version declared here.
+    unsafe {
+        ziwhakemo_book_win(
+            book,
+            counts.as_ptr(),
+            counts.len(),
+            calls.as_ptr(),
+            calls.len(),
+            win,
+            deal,
+            winner,
+        )
+    }
+}
+
 #[cfg(test)]
 mod tests {
     use super::*;
+    use crate::book::{self, SEATS};
     use crate::record::{ALWAYS_ENOUGH, STANDARD_LENGTH};
     use std::mem::{align_of, offset_of, size_of};
     use std::ptr;
@@ -458,11 +547,31 @@ mod tests {
         assert!(is_defined("ZIWHAKEMO_ALWAYS_ENOUGH", ALWAYS_ENOUGH));
     }
 
-    /// Does the header give this name to this number?
+    #[test]
+    fn header_and_crate_have_the_same_figures_of_the_book() {
+        type Book = book::SeatBook;
+        let points = |points: i64| usize::try_from(points).unwrap();
+        for (name, number) in [
+            ("SEATS", SEATS),
+            ("START_POINTS", points(Book::START_POINTS)),
+            ("STICK_POINTS", points(Book::STICK_POINTS)),
+            ("MOST_DEALS", Book::MOST_DEALS.into()),
+            ("MOST_STICKS", Book::MOST_STICKS as usize),
+            ("MOST_POINTS", points(Book::MOST_POINTS)),
+            ("MOST_COUNTER", Book::MOST_COUNTER.into()),
+        ] {
+            assert!(is_defined(&format!("ZIWHAKEMO_{name}"), number), "{name}");
+        }
+    }
+
+    /// Does the header give this name to this number? A comment may stand behind it.
     fn is_defined(name: &str, number: usize) -> bool {
         let header = include_str!("../../include/ziwhakemo.h");
         let define = format!("#define {name} {number}");
-        header.lines().any(|line| line == define)
+        let without_comment = |line: &'static str| line.split("/*").next().unwrap_or(line);
+        header
+            .lines()
+            .any(|line| without_comment(line).trim_end() == define)
     }
 
     #[test]
@@ -495,6 +604,24 @@ mod tests {
         assert_eq!(offset_of!(ScoreAnswer, basic_points), 72);
         assert_eq!(offset_of!(ScoreAnswer, from_discarder), 84);
         assert_eq!(offset_of!(ScoreAnswer, total), 88);
+    }
+
+    #[test]
+    fn structs_of_the_book_are_laid_out_as_in_c() {
+        assert_eq!((size_of::<SeatBook>(), align_of::<SeatBook>()), (40, 8));
+        assert_eq!(size_of::<SeatBook>(), book::SeatBook::BYTES);
+        assert_eq!(offset_of!(SeatBook, points), 0);
+        assert_eq!(offset_of!(SeatBook, sticks), 32);
+        assert_eq!(offset_of!(SeatBook, deals), 36);
+        assert_eq!(offset_of!(SeatBook, counter), 38);
+        assert_eq!(offset_of!(SeatBook, reserved), 39);
+        assert_eq!((size_of::<Deal>(), align_of::<Deal>()), (5, 1));
+        assert_eq!(offset_of!(Deal, dealer), 0);
+        assert_eq!(offset_of!(Deal, declared), 1);
+        assert_eq!((size_of::<Winner>(), align_of::<Winner>()), (3, 1));
+        assert_eq!(offset_of!(Winner, seat), 0);
+        assert_eq!(offset_of!(Winner, has_discarder), 1);
+        assert_eq!(offset_of!(Winner, discarder), 2);
     }
 
     #[test]
@@ -1046,5 +1173,265 @@ mod tests {
             ziwhakemo_three_list_readings(ptr::null(), 0, ptr::null(), 0, ptr::null_mut(), 0)
         };
         assert_eq!(nothing.number, 1);
+    }
+
+    /// A book in which each field has a number of its own.
+    const BOOK: SeatBook = SeatBook {
+        points: [-31_000, 25_000, 80_000, 23_000],
+        sticks: 3,
+        deals: 17,
+        counter: 2,
+        reserved: 0xa5,
+    };
+
+    /// Books that take no deal: one deal, one stick or one point is too much.
+    const FULL: [SeatBook; 3] = [
+        SeatBook {
+            deals: 1024,
+            ..BOOK
+        },
+        SeatBook {
+            sticks: 4097,
+            ..BOOK
+        },
+        SeatBook {
+            points: [0, 0, 0, -1_000_000_001],
+            ..BOOK
+        },
+    ];
+
+    /// A deal in which seat 3 declared riichi.
+    fn deal(dealer: u8) -> Deal {
+        Deal {
+            dealer,
+            declared: [false, false, false, true],
+        }
+    }
+
+    /// A ron, or a tsumo where there is no discarder, with noise in its place.
+    fn winner(seat: u8, discarder: Option<u8>) -> Winner {
+        Winner {
+            seat,
+            has_discarder: discarder.is_some(),
+            discarder: discarder.unwrap_or(255),
+        }
+    }
+
+    /// The number of a booking, and the book that it leaves.
+    fn drawn(mut book: SeatBook, deal: Deal) -> (u32, SeatBook) {
+        (book_draw(&mut book, deal), book)
+    }
+
+    /// The same of a win with no calls.
+    fn won(
+        mut book: SeatBook,
+        counts: &[u8],
+        win: GameContext,
+        deal: Deal,
+        winner: Winner,
+    ) -> (u32, SeatBook) {
+        let number = book_win(&mut book, counts, &[], win, deal, winner);
+        (number, book)
+    }
+
+    #[test]
+    fn every_field_of_a_new_book_is_where_it_is_expected() {
+        let expected = SeatBook {
+            points: [25_000; 4],
+            sticks: 0,
+            deals: 0,
+            counter: 0,
+            reserved: 0,
+        };
+        assert_eq!(new_book(), expected);
+    }
+
+    #[test]
+    fn every_field_of_a_booked_deal_is_where_it_is_expected() {
+        let expected = SeatBook {
+            points: [-31_000, 25_000, 80_000, 22_000],
+            sticks: 4,
+            deals: 18,
+            counter: 3,
+            reserved: 0xa5,
+        };
+        assert_eq!(drawn(BOOK, deal(1)), (0, expected));
+
+        // 6,400 by ron, 600 for the counter, and four sticks.
+        let by_ron = |dealer| {
+            let winner = winner(2, Some(0));
+            won(BOOK, &spring_final(), ron(SOU_8), deal(dealer), winner)
+        };
+        let expected = SeatBook {
+            points: [-38_000, 25_000, 91_000, 22_000],
+            sticks: 0,
+            counter: 0,
+            ..expected
+        };
+        assert_eq!(by_ron(1), (0, expected));
+        // The dealer gets 9,600, and the counter rises.
+        let expected = SeatBook {
+            points: [-41_200, 25_000, 94_200, 22_000],
+            counter: 3,
+            ..expected
+        };
+        assert_eq!(by_ron(2), (0, expected));
+
+        // By tsumo it is a mangan: 2,000, from the dealer, seat 1, 4,000, and 200 more from each.
+        let by_tsumo = winner(2, None);
+        let expected = SeatBook {
+            points: [-33_200, 20_800, 92_600, 19_800],
+            counter: 0,
+            ..expected
+        };
+        let booked = won(BOOK, &spring_final(), ron(SOU_8), deal(1), by_tsumo);
+        assert_eq!(booked, (0, expected));
+    }
+
+    #[test]
+    fn seats_above_3_are_refused_before_all_else() {
+        let some = [0, 1, 2, 3, 4, 5, 127, 128, 254, 255];
+        let seats = some
+            .into_iter()
+            .flat_map(|dealer| some.into_iter().map(move |seat| (dealer, seat)));
+        for (dealer, seat) in seats {
+            let by_tsumo = winner(seat, None);
+            let is_seated = dealer < 4 && seat < 4;
+            hold_seats(is_seated, dealer, by_tsumo);
+            for discarder in some {
+                let is_seated = is_seated && discarder < 4 && discarder != seat;
+                hold_seats(is_seated, dealer, winner(seat, Some(discarder)));
+            }
+        }
+        for dealer in 0..=255 {
+            let number = if dealer < 4 { 0 } else { 15 };
+            assert_eq!(drawn(BOOK, deal(dealer)).0, number, "{dealer}");
+            hold_seats(dealer < 4, dealer, winner(1, Some(0)));
+            hold_seats(dealer < 4, 0, winner(dealer, None));
+        }
+    }
+
+    /// Holds the number of a win to whether its seats are seats: 0 or 15, on a full book 16 or 15,
+    /// with counts that are too short 1 or 15.
+    #[track_caller]
+    fn hold_seats(is_seated: bool, dealer: u8, winner: Winner) {
+        let number = |number| if is_seated { number } else { 15 };
+        let counts = spring_final();
+        let booked = |book, counts: &[u8]| won(book, counts, ron(SOU_8), deal(dealer), winner);
+        assert_eq!(booked(BOOK, &counts).0, number(0), "{dealer} {winner:?}");
+        assert_eq!(booked(BOOK, &counts[1..]), (number(1), BOOK));
+        for full in FULL {
+            assert_eq!(booked(full, &counts), (number(16), full));
+            assert_eq!(booked(full, &counts[1..]), (number(16), full));
+        }
+    }
+
+    #[test]
+    fn without_a_discarder_the_byte_is_not_read() {
+        let counts = spring_final();
+        let expected = won(BOOK, &counts, ron(SOU_8), deal(1), winner(2, None));
+        assert_eq!(expected.0, 0);
+        for discarder in 0..=255 {
+            let by_tsumo = Winner {
+                discarder,
+                ..winner(2, None)
+            };
+            let booked = won(BOOK, &counts, ron(SOU_8), deal(1), by_tsumo);
+            assert_eq!(booked, expected, "{discarder}");
+        }
+    }
+
+    #[test]
+    fn win_type_and_seat_wind_of_a_booked_win_are_not_read() {
+        let counts = spring_final();
+        for (dealer, winner) in [(1, winner(2, None)), (2, winner(2, Some(1)))] {
+            let booked = |win| won(BOOK, &counts, win, deal(dealer), winner);
+            let expected = booked(ron(SOU_8));
+            assert_eq!(expected.0, 0);
+            for byte in 0..=255 {
+                let win = GameContext {
+                    win_type: byte,
+                    seat_wind: byte ^ 0x55,
+                    ..ron(SOU_8)
+                };
+                assert_eq!(booked(win), expected, "{byte}");
+                // Of those that 8 is for, the round wind and the setting are read.
+                let round = GameContext {
+                    round_wind: byte,
+                    ..win
+                };
+                let number = if (27..31).contains(&byte) { 0 } else { 8 };
+                assert_eq!(booked(round).0, number, "{byte}");
+                let setting = GameContext {
+                    double_wind_fu: byte,
+                    ..win
+                };
+                let number = if [2, 4].contains(&byte) { 0 } else { 8 };
+                assert_eq!(booked(setting).0, number, "{byte}");
+            }
+        }
+    }
+
+    #[test]
+    fn the_reserved_byte_is_kept() {
+        for reserved in 0..=255 {
+            let book = SeatBook { reserved, ..BOOK };
+            let (number, after) = drawn(book, deal(0));
+            assert_eq!((number, after.reserved), (0, reserved));
+            let winner = winner(0, Some(1));
+            let (number, after) = won(book, &spring_final(), ron(SOU_8), deal(0), winner);
+            assert_eq!((number, after.reserved), (0, reserved));
+            assert_eq!(drawn(book, deal(4)), (15, book));
+        }
+    }
+
+    #[test]
+    fn a_booking_leaves_what_is_beside_its_book() {
+        let counts = spring_final();
+        for dealer in 0..=4 {
+            let mut books = [BOOK; 3];
+            let number = book_draw(&mut books[1], deal(dealer));
+            let expected = drawn(BOOK, deal(dealer));
+            assert_eq!((number, books[1]), expected);
+            assert_eq!([books[0], books[2]], [BOOK; 2]);
+
+            let mut books = [BOOK; 3];
+            let (win, by_tsumo) = (ron(SOU_8), winner(3, None));
+            let number = book_win(&mut books[1], &counts, &[], win, deal(dealer), by_tsumo);
+            let expected = won(BOOK, &counts, win, deal(dealer), by_tsumo);
+            assert_eq!((number, books[1]), expected);
+            assert_eq!([books[0], books[2]], [BOOK; 2]);
+        }
+    }
+
+    #[test]
+    fn a_booked_win_takes_calls_and_null_where_nothing_is_lent() {
+        let pon = Meld {
+            tile: WHITE,
+            kind: 3,
+            source: 2,
+        };
+        let mut book = BOOK;
+        let (win, by_tsumo) = (ron(SOU_8), winner(3, None));
+        for (source, number) in [(2, 0), (0, 3), (4, 3)] {
+            let calls = [Meld { source, ..pon }];
+            let booked = book_win(&mut book, &but_a_call(), &calls, win, deal(0), by_tsumo);
+            assert_eq!(booked, number, "{source}");
+        }
+        let before = book;
+        // SAFETY: one book that is borrowed alone, and each count that goes with null is 0.
+        let number = unsafe {
+            ziwhakemo_book_win(
+                &mut book,
+                ptr::null(),
+                0,
+                ptr::null(),
+                0,
+                win,
+                deal(0),
+                by_tsumo,
+            )
+        };
+        assert_eq!((number, book), (1, before));
     }
 }

@@ -33,8 +33,33 @@
 //! # Ok::<(), ziwhakemo::Refusal>(())
 //! ```
 //!
+//! The points of a table stand in a [`SeatBook`]. Each deal is booked into it, as a draw or as a
+//! win, which the library scores:
+//!
+//! ```
+//! use ziwhakemo::{Deal, GameContext, Honor, Seat, SeatBook, Suit, Tile, WinType, Winner};
+//! use ziwhakemo::to_counts;
+//!
+//! // pin 123 345 678 999, West West, by riichi, won on pin 5
+//! let pin = [1, 2, 3, 3, 4, 5, 6, 7, 8, 9, 9, 9].map(|value| Tile::suited(Suit::Pin, value));
+//! let counts = to_counts(&[&pin[..], &[Tile::honor(Honor::West); 2]].concat()).unwrap();
+//! let context = GameContext::new(WinType::Tsumo, Honor::East, Honor::East)
+//!     .with_winning_tile(Tile::suited(Suit::Pin, 5))
+//!     .riichi();
+//!
+//! // The dealer's tsumo: 4,000 from each.
+//! let [seat, ..] = Seat::ALL;
+//! let deal = Deal::new(seat).riichi(seat);
+//! let mut book = SeatBook::new();
+//! book.win(&counts, &[], &context, deal, Winner::Tsumo { seat })?;
+//! assert_eq!(book.points(), [37_000, 21_000, 21_000, 21_000]);
+//! assert_eq!((book.counter(), book.total()), (1, 100_000));
+//! # Ok::<(), ziwhakemo::Refusal>(())
+//! ```
+//!
 //! These functions are of four players. The game of three ([`Variant::Sanma`]) has the same ones as methods:
 //! `Variant::Sanma.score_win(&counts, &[], &context)`. What differs between the two games stands in [`rules`].
+//! The seat book is of four players alone.
 //!
 //! Without the feature `std`, which is on by default, the crate needs `alloc` alone, and leaves out
 //! `TileCounts`, `counts_of` and the module `agari`.
@@ -49,6 +74,7 @@ extern crate std;
 
 #[cfg(feature = "std")]
 pub mod agari;
+pub mod book;
 pub mod context;
 #[allow(unsafe_code)]
 mod ffi;
@@ -61,6 +87,7 @@ pub mod tile;
 pub mod wait;
 pub mod yaku;
 
+pub use book::{Booking, Deal, Seat, SeatBook, Winner};
 pub use context::{DoraCount, DoubleWindFu, GameContext, Indicators, WinType};
 pub use hand::{HandStructure, KanType, Listing, Meld, Source, decompose_hand, list_readings};
 pub use refusal::Refusal;

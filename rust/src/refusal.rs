@@ -4,8 +4,9 @@ use crate::OTHER_VERSION;
 use core::error::Error;
 use core::fmt;
 
-/// A refusal: the first of the checks that the input does not pass, in the order of their numbers but for
-/// 14, which comes after 8 and before 9. Nothing was scored and nothing was written.
+/// A refusal: the first of the checks that the input does not pass, in the order of their numbers
+/// but for 14, which comes after 8 and before 9, and for 15 and 16, which come before all others
+/// where a deal is booked. Nothing was scored, nothing was written and nothing was booked.
 #[derive(Debug, Clone, Copy, PartialEq, Eq, Hash, PartialOrd, Ord)]
 #[repr(u8)]
 pub enum Refusal {
@@ -26,7 +27,7 @@ pub enum Refusal {
     /// The records need more bytes than were lent.
     BufferTooShort = 7,
     /// The win type, a wind or the room's setting is out of range. Here: the round or the seat wind is a
-    /// dragon.
+    /// dragon, and where a deal is booked the round wind alone.
     OutOfRange = 8,
     /// The winning tile is missing, no tile, or not in the hand.
     WinningTile = 9,
@@ -41,11 +42,19 @@ pub enum Refusal {
     /// An indicator is no tile, or there are more than ten of dora or of ura dora. With three players there
     /// is any. It comes after 8 and before 9, and without riichi too where it is of ura dora.
     Indicators = 14,
+    /// A seat above 3, or a discarder who is the winner. It comes first of all. Here
+    /// [`Seat::new`](crate::Seat::new) refuses a seat above 3, so that none reaches a booking.
+    Seats = 15,
+    /// The book takes no deal more: 1,024 are booked, a seat is beyond 1,000,000,000 points either
+    /// way, or there are more than 4,096 sticks. Or this deal would raise a counter of 255. It
+    /// comes after 15 and before scoring's numbers, but for a dealer's win at a counter of 255:
+    /// that has to score first.
+    Book = 16,
 }
 
 impl Refusal {
-    /// All refusals, by their numbers from 1 to 14.
-    pub const ALL: [Refusal; 14] = [
+    /// All refusals, by their numbers from 1 to 16.
+    pub const ALL: [Refusal; 16] = [
         Refusal::CountsLength,
         Refusal::TooManyCalls,
         Refusal::NotACall,
@@ -60,9 +69,11 @@ impl Refusal {
         Refusal::NoSuchReading,
         Refusal::BasicPoints,
         Refusal::Indicators,
+        Refusal::Seats,
+        Refusal::Book,
     ];
 
-    /// Its number, from 1 to 14.
+    /// Its number, from 1 to 16.
     pub fn number(self) -> u8 {
         self as u8
     }
@@ -94,6 +105,8 @@ impl Refusal {
             Refusal::Indicators => {
                 "an indicator is above 33, there are more than ten, or one with three players"
             }
+            Refusal::Seats => "a seat is above 3, or the discarder is the winner",
+            Refusal::Book => "the book takes no deal more, or its counter would pass 255",
         }
     }
 }
@@ -130,7 +143,7 @@ mod tests {
             assert_eq!(accepted(place + 1), Err(refusal));
         }
         assert_eq!(Refusal::from_number(0), None);
-        assert_eq!(Refusal::from_number(15), None);
+        assert_eq!(Refusal::from_number(17), None);
         assert_eq!(accepted(0), Ok(()));
     }
 

@@ -66,17 +66,6 @@ fn totals(scored: [ScoredWin; 2]) -> [u32; 2] {
     scored.map(|win| win.result.payment.total)
 }
 
-// ---- The version ----
-
-#[test]
-fn the_interface_is_of_version_7() {
-    let header = include_str!("../../include/ziwhakemo.h");
-    let is_seven = |line: &str| line == "#define ZIWHAKEMO_VERSION 7";
-    assert!(header.lines().any(is_seven));
-    // A call to an archive of another version panics.
-    assert!(THREE.calculate_payment(2000, true, WinType::Ron).is_ok());
-}
-
 // ---- Without a variant ----
 
 #[test]

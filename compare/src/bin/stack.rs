@@ -1,9 +1,11 @@
-//! Measures how much stack the operations on a hand need. Each call runs on a stack of its own, which is filled with
-//! a pattern before; the lowest byte that has another value afterwards shows how deep it went.
+//! Measures how much stack the operations on a hand and on a book need. Each call runs on a stack
+//! of its own, which is filled with a pattern before; the lowest byte that has another value
+//! afterwards shows how deep it went.
 
 use compare::hand::{Hand, KINDS};
 use compare::library::{
-    ALWAYS_ENOUGH, Listing, RON, Score, TSUMO, Win, ziwhakemo_list_readings, ziwhakemo_name_waits,
+    ALWAYS_ENOUGH, Deal, Listing, RON, SEATS, Score, SeatBook, TSUMO, Win, Winner, new_book,
+    ziwhakemo_book_draw, ziwhakemo_book_win, ziwhakemo_list_readings, ziwhakemo_name_waits,
     ziwhakemo_score_reading, ziwhakemo_score_win,
 };
 use compare::random;
@@ -20,9 +22,11 @@ const HANDS: u64 = 1_000_000;
 
 const SIZE: usize = 8192;
 const PATTERN: u8 = 0xa5;
-/// The caller's part at the top: arguments that do not go into registers, at most the 35 bytes of a win, up
-/// to a border of 16 bytes.
+/// The caller's part at the top: arguments that do not go into registers, up to a border of 16
+/// bytes: at most the 35 bytes of a win and, at the next border of eight, a winner.
 const CALLERS: usize = 48;
+/// Where that winner stands.
+const WINNERS_PLACE: usize = size_of::<Win>().next_multiple_of(8);
 
 #[repr(align(16))]
 struct Stack([u8; SIZE]);
@@ -77,6 +81,23 @@ fn bytes(win: &Win) -> [u8; size_of::<Win>()] {
     bytes
 }
 
+/// The bytes of a win that is booked and behind it its winner, as they go onto the stack.
+fn booked_bytes(win: &Win, winner: &Winner) -> [u8; CALLERS] {
+    let mut pushed = [0; CALLERS];
+    put_win(&mut pushed[..size_of::<Win>()], win);
+    let has_discarder = u8::from(winner.has_discarder);
+    let winner = [winner.seat, has_discarder, winner.discarder];
+    pushed[WINNERS_PLACE..][..winner.len()].copy_from_slice(&winner);
+    pushed
+}
+
+/// A deal as it goes into a register: its bytes from the lowest on.
+fn word(deal: &Deal) -> u64 {
+    let declared = deal.declared.iter().rev();
+    let declared = declared.fold(0, |word, &is_so| word << 8 | u64::from(is_so));
+    declared << 8 | u64::from(deal.dealer)
+}
+
 /// The deepest call seen of each operation.
 #[derive(Default)]
 struct Deepest {
@@ -84,6 +105,8 @@ struct Deepest {
     win: usize,
     reading: usize,
     waits: usize,
+    booked_win: usize,
+    booked_draw: usize,
 }
 
 impl Deepest {
@@ -133,6 +156,24 @@ impl Deepest {
         let used = depth(ziwhakemo_name_waits as *const (), registers, &bytes(win));
         self.waits = self.waits.max(used);
     }
+
+    /// Books a win. The deal goes into the last register, the win and the winner onto the stack.
+    fn book_win(&mut self, book: &mut SeatBook, hand: &Hand, win: &Win, seats: &(Deal, Winner)) {
+        let (deal, winner) = seats;
+        let [counts, length, calls, number] = lent(hand);
+        let place = &raw mut *book as u64;
+        let registers = [place, counts, length, calls, number, word(deal)];
+        let pushed = booked_bytes(win, winner);
+        let used = depth(ziwhakemo_book_win as *const (), registers, &pushed);
+        self.booked_win = self.booked_win.max(used);
+    }
+
+    /// Books a draw. The deal goes into the second register.
+    fn book_draw(&mut self, book: &mut SeatBook, deal: &Deal) {
+        let registers = [&raw mut *book as u64, word(deal), 0, 0, 0, 0];
+        let used = depth(ziwhakemo_book_draw as *const (), registers, &[]);
+        self.booked_draw = self.booked_draw.max(used);
+    }
 }
 
 /// A win of the hand by one of its tiles, by this win type, in any circumstances.
@@ -142,6 +183,21 @@ fn won(rng: &mut Rng, hand: &Hand, win_type: u8) -> Win {
         win_type,
         ..wins::win(rng, hand, tile.unwrap_or(0) as u8)
     }
+}
+
+/// Any dealer and declaring seats, and a winner who won by this win type.
+fn seats(rng: &mut Rng, win_type: u8) -> (Deal, Winner) {
+    let [dealer, seat, onward] = [SEATS, SEATS, SEATS - 1].map(|number| rng.below(number));
+    let deal = Deal {
+        dealer: dealer as u8,
+        declared: [(); SEATS].map(|_| rng.percent(50)),
+    };
+    let winner = Winner {
+        seat: seat as u8,
+        has_discarder: win_type == RON,
+        discarder: ((seat + 1 + onward) % SEATS) as u8,
+    };
+    (deal, winner)
 }
 
 fn main() {
@@ -162,6 +218,10 @@ fn main() {
                 deepest.score_reading(&hand, &win, reading);
                 deepest.name_waits(&hand, &win, reading);
             }
+            let seats = seats(&mut rng, win_type);
+            let mut book = new_book();
+            deepest.book_draw(&mut book, &seats.0);
+            deepest.book_win(&mut book, &hand, &win, &seats);
         }
     }
     println!("bytes of stack used by the deepest call on {hands} hands");
@@ -169,6 +229,8 @@ fn main() {
     println!("scoring a win          {}", deepest.win);
     println!("scoring a reading      {}", deepest.reading);
     println!("naming its waits       {}", deepest.waits);
+    println!("booking a win          {}", deepest.booked_win);
+    println!("booking a draw         {}", deepest.booked_draw);
 }
 
 #[cfg(test)]
@@ -191,5 +253,28 @@ mod tests {
                 assert_eq!(deepest.score_reading(&hand, &win, reading), want);
             }
         }
+    }
+
+    #[test]
+    fn a_deal_and_a_winner_arrive_as_they_are() {
+        let mut rng = Rng::new(6);
+        let mut deepest = Deepest::default();
+        let mut accepted = [0; 2];
+        for _ in 0..500 {
+            let hand = wins::hand(&mut rng);
+            let win_type = rng.pick(&[RON, TSUMO]);
+            let win = won(&mut rng, &hand, win_type);
+            let seats = seats(&mut rng, win_type);
+            let [mut want, mut got] = [new_book(); 2];
+            let (deal, winner) = seats;
+            let drawn = library::book_draw(&mut want, deal);
+            let booked = library::book_win(&mut want, &hand, win, deal, winner);
+            deepest.book_draw(&mut got, &deal);
+            deepest.book_win(&mut got, &hand, &win, &seats);
+            assert_eq!(got, want);
+            assert_eq!(drawn, 0);
+            accepted[usize::from(win_type)] += usize::from(booked == 0);
+        }
+        assert!(accepted.iter().all(|&wins| wins > 100), "{accepted:?}");
     }
 }

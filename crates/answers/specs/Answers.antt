@@ -21,7 +21,7 @@ use Rattle.answers.specs.declared.WaitsValues.{WaitsValues}
 
 -- the version of the interface: rises with each change of it
 abbrev pub version : ℕ
-version = 7
+version = 8
 
 -- the refusal's number, or 0 with how many readings and how many bytes were written
 abbrev pub listingAnswer : Listing → ListingAnswer

@@ -71,14 +71,15 @@ renWin ρ w =
       «ura_dora_indicators» = renIndicators ρ (w .«ura_dora_indicators»);
     }
 
--- the same win in a room that gives n fu for the pair of the double wind, with the indicators d shown and u below them
-abbrev pub elsewhere : ℕ → Indicators → Indicators → GameContext → GameContext
-elsewhere n d u w =
+-- the same win otherwise: of type t, with the seat wind s, in a room that gives n fu for the pair of the double wind, with the indicators d shown and u
+-- below them
+abbrev otherwise : ℕ → ℕ → ℕ → Indicators → Indicators → GameContext → GameContext
+otherwise t s n d u w =
     record {
-      «win_type» = w .«win_type»;
+      «win_type» = t;
       «winning_tile» = w .«winning_tile»;
       «round_wind» = w .«round_wind»;
-      «seat_wind» = w .«seat_wind»;
+      «seat_wind» = s;
       «is_riichi» = w .«is_riichi»;
       «is_double_riichi» = w .«is_double_riichi»;
       «is_ippatsu» = w .«is_ippatsu»;
@@ -91,6 +92,14 @@ elsewhere n d u w =
       «dora_indicators» = d;
       «ura_dora_indicators» = u;
     }
+
+-- the type and the seat wind alone are others
+abbrev pub seatedAs : ℕ → ℕ → GameContext → GameContext
+seatedAs t s w = otherwise t s (w .«double_wind_fu») (w .«dora_indicators») (w .«ura_dora_indicators») w
+
+-- the room and the indicators are others
+abbrev pub elsewhere : ℕ → Indicators → Indicators → GameContext → GameContext
+elsewhere n d u w = otherwise (w .«win_type») (w .«seat_wind») n d u w
 
 -- the room alone is another
 abbrev pub inRoom : ℕ → GameContext → GameContext

@@ -26,6 +26,14 @@ at zero p t k h = absurd (not-suc-le-zero h)
 at (suc n) p t k h =
     at-step p n k (and-left (p n) (allBelow n p) t) (at n p (and-right (p n) (allBelow n p) t) k) h (ℕ-discrete k n)
 
+-- a fact of each of the numbers below 4
+pub below-four : (P : ℕ → Type 0) → P 0 → P 1 → P 2 → P 3 → (n : ℕ) → n < 4 → P n
+below-four P p₀ p₁ p₂ p₃ zero h = p₀
+below-four P p₀ p₁ p₂ p₃ (suc zero) h = p₁
+below-four P p₀ p₁ p₂ p₃ (suc (suc zero)) h = p₂
+below-four P p₀ p₁ p₂ p₃ (suc (suc (suc zero))) h = p₃
+below-four P p₀ p₁ p₂ p₃ (suc (suc (suc (suc n)))) h = absurd (omega arith)
+
 pub beq→eq : (a b : Bool) → T (Bool·beq a b) → a ≡ b
 beq→eq true true t = refl
 beq→eq true false t = absurd t

@@ -11,3 +11,4 @@ pub mod Kept
 pub mod Elements
 pub mod Stores
 pub mod First
+pub mod Since

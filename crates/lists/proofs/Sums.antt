@@ -26,6 +26,10 @@ module _ {A : Type 0} where
   sum-zero [] = refl
   sum-zero (a ∷ l) = let e = sum-zero l in omega arith
 
+  pub sum-ones : (l : List A) → sum (λ (a : A). 1) l ≡ length l
+  sum-ones [] = refl
+  sum-ones (a ∷ l) = let e = sum-ones l in omega arith
+
   pub sum-plus : (f g : A → ℕ) (l : List A) → sum (λ a. f a + g a) l ≡ sum f l + sum g l
   sum-plus f g [] = refl
   sum-plus f g (a ∷ l) = let e = sum-plus f g l in omega arith

@@ -46,6 +46,12 @@ module _ {A : Type 0} where
   abbrev pub keep : (A → Bool) → List A → List A
   keep p l = flat (λ a. cond (p a) (a ∷ []) []) l
 
+-- the part of a list after the last element that passes the test p: the whole list where none does
+module _ {A : Type 0} where
+  abbrev pub afterLast : (A → Bool) → List A → List A
+  afterLast p [] = []
+  afterLast p (a ∷ l) = cond (any p l) (afterLast p l) (cond (p a) l (a ∷ l))
+
 -- the test p passes at each number below n
 abbrev pub allBelow : ℕ → (ℕ → Bool) → Bool
 allBelow zero p = true

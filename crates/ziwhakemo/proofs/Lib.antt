@@ -1,3 +1,4 @@
+pub mod Booked
 pub mod Listed
 pub mod Numbered
 pub mod Won

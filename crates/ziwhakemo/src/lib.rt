@@ -8,11 +8,12 @@ ghost use Rattle.scoring.specs.Payment.{paymentAnswer};
 ghost use Rattle.win.specs.Win.{scoreWin, scoreReading, nameWaits};
 ghost use Rattle.answers.specs.Answers.{version, listingAnswer, levelAnswer, paymentValues, scoreValues, waitsValues};
 
+pub mod book;
 pub mod games;
 pub mod three;
 
 // The version of this interface.
-const VERSION: u32 = 7;
+const VERSION: u32 = 8;
 
 // The version of this interface, for a caller that was written for one.
 #[no_mangle]

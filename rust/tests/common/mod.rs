@@ -1,6 +1,8 @@
 //! Hands and wins as the tests write them.
 #![allow(dead_code)]
 
+pub mod book;
+
 use ziwhakemo::{GameContext, Honor, Tile, WinType, to_counts};
 
 /// The tile of a text such as `8s`.

@@ -1,7 +1,7 @@
 //! The hands and wins that are measured.
 
 use compare::hand::{Hand, KINDS};
-use compare::library::{Indicators, RON, TSUMO, Win};
+use compare::library::{Deal, Indicators, RON, SEATS, TSUMO, Win, Winner};
 use compare::oracle::Expected;
 use compare::random::{self, Pool, Style};
 use compare::rng::Rng;
@@ -158,6 +158,34 @@ pub struct Won {
     pub win: Win,
 }
 
+/// A win to be booked: with seat 0 as the dealer, the winner at the seat of the win's wind and, at
+/// ron, the next seat as the discarder. The winner declared riichi where the win says so.
+#[derive(Clone, Copy)]
+pub struct Booked {
+    pub won: Won,
+    pub deal: Deal,
+    pub winner: Winner,
+}
+
+impl Booked {
+    pub fn of(won: &Won) -> Booked {
+        let seat = won.win.seat_wind - EAST;
+        let declares = |place: usize| won.win.is_riichi && place == usize::from(seat);
+        Booked {
+            won: *won,
+            deal: Deal {
+                dealer: 0,
+                declared: std::array::from_fn(declares),
+            },
+            winner: Winner {
+                seat,
+                has_discarder: won.win.win_type == RON,
+                discarder: (seat + 1) % SEATS as u8,
+            },
+        }
+    }
+}
+
 /// A win as players have them: 6 in 10 by ron, the rounds of East and South, any seat; 4 in 10 closed
 /// hands in riichi, a tenth of these with ippatsu; the last tile in 2 of 100. The setting is four, and there
 /// are no indicators.
@@ -186,6 +214,7 @@ fn any_tile(rng: &mut Rng, hand: &Hand) -> u8 {
 #[cfg(test)]
 mod tests {
     use super::*;
+    use compare::library::{book_win, new_book, score_win};
 
     #[test]
     fn wins_with_five_indicators_are_the_same_wins() {
@@ -197,6 +226,19 @@ mod tests {
             assert!(!without.win.has_indicators());
             assert_eq!(with.win.winning_tile, without.win.winning_tile);
             assert_eq!(with.hand.counts(), without.hand.counts());
+        }
+    }
+
+    #[test]
+    fn a_booked_win_is_the_same_win() {
+        for won in CASES[4].wins(500) {
+            let Booked { deal, winner, .. } = Booked::of(&won);
+            let score = score_win(won.hand.counts(), won.hand.calls, won.win);
+            let mut book = new_book();
+            let number = book_win(&mut book, &won.hand, won.win, deal, winner);
+            assert_eq!(number, score.number);
+            let gained = book.points[usize::from(winner.seat)] - 25_000;
+            assert_eq!(gained, score.total as i64);
         }
     }
 }

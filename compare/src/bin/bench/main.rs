@@ -4,22 +4,32 @@ mod cases;
 mod timing;
 mod worst;
 
-use cases::{CASES, Case, Won, wins_of_three, with_and_without_indicators};
+use cases::{Booked, CASES, Case, Won, wins_of_three, with_and_without_indicators};
 use compare::agari;
 use compare::agari_wins::AgariWin;
 use compare::answers;
 use compare::arguments;
 use compare::game::Game;
 use compare::hand::Hand;
-use compare::library::{ALWAYS_ENOUGH, THREE_OPERATIONS, list_readings, score_win};
+use compare::library::{
+    ALWAYS_ENOUGH, SeatBook, THREE_OPERATIONS, book_win, list_readings, score_win,
+};
 use compare::oracle::Expected;
 use std::hint::black_box;
 use std::process::ExitCode;
 
-const USAGE: &str = "usage: bench [readings | wins | dora | three | worst]
-       bench profile readings|wins CASE N
+const USAGE: &str = "usage: bench [readings | wins | dora | three | books | worst]
+       bench profile readings|wins|books CASE N
 where CASE is mixture, several, flush, none or changing";
 const NUMBER: usize = 20_000;
+/// A book with sticks on the table and a counter to pay. Each win is booked in a copy of it.
+const BOOK: SeatBook = SeatBook {
+    points: [24_000, 25_000, 24_000, 25_000],
+    sticks: 2,
+    deals: 4,
+    counter: 3,
+    reserved: 0,
+};
 
 /// Lists into a buffer that is not cleared between hands.
 fn list(hand: &Hand, out: &mut [u8]) {
@@ -33,6 +43,14 @@ fn score(won: &Won) {
 fn score_of_three(won: &Won) {
     let score_win = THREE_OPERATIONS.score_win;
     black_box(score_win(won.hand.counts(), won.hand.calls, won.win));
+}
+
+/// Books a win in a book of its own, which is written anew in the time: 40 bytes.
+fn book(booked: &Booked) {
+    let Booked { won, deal, winner } = booked;
+    let mut book = black_box(BOOK);
+    let number = book_win(&mut book, &won.hand, won.win, *deal, *winner);
+    black_box((number, book));
 }
 
 fn score_by_agari(win: &AgariWin) {
@@ -133,6 +151,21 @@ fn measure_three() {
     }
 }
 
+/// Booking a win, beside scoring the same win.
+fn measure_books() {
+    println!(
+        "booking a win beside scoring it: {NUMBER} wins a case, {}",
+        timing::about_passes()
+    );
+    for case in &CASES {
+        let wins = case.wins(NUMBER);
+        let hands: Vec<Hand> = wins.iter().map(|won| won.hand).collect();
+        print_case(case, &hands);
+        let booked: Vec<Booked> = wins.iter().map(Booked::of).collect();
+        timing::compare_more(["scoring", "booking"], &wins, score, &booked, book);
+    }
+}
+
 /// Runs the library alone, so many times, going round the hands or wins of a case.
 fn profile(operation: &str, name: &str, times: usize) -> Option<()> {
     let case = CASES.iter().find(|case| case.name == name)?;
@@ -142,6 +175,7 @@ fn profile(operation: &str, name: &str, times: usize) -> Option<()> {
     match operation {
         "readings" => wins.for_each(|won| list(&won.hand, &mut out)),
         "wins" => wins.for_each(score),
+        "books" => wins.for_each(|won| book(&Booked::of(won))),
         _ => return None,
     }
     Some(())
@@ -155,12 +189,14 @@ fn main() -> ExitCode {
                 measure_wins();
                 measure_dora();
                 measure_three();
+                measure_books();
                 worst::measure(NUMBER);
             }
             ["readings"] => measure_readings(),
             ["wins"] => measure_wins(),
             ["dora"] => measure_dora(),
             ["three"] => measure_three(),
+            ["books"] => measure_books(),
             ["worst"] => worst::measure(NUMBER),
             ["profile", operation, case, times] => profile(operation, case, times.parse().ok()?)?,
             _ => return None,

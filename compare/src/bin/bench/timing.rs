@@ -98,6 +98,27 @@ pub fn compare_with<A, O>(
     }
 }
 
+/// Takes two operations in turn, the second of which does more than the first, and prints the median
+/// and the least time of the passes and how many times as long the second takes.
+pub fn compare_more<A, O>(
+    [less, more]: [&str; 2],
+    inputs: &[A],
+    mut first: impl FnMut(&A),
+    others: &[O],
+    mut second: impl FnMut(&O),
+) {
+    let [first, second] = passes([&mut || time(inputs, &mut first), &mut || {
+        time(others, &mut second)
+    }]);
+    for (name, pass) in PRINTED {
+        let [first, second] = [first[pass], second[pass]];
+        let times = second / first;
+        println!(
+            "  {name:6}  {less} {first:5.0} ns, {more} {second:5.0} ns, {times:.3} times as long"
+        );
+    }
+}
+
 /// The least time of each call over the passes, in nanoseconds. Each call is timed by itself, after
 /// the one before, and what the clock takes is left out.
 pub fn each<T>(inputs: &[T], mut call: impl FnMut(&T)) -> Vec<f64> {

@@ -1,0 +1,1 @@
+// What a booking promises beyond its contract: laws about its definition, over those of a scored win. No code.

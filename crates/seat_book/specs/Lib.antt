@@ -1,0 +1,4 @@
+pub mod Points
+pub mod Book
+pub mod Refusals
+pub mod History

@@ -1,0 +1,3 @@
+pub mod Fours
+pub mod Laws
+pub mod Examples
