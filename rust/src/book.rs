@@ -22,7 +22,7 @@ use crate::ffi;
 use crate::hand::{Meld, lent};
 use crate::refusal::{Refusal, accepted};
 use crate::rules::Variant;
-use crate::tile::TILES;
+use crate::tile::{Honor, TILES};
 use alloc::vec::Vec;
 use core::array;
 use core::fmt;
@@ -151,6 +151,18 @@ impl Winner {
         match self {
             Winner::Ron { .. } => WinType::Ron,
             Winner::Tsumo { .. } => WinType::Tsumo,
+        }
+    }
+
+    /// The win as [`SeatBook::win`] scores it: its type is this winner's, and its seat wind follows
+    /// from the dealer's seat. For a table that shows the score too, so that it cannot show another
+    /// one than is booked: [`score_win`](crate::score_win) takes it.
+    pub fn context(self, dealer: Seat, context: &GameContext) -> GameContext {
+        let onward = (self.seat().index() + SEATS - dealer.index()) % SEATS;
+        GameContext {
+            win_type: self.win_type(),
+            seat_wind: Honor::ALL[onward],
+            ..*context
         }
     }
 

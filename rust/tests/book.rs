@@ -293,6 +293,20 @@ fn win_type_and_seat_wind_of_the_context_are_not_read() {
     }
 }
 
+#[test]
+fn the_context_of_a_winner_scores_what_is_booked() {
+    for (deal, winner) in each_win() {
+        let context = winner.context(deal.dealer, &ron("8s"));
+        let score = score_win(&counts(PINFU), &[], &context).unwrap();
+        let booked = after(NEW, &pinfu(deal, winner)).unwrap();
+        // The dealer declared, so that one stick lies on the table, his own where he wins.
+        let is_dealer = winner.seat() == deal.dealer;
+        let stick = if is_dealer { 0 } else { 1000 };
+        let gained = booked.points[winner.seat().index()] - 25_000;
+        assert_eq!(gained, i64::from(score.result.payment.total) + stick);
+    }
+}
+
 // ---- Refusals ----
 
 /// Wins that scoring refuses.

@@ -10,7 +10,6 @@ use lib.Dec.{eqb}
 use borrow.Author.Tests.{eq-eqb, ne-eqb, eqb-true, eqb-false}
 use Rattle.lists.specs.Fold.{one}
 use Rattle.context.specs.declared.GameContext.{GameContext}
-use Rattle.context.specs.Context.{seatedAs}
 use Rattle.checks.specs.declared.Calls.{Calls}
 use Rattle.scoring.specs.declared.Payment.{Payment}
 use Rattle.scoring.specs.declared.Payment.the-variants.{Ron, DealerTsumo, Tsumo}
@@ -174,15 +173,3 @@ module _ (b : SeatBook) (cs : List ℕ) (k : Calls) (w : GameContext) (d : Deal)
 
     pub tsumo-paid : p .«has_discarder» ≡ false → (p .seat ≡ d .dealer → ⊥) → (m : ℕ) × (n : ℕ) × (paid ≡ Tsumo m n)
     tsumo-paid e f = P.by-another cs k w d p sat (accepted ok .scored) e f
-
-  -- ---- what is not read: the win's own type and seat wind; which seats declared, which is not compared with the riichi flag
-  pub own-seat-unread : (t v : ℕ) → winOutcome b cs k (seatedAs t v w) d p ≡ winOutcome b cs k w d p
-  unfolding winOutcome
-  own-seat-unread t v = refl
-
-  pub declared-unread : (l : List Bool) → winOutcome b cs k w (record { dealer = d .dealer; declared = l }) p ≡ winOutcome b cs k w d p
-  unfolding winOutcome scoredOutcome
-  declared-unread l =
-      let n = scoreWin cs k (seated d p w) .number in
-      ap (λ (y : Settlement). cond (areSeats d p) (cond (hasRoom b) (cond (eqb n 0) (raising b y) (refused n)) (refused 16)) (refused 15))
-      (Q.declared-apart paid (b .counter) p d l)

@@ -1,3 +1,4 @@
 pub mod Seats
 pub mod Laws
 pub mod Refusals
+pub mod Unread
