@@ -25,7 +25,7 @@ ARCHIVE = target/staticlib/libziwhakemo.a
 HEADERS = include/ziwhakemo.h include/ziwhakemo_names.h
 # what stands after the name in the header (a dot for the number sign, which begins a comment here)
 VERSION := $(shell sed -n 's/^.define ZIWHAKEMO_VERSION //p' include/ziwhakemo.h)
-PROGRAMS = score calls three book waiting drawn_deal names boundary
+PROGRAMS = score calls three book names boundary
 STANDARDS = c99 c17 c++17
 
 LIB = $(DESTDIR)$(PREFIX)/lib
@@ -55,32 +55,22 @@ target/c/%.c++17: examples/c/%.c $(HEADERS) $(ARCHIVE) | target/c
 
 examples: $(PROGRAMS:%=target/c/%.c99)
 
-# Each line of drawn_deal.in is typed behind the program's name, as in a shell.
 test: $(foreach standard,$(STANDARDS),$(PROGRAMS:%=target/c/%.$(standard)))
 	set -e; for standard in $(STANDARDS); do \
 	    echo "as $$standard"; \
-	    for program in score calls three book waiting; do \
+	    for program in score calls three book; do \
 	        target/c/$$program.$$standard > target/c/$$program.out; \
 	        diff examples/c/$$program.out target/c/$$program.out; \
 	    done; \
-	    while read -r typed; do \
-	        echo "drawn_deal $$typed"; \
-	        status=0; eval "target/c/drawn_deal.$$standard $$typed" || status=$$?; \
-	        echo "exit status $$status"; \
-	    done < examples/c/drawn_deal.in > target/c/drawn_deal.out; \
-	    diff examples/c/drawn_deal.out target/c/drawn_deal.out; \
 	    target/c/names.$$standard; \
 	    target/c/boundary.$$standard $(INPUTS) > target/c/boundary.out || { cat target/c/boundary.out; exit 1; }; \
 	    tail -n 1 target/c/boundary.out; \
 	done
 
 memcheck: $(PROGRAMS:%=target/c/%.c99)
-	set -e; for program in score calls three book waiting names; do \
+	set -e; for program in score calls three book names; do \
 	    valgrind --error-exitcode=9 target/c/$$program.c99 > /dev/null; \
 	done
-	set -e; while read -r typed; do \
-	    eval "valgrind --error-exitcode=9 target/c/drawn_deal.c99 $$typed" > /dev/null || test $$? -le 2; \
-	done < examples/c/drawn_deal.in
 	valgrind --error-exitcode=9 target/c/boundary.c99 $(INPUTS)
 
 install: $(ARCHIVE)

@@ -4,15 +4,14 @@
  *
  * It lists every reading of a finished hand, scores a win by the reading that pays most, scores any
  * reading by its number, names its waits, and gives level, basic points and payments. Dora are
- * counted by the indicators that come with a win. Once a deal has ended in a draw, it lists the tiles
- * that a hand waits for (see "Waiting tiles at a drawn deal"). It books deals: the points of the four
- * seats, the riichi sticks and the repeat counter stand in a book, which the caller keeps and lends
- * (see "The seat book"). The game is that of four players; that of three has functions of its own
- * (see "Three players"), no waiting tiles and no book. Each function is proved to answer as its
- * definition says on every input: every call comes back, and malformed input gets a number (see
- * "Refusals") instead of a score. This file is not part of the proof; examples/c/boundary.c and the
- * tests in rust/ hold it to the library. ziwhakemo_names.h, which nobody has to use, has names to
- * print: of yaku, waits, levels, settlements and refusals.
+ * counted by the indicators that come with a win. It books deals: the points of the four seats, the
+ * riichi sticks and the repeat counter stand in a book, which the caller keeps and lends (see "The
+ * seat book"). The game is that of four players; that of three has functions of its own (see "Three
+ * players"), and no book. Each function is proved to answer as its definition says on every input:
+ * every call comes back, and malformed input gets a number (see "Refusals") instead of a score.
+ * This file is not part of the proof; examples/c/boundary.c and the tests in rust/ hold it to the
+ * library. ziwhakemo_names.h, which nobody has to use, has names to print: of yaku, waits, levels,
+ * settlements and refusals.
  *
  * C99 and later, and C++. Link with libziwhakemo.a. All that the archive needs from outside is
  * memset, of any C library or your own.
@@ -37,8 +36,8 @@
  * No function keeps anything between calls or allocates memory, so any number of threads may call
  * at the same time. Of stack, the deepest calls on a million random hands used 3,449 bytes in
  * ziwhakemo_book_win, 3,369 in ziwhakemo_score_win, 3,257 in ziwhakemo_score_reading, 2,805 in
- * ziwhakemo_name_waits, 917 in ziwhakemo_list_readings, 832 in ziwhakemo_waiting_tiles and 40 in
- * ziwhakemo_book_draw. This is measured and not proved: leave some room.
+ * ziwhakemo_name_waits, 885 in ziwhakemo_list_readings and 40 in ziwhakemo_book_draw. This is
+ * measured and not proved: leave some room.
  */
 #ifndef ZIWHAKEMO_H
 #define ZIWHAKEMO_H
@@ -87,11 +86,8 @@ extern "C" {
  *       ziwhakemo_seat_book, ziwhakemo_deal and ziwhakemo_winner, and refusals 15 and 16, which no
  *       other function has. No other struct and no other number changed, and the other functions
  *       answer as in version 7.
- *   9   Waiting tiles at a drawn deal: ziwhakemo_waiting_tiles, which refuses with 6 what has not
- *       13 - 3 * calls tiles, and the struct ziwhakemo_filled_answer. No other struct and no number
- *       changed, and the other functions answer as in version 8.
  */
-#define ZIWHAKEMO_VERSION 9
+#define ZIWHAKEMO_VERSION 8
 
 /* The version of the archive. An archive of version 1 does not have this function. */
 uint32_t ziwhakemo_version(void);
@@ -100,7 +96,7 @@ uint32_t ziwhakemo_version(void);
  *
  * A tile is a number from 0 to 33: man 1 to 9, pin 1 to 9, sou 1 to 9, the four winds, the three
  * dragons. A hand is 34 counts, one byte for each tile number, of the tiles that are not called,
- * the winning tile included; of ziwhakemo_waiting_tiles alone it is without a last tile.
+ * the winning tile included.
  */
 #define ZIWHAKEMO_TILES 34
 
@@ -219,8 +215,7 @@ typedef struct ziwhakemo_game_context {
  * booking, which come before 1; only that a dealer's win would raise a counter of 255, which is 16
  * too, comes last. A refusal has its number, and 0 in every other field. A booking answers the
  * number alone, and where it is refused the book is as it was. What is refused with three players
- * alone stands here behind "three:", what ziwhakemo_waiting_tiles alone refuses behind "waiting
- * tiles:".
+ * alone stands here behind "three:".
  */
 enum {
     ZIWHAKEMO_ACCEPTED = 0,
@@ -231,10 +226,8 @@ enum {
                                              * the source 3 too */
     ZIWHAKEMO_REFUSED_COUNT_ABOVE_FOUR = 4, /* a count above 4; three: one of man 2 to 8 above 0 too */
     ZIWHAKEMO_REFUSED_FIVE_OF_A_KIND = 5,   /* hand and calls hold more than four of a kind */
-    ZIWHAKEMO_REFUSED_NUMBER_OF_TILES = 6,  /* the hand's tiles are not 14 - 3 * calls; waiting tiles:
-                                             * they are not 13 - 3 * calls */
-    ZIWHAKEMO_REFUSED_BUFFER_TOO_SHORT = 7, /* the records or the waiting tiles need more bytes than
-                                             * were lent */
+    ZIWHAKEMO_REFUSED_NUMBER_OF_TILES = 6,  /* the hand's tiles are not 14 - 3 * calls */
+    ZIWHAKEMO_REFUSED_BUFFER_TOO_SHORT = 7, /* the records need more bytes than were lent */
     ZIWHAKEMO_REFUSED_OUT_OF_RANGE = 8,     /* win type, a wind or double_wind_fu out of range */
     ZIWHAKEMO_REFUSED_WINNING_TILE = 9,     /* the winning tile is above 33 or not in the hand, where
                                              * man 2 to 8 never are with three players */
@@ -477,44 +470,6 @@ ziwhakemo_waits_answer ziwhakemo_name_waits(const uint8_t *counts, size_t counts
                                             const ziwhakemo_meld *calls, size_t calls_length,
                                             ziwhakemo_game_context win, size_t reading);
 
-/* ---- Waiting tiles at a drawn deal --------------------------------------------------------------
- *
- * When the wall is exhausted the deal is drawn, and the players show their hands. Such a hand is
- * without a last tile: it has 13 - 3 * calls tiles. It waits for each tile of which hand and calls
- * together hold fewer than four and which, added, gives the hand a reading. Seven pairs and thirteen
- * orphans are readings only where nothing is called. A tile of which all four are held is not waited
- * for; where no other tile would give a reading, the hand waits for nothing.
- *
- * A table calls this function only when a deal has ended in a draw. It is no advice during play:
- * leagues forbid the reading of unfinished hands otherwise, and every other function refuses them.
- * Nothing that is lent says whether the deal has ended, so this function cannot check it.
- *
- * It is of four players only. Nothing that is lent says which game is played: at a table of three
- * man 2 to 8 would be among the waiting tiles.
- */
-
-/* The answer of a function that fills lent bytes and says how many it wrote. Accepted: what was
- * asked for stands whole in the first `bytes` of the lent bytes, and those behind it are as they
- * were. Refused: `bytes` is 0, and all lent bytes are as they were. Refusal 7, that more bytes are
- * needed than were lent, comes after all others. */
-typedef struct ziwhakemo_filled_answer {
-    uint32_t number; /* 0, or the refusal */
-    size_t bytes;    /* how many bytes were written, from out[0] on */
-} ziwhakemo_filled_answer;
-
-/* So many bytes hold the waiting tiles of any hand: each of thirteen orphans waits. Beside a call 9
- * bytes are always enough, beside three calls 3, beside four calls 1. */
-#define ZIWHAKEMO_WAITING_ALWAYS_ENOUGH 13
-
-/* Lists the waiting tiles of a hand at a drawn deal into a lent buffer: a byte for each, its tile
- * number, ascending. A hand that waits for nothing is accepted, with 0 bytes. Refuses with 1 to 7:
- * with 6 where the hand's tiles are not 13 - 3 * calls, so that a finished hand is refused too.
- * With NULL and 0 for the buffer, a hand that passes 1 to 6 is answered with 0 if it waits for
- * nothing, and with 7 if it waits for a tile. */
-ziwhakemo_filled_answer ziwhakemo_waiting_tiles(const uint8_t *counts, size_t counts_length,
-                                                const ziwhakemo_meld *calls, size_t calls_length,
-                                                uint8_t *out, size_t out_length);
-
 /* ---- Three players ------------------------------------------------------------------------------
  *
  * The game of three players (sanma) has five functions of its own. Each takes and answers the same
@@ -724,9 +679,6 @@ ZIWHAKEMO_STANDS(ziwhakemo_score_answer, ura_dora, 69);
 ZIWHAKEMO_STANDS(ziwhakemo_score_answer, basic_points, 72);
 ZIWHAKEMO_STANDS(ziwhakemo_score_answer, total, 88);
 ZIWHAKEMO_FITS(ziwhakemo_waits_answer, 12);
-ZIWHAKEMO_FITS(ziwhakemo_filled_answer, 16);
-ZIWHAKEMO_STANDS(ziwhakemo_filled_answer, number, 0);
-ZIWHAKEMO_STANDS(ziwhakemo_filled_answer, bytes, 8);
 ZIWHAKEMO_FITS(ziwhakemo_seat_book, 40);
 ZIWHAKEMO_STANDS(ziwhakemo_seat_book, points, 0);
 ZIWHAKEMO_STANDS(ziwhakemo_seat_book, sticks, 32);

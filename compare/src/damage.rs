@@ -3,7 +3,7 @@
 use crate::differences::FAULTS;
 use crate::hand::*;
 use crate::library::Meld;
-use crate::random::{other_held_tile, winning, winning_with_calls};
+use crate::random::{held_tile, other_held_tile, winning, winning_with_calls};
 use crate::rng::Rng;
 
 /// A hand with one or two of the faults 1 to 6.
@@ -20,28 +20,18 @@ pub fn damaged(rng: &mut Rng) -> Hand {
 /// A hand with two faults, or with one where they are the same. The later check's fault is put in
 /// first, so that the earlier one's is not undone.
 pub fn with_faults(rng: &mut Rng, earlier: usize, later: usize) -> Hand {
-    let mut hand = winning_for(rng, earlier, later);
-    put_both_in(rng, &mut hand, earlier, later);
-    hand
-}
-
-/// A winning hand into which two faults can be put: for 3 and 5 it has a call.
-pub fn winning_for(rng: &mut Rng, earlier: usize, later: usize) -> Hand {
     let needs_call = [3, 5].contains(&earlier) || [3, 5].contains(&later);
-    if needs_call {
+    let mut hand = if needs_call {
         let calls = 1 + rng.below(4);
         winning_with_calls(rng, calls)
     } else {
         winning(rng)
-    }
-}
-
-/// Puts two faults in, or one where they are the same.
-pub fn put_both_in(rng: &mut Rng, hand: &mut Hand, earlier: usize, later: usize) {
+    };
     if later != earlier {
-        put_in(rng, hand, later);
+        put_in(rng, &mut hand, later);
     }
-    put_in(rng, hand, earlier);
+    put_in(rng, &mut hand, earlier);
+    hand
 }
 
 /// Puts a fault of this number in. For 3 and 5 the hand needs a call.
@@ -160,9 +150,8 @@ fn wrong_number(rng: &mut Rng, hand: &mut Hand) {
         }
         _ => {
             for _ in 0..tiles.min(2) {
-                if let Some(tile) = other_held_tile(rng, hand, KINDS) {
-                    hand.counts[tile] -= 1;
-                }
+                let tile = held_tile(rng, hand);
+                hand.counts[tile] -= 1;
             }
         }
     }

@@ -161,23 +161,9 @@ pub const FAULTS: usize = 6;
 /// The greatest basic points that are paid.
 pub const MOST_BASIC_POINTS: u32 = 152_000;
 
-/// The number of tiles of a finished hand, and of one without a last tile, with three for each call.
-const FINISHED: u128 = 14;
-const WITHOUT_LAST: u128 = 13;
-
-/// The grounds for the refusals 1 to 6 of a finished hand, each looked at by itself. Rows 'More than four
-/// calls' and 'Malformed input'.
+/// The grounds for the refusals 1 to 6, each looked at by itself. Rows 'More than four calls' and
+/// 'Malformed input'.
 pub fn hand_faults(hand: &Hand) -> [bool; FAULTS] {
-    hand_faults_of(hand, FINISHED)
-}
-
-/// The same of a hand at a drawn deal, as document 02 has it.
-pub fn drawn_faults(hand: &Hand) -> [bool; FAULTS] {
-    hand_faults_of(hand, WITHOUT_LAST)
-}
-
-/// The same of a hand that is to have so many tiles.
-fn hand_faults_of(hand: &Hand, number: u128) -> [bool; FAULTS] {
     let counts = hand.counts();
     let tiles: u128 = counts.iter().map(|&count| u128::from(count)).sum();
     [
@@ -186,7 +172,7 @@ fn hand_faults_of(hand: &Hand, number: u128) -> [bool; FAULTS] {
         hand.called().iter().any(|&meld| !is_call(meld)),
         counts.iter().any(|&count| count > 4),
         hand.with_calls().iter().any(|&number| number > 4),
-        tiles + 3 * hand.calls.count as u128 != number,
+        tiles + 3 * hand.calls.count as u128 != 14,
     ]
 }
 

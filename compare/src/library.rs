@@ -4,7 +4,7 @@ use crate::hand::{Hand, KINDS};
 use crate::rng::Rng;
 
 /// The version of the interface that is declared here.
-pub const VERSION: u32 = 9;
+pub const VERSION: u32 = 8;
 
 /// The number of yaku tallies: one for each entry of `Yaku`, Yakuhai apart for each honour, without
 /// the three local entries.
@@ -26,9 +26,6 @@ pub const MOST_INDICATORS: usize = 10;
 
 /// A buffer of so many bytes always suffices for the records of a hand.
 pub const ALWAYS_ENOUGH: usize = 1915;
-
-/// So many bytes always suffice for the waiting tiles of a hand.
-pub const WAITING_ALWAYS_ENOUGH: usize = 13;
 
 /// The number of seats at a table of four players.
 pub const SEATS: usize = 4;
@@ -247,15 +244,6 @@ pub struct Listing {
     pub bytes: usize,
 }
 
-/// The answer of an operation that fills lent bytes: 0 with how many were written, or a refusal's number
-/// with none.
-#[repr(C)]
-#[derive(Clone, Copy, Debug, PartialEq, Eq)]
-pub struct Filled {
-    pub number: u32,
-    pub bytes: usize,
-}
-
 /// A level: 0 Normal, 1 Mangan, 2 Haneman, 3 Baiman, 4 Sanbaiman, 5 Yakuman, with the count of
 /// yakuman, else 0.
 #[repr(C)]
@@ -413,14 +401,6 @@ unsafe extern "C" {
         number: usize,
     ) -> Waits;
     fn ziwhakemo_three_payment(basic_points: u32, is_dealer: bool, win_type: u8) -> PaymentAnswer;
-    pub fn ziwhakemo_waiting_tiles(
-        counts: *const u8,
-        counts_len: usize,
-        calls: *const Meld,
-        calls_len: usize,
-        out: *mut u8,
-        out_len: usize,
-    ) -> Filled;
     fn ziwhakemo_new_book() -> SeatBook;
     pub fn ziwhakemo_book_draw(book: *mut SeatBook, deal: Deal) -> u32;
     pub fn ziwhakemo_book_win(
@@ -556,14 +536,6 @@ pub fn three_payment(basic_points: u32, is_dealer: bool, win_type: u8) -> Paymen
     unsafe { ziwhakemo_three_payment(basic_points, is_dealer, win_type) }
 }
 
-/// Lists the waiting tiles of a hand at a drawn deal into `out`.
-pub fn waiting_tiles(counts: &[u8], calls: Calls, out: &mut [u8]) -> Filled {
-    let (place, length) = (out.as_mut_ptr(), out.len());
-    lend(&calls, |melds, number| unsafe {
-        ziwhakemo_waiting_tiles(counts.as_ptr(), counts.len(), melds, number, place, length)
-    })
-}
-
 /// A new book.
 pub fn new_book() -> SeatBook {
     unsafe { ziwhakemo_new_book() }
@@ -624,13 +596,6 @@ mod tests {
         assert_eq!(offset_of!(Score, ura_dora), 69);
         assert_eq!(offset_of!(Score, basic_points), 72);
         assert_eq!(offset_of!(Score, total), 88);
-    }
-
-    #[test]
-    fn the_answer_of_what_fills_lent_bytes_is_16_bytes() {
-        assert_eq!((size_of::<Filled>(), align_of::<Filled>()), (16, 8));
-        assert_eq!(offset_of!(Filled, number), 0);
-        assert_eq!(offset_of!(Filled, bytes), 8);
     }
 
     #[test]

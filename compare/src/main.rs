@@ -1,7 +1,7 @@
 //! Compares the proved library with agari-core.
 
 use compare::arguments::{self, Options};
-use compare::{books, points, readings, scored_wins, scores, sources, three, twins, waiting};
+use compare::{books, points, readings, scored_wins, scores, sources, three, twins};
 use std::process::ExitCode;
 use std::time::Duration;
 
@@ -13,8 +13,7 @@ const USAGE: &str = "usage: compare readings [--seed N] [--random N] [--suit] [-
        compare sources [--seed N] [--pairs N]
        compare three [--seed N] [--random N] [--damaged [N]] [--twins [N]]
                [--payments] [--sources] [--suit] [--mixed SECONDS]
-       compare books [--seed N] [--random N]
-       compare waiting [--seed N] [--random N] [--suit] [--twins [N]] [--faulty [N]]";
+       compare books [--seed N] [--random N]";
 const SEED: u64 = 1;
 const RANDOM_HANDS: u64 = 5_000_000;
 const MIXED_SECONDS: u64 = 600;
@@ -29,9 +28,6 @@ const THREE_WINS: u64 = 5_000_000;
 const THREE_DAMAGED: u64 = 3_000_000;
 const THREE_TWINS: u64 = 1_000_000;
 const BOOK_HISTORIES: u64 = 1_000_000;
-const WAITING_HANDS: u64 = 1_000_000;
-const WAITING_TWINS: u64 = 2_000_000;
-const WAITING_FAULTY: u64 = 10_000;
 
 fn main() -> ExitCode {
     arguments::run(USAGE, |words| {
@@ -56,7 +52,6 @@ fn compare(words: &[&str]) -> Option<u64> {
         "sources" => compare_sources(words),
         "three" => compare_three(words),
         "books" => compare_books(words),
-        "waiting" => compare_waiting(words),
         _ => None,
     }
 }
@@ -175,25 +170,4 @@ fn compare_books(words: &[&str]) -> Option<u64> {
         seed: given.number("--seed").unwrap_or(SEED),
         histories: given.number("--random").unwrap_or(BOOK_HISTORIES),
     }))
-}
-
-/// Where no class is named, all are compared.
-fn compare_waiting(words: &[&str]) -> Option<u64> {
-    let usual = [("--twins", WAITING_TWINS), ("--faulty", WAITING_FAULTY)];
-    let given = Options::read_with(words, &["--seed", "--random"], &["--suit"], &usual)?;
-    let mut options = waiting::Options {
-        seed: given.number("--seed").unwrap_or(SEED),
-        suit: given.has("--suit"),
-        random: given.number("--random"),
-        twins: given.number("--twins"),
-        faulty: given.number("--faulty"),
-    };
-    let is_random = options.random.or(options.twins).or(options.faulty);
-    if is_random.is_none() && !options.suit {
-        options.suit = true;
-        options.random = Some(WAITING_HANDS);
-        options.twins = Some(WAITING_TWINS);
-        options.faulty = Some(WAITING_FAULTY);
-    }
-    Some(waiting::compare(&options))
 }

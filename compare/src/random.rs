@@ -38,7 +38,7 @@ impl Pool {
     }
 
     /// So many neighbouring numbers of a suit.
-    pub fn window(rng: &mut Rng, width: usize) -> Pool {
+    fn window(rng: &mut Rng, width: usize) -> Pool {
         let first = 9 * rng.below(3) + rng.below(10 - width);
         Pool(((1 << width) - 1) << first)
     }
@@ -98,24 +98,18 @@ impl Style {
     /// A winning hand with so many calls.
     pub fn winning(self, rng: &mut Rng, calls: usize) -> Hand {
         loop {
-            let hand = self.melds_and_pair(rng, calls);
+            let mut hand = Hand::empty();
+            for _ in 0..calls {
+                hand.call(self.call(rng));
+            }
+            for _ in calls..4 {
+                add_meld(&mut hand, self.closed_meld(rng));
+            }
+            hand.counts[usize::from(self.pool.tile(rng))] += 2;
             if at_most_four(&hand) {
                 return hand;
             }
         }
-    }
-
-    /// Four melds, so many of them called, and a pair: perhaps more than four of a kind.
-    pub fn melds_and_pair(self, rng: &mut Rng, calls: usize) -> Hand {
-        let mut hand = Hand::empty();
-        for _ in 0..calls {
-            hand.call(self.call(rng));
-        }
-        for _ in calls..4 {
-            add_meld(&mut hand, self.closed_meld(rng));
-        }
-        hand.counts[usize::from(self.pool.tile(rng))] += 2;
-        hand
     }
 }
 

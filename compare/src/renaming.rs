@@ -103,13 +103,6 @@ impl Renaming {
         }
     }
 
-    /// These tiles renamed, ascending.
-    pub fn ascending(&self, tiles: &[u8]) -> Vec<u8> {
-        let mut renamed: Vec<u8> = tiles.iter().map(|&tile| self.tile(tile)).collect();
-        renamed.sort();
-        renamed
-    }
-
     /// A meld of its renamed tiles, of which the lowest names it. Kind and source stay.
     fn meld(&self, meld: Meld) -> Meld {
         let tiles = meld.tiles().map(|tile| self.tile(tile as u8));

@@ -2,14 +2,12 @@
    answer to what can be said of it without scoring: the refusals, the bytes, the calls among the
    melds, the dora, the choice among the readings, what the room's setting and the indicators change,
    that the sources of the calls change nothing else, and that the functions for three players refuse
-   what they have to and else answer as those for four, but for the total. The waiting tiles of each
-   hand less a tile are held to a plain search for melds, pairs and orphans, and to the listing of
-   readings. A booking is held to the book that follows from the score, byte for byte, and to the
-   book as it was where it is refused. Whatever is lent is allocated at exactly its size, so that
-   valgrind sees every read or write outside of it. Before them, single hands: one under every
-   setting, some with dora, one with a call of every kind and source, one with what three players
-   alone are refused, some that wait for every tile that they can, and one that is booked with every
-   byte for a seat and at every limit of a book. In the root:
+   what they have to and else answer as those for four, but for the total. A booking is held to the
+   book that follows from the score, byte for byte, and to the book as it was where it is refused.
+   Whatever is lent is allocated at exactly its size, so that valgrind sees every read or write
+   outside of it. Before them, single hands: one under every setting, some with dora, one with a
+   call of every kind and source, one with what three players alone are refused, and one that is
+   booked with every byte for a seat and at every limit of a book. In the root:
 
      cc -std=c99 -O1 -g -Iinclude examples/c/boundary.c target/staticlib/libziwhakemo.a \
          -o target/boundary
@@ -29,7 +27,6 @@
 enum { MOST_COUNTS = 40, MOST_CALLS = 6, MOST_BYTES = 120, GUARD = 64 };
 enum { NUMBERS = 17, MANY = 5, ENOUGH = 10000 };
 enum { FIRST_MELD = 5 }; /* where the melds of a standard record begin */
-enum { FINISHED = 14, WITHOUT_LAST = 13 }; /* how many tiles a hand has, three for each call */
 
 /* ---- Random numbers (splitmix64) ---- */
 
@@ -113,9 +110,8 @@ static unsigned held(const input *in, unsigned tile) {
     return sum;
 }
 
-/* The first of the checks 1 to 6 that fails, or 0, for a hand that is to have so many tiles with
-   three for each call. */
-static unsigned hand_check_of(const input *in, unsigned tiles) {
+/* The first of the checks 1 to 6 that fails, or 0. */
+static unsigned hand_check(const input *in) {
     unsigned sum = 0;
     if (in->counts_length != ZIWHAKEMO_TILES) return 1;
     if (in->calls_length > 4) return 2;
@@ -127,12 +123,7 @@ static unsigned hand_check_of(const input *in, unsigned tiles) {
         if (held(in, i) > 4) return 5;
         sum += in->counts[i];
     }
-    return sum + 3 * in->calls_length != tiles ? 6 : 0;
-}
-
-/* The same of a finished hand. */
-static unsigned hand_check(const input *in) {
-    return hand_check_of(in, FINISHED);
+    return sum + 3 * in->calls_length != 14 ? 6 : 0;
 }
 
 static bool is_wind(uint8_t tile) {
@@ -296,12 +287,10 @@ static void seven_pairs(input *in) {
     }
 }
 
-/* The terminals and honors. */
-static const uint8_t orphan_kinds[] = {0, 8, 9, 17, 18, 26, 27, 28, 29, 30, 31, 32, 33};
-
 static void orphans(input *in) {
-    for (int i = 0; i < 13; i++) in->counts[orphan_kinds[i]] = 1;
-    in->counts[orphan_kinds[below(13)]]++;
+    static const uint8_t kinds[] = {0, 8, 9, 17, 18, 26, 27, 28, 29, 30, 31, 32, 33};
+    for (int i = 0; i < 13; i++) in->counts[kinds[i]] = 1;
+    in->counts[kinds[below(13)]]++;
 }
 
 static void from_the_wall(input *in) {
@@ -1494,246 +1483,6 @@ static void three_players(void) {
     }
 }
 
-/* ---- Waiting tiles ---- */
-
-static uint64_t waited[NUMBERS], with_waits[ZIWHAKEMO_WAITING_ALWAYS_ENOUGH + 1], all_held;
-
-/* The waiting tiles of a hand, and whether one would serve of which all four are held. */
-typedef struct {
-    unsigned number;
-    size_t bytes;
-    uint8_t tiles[ZIWHAKEMO_TILES];
-    bool is_one_held;
-} waits;
-
-/* Can the tiles be taken apart into melds? The lowest is in a triplet or starts a sequence. */
-static bool are_melds(uint8_t *counts) {
-    bool found = false;
-    uint8_t tile = 0;
-    while (tile < ZIWHAKEMO_TILES && counts[tile] == 0) tile++;
-    if (tile == ZIWHAKEMO_TILES) return true;
-    if (counts[tile] >= 3) {
-        counts[tile] -= 3;
-        found = are_melds(counts);
-        counts[tile] += 3;
-    }
-    if (!found && starts_sequence(tile) && counts[tile + 1] > 0 && counts[tile + 2] > 0) {
-        for (int i = 0; i < 3; i++) counts[tile + i]--;
-        found = are_melds(counts);
-        for (int i = 0; i < 3; i++) counts[tile + i]++;
-    }
-    return found;
-}
-
-/* A pair, and melds beside it? */
-static bool is_standard(uint8_t *counts) {
-    for (int tile = 0; tile < ZIWHAKEMO_TILES; tile++) {
-        if (counts[tile] < 2) continue;
-        counts[tile] -= 2;
-        bool found = are_melds(counts);
-        counts[tile] += 2;
-        if (found) return true;
-    }
-    return false;
-}
-
-/* Seven different pairs? */
-static bool are_seven_pairs(const uint8_t *counts) {
-    unsigned pairs = 0;
-    for (int tile = 0; tile < ZIWHAKEMO_TILES; tile++) pairs += counts[tile] == 2;
-    return pairs == 7;
-}
-
-/* Thirteen orphans, of 14 tiles? */
-static bool are_orphans(const uint8_t *counts) {
-    unsigned sum = 0;
-    for (int i = 0; i < 13; i++) {
-        if (counts[orphan_kinds[i]] == 0) return false;
-        sum += counts[orphan_kinds[i]];
-    }
-    return sum == FINISHED;
-}
-
-/* Has the hand a reading with one more of a tile? */
-static bool is_finished_by(const input *in, int tile) {
-    uint8_t counts[ZIWHAKEMO_TILES];
-    memcpy(counts, in->counts, sizeof counts);
-    counts[tile]++;
-    if (is_standard(counts)) return true;
-    return in->calls_length == 0 && (are_seven_pairs(counts) || are_orphans(counts));
-}
-
-/* What a hand at a drawn deal has to be answered where there are bytes enough. */
-static waits expected_waits(const input *in) {
-    waits w;
-    memset(&w, 0, sizeof w);
-    w.number = hand_check_of(in, WITHOUT_LAST);
-    for (int tile = 0; w.number == 0 && tile < ZIWHAKEMO_TILES; tile++) {
-        if (!is_finished_by(in, tile)) continue;
-        if (held(in, (unsigned)tile) < 4) w.tiles[w.bytes++] = (uint8_t)tile;
-        else w.is_one_held = true;
-    }
-    return w;
-}
-
-/* Lists into exactly so many bytes, noise before. */
-static void wait_exactly(const input *in, lent from, const waits *w, size_t length) {
-    uint8_t noise[ZIWHAKEMO_TILES + 1];
-    for (size_t i = 0; i < sizeof noise; i++) noise[i] = byte();
-    uint8_t *out = (uint8_t *)lend(noise, length);
-    ziwhakemo_filled_answer answer = ziwhakemo_waiting_tiles(
-        from.counts, in->counts_length, from.calls, in->calls_length, out, length);
-    unsigned number = w->number == 0 && w->bytes > length ? 7 : w->number;
-    size_t bytes = number == 0 ? w->bytes : 0;
-    hold(answer.number == number, "the number of waiting tiles", in);
-    hold(answer.bytes == bytes, "how many waiting tiles", in);
-    hold(same(out, w->tiles, bytes), "the waiting tiles", in);
-    hold(length == bytes || same(out + bytes, noise + bytes, length - bytes),
-         "a byte beyond the waiting tiles changed", in);
-    waited[number]++;
-    free(out);
-}
-
-/* Lists into bytes that are always enough, with bytes on both sides of them that have to stay. */
-static void wait_guarded(const input *in, lent from, const waits *w) {
-    enum { ENOUGH_BYTES = ZIWHAKEMO_WAITING_ALWAYS_ENOUGH };
-    uint8_t block[GUARD + ENOUGH_BYTES + GUARD], expected[sizeof block];
-    memset(block, 0xa5, sizeof block);
-    memset(expected, 0xa5, sizeof expected);
-    ziwhakemo_filled_answer answer =
-        ziwhakemo_waiting_tiles(from.counts, in->counts_length, from.calls, in->calls_length,
-                                block + GUARD, ENOUGH_BYTES);
-    hold(w->bytes <= ENOUGH_BYTES, "more waiting tiles than there can be", in);
-    if (w->bytes <= ENOUGH_BYTES) memcpy(expected + GUARD, w->tiles, w->bytes);
-    hold(answer.number == w->number && answer.bytes == w->bytes, "the answer of waiting tiles", in);
-    hold(same(block, expected, sizeof block), "a byte beside the waiting tiles changed", in);
-}
-
-/* A tile is among the waiting ones exactly where the listing finds a reading of the hand with it. */
-static void hold_listed(const input *in, const waits *w, uint8_t tile) {
-    uint8_t records[ZIWHAKEMO_ALWAYS_ENOUGH];
-    input with = *in;
-    with.counts[tile]++;
-    ziwhakemo_listing_answer answer =
-        ziwhakemo_list_readings(with.counts, with.counts_length, with.calls, with.calls_length,
-                                records, sizeof records);
-    bool is_waiting = memchr(w->tiles, tile, w->bytes) != NULL;
-    hold(is_waiting == (answer.number == 0 && answer.readings > 0), "a reading with a tile", in);
-}
-
-/* A hand at a drawn deal, lent as many bytes as it needs, one fewer, one more and any number. */
-static void wait_for(const input *in, lent from) {
-    waits w = expected_waits(in);
-    size_t need = w.bytes;
-    wait_guarded(in, from, &w);
-    wait_exactly(in, from, &w, need);
-    wait_exactly(in, from, &w, need + 1);
-    wait_exactly(in, from, &w, below(ZIWHAKEMO_TILES + 2));
-    if (need > 0) wait_exactly(in, from, &w, need - 1);
-    if (w.number != 0) return;
-    hold_listed(in, &w, (uint8_t)below(ZIWHAKEMO_TILES));
-    with_waits[need]++;
-    all_held += need == 0 && w.is_one_held;
-}
-
-/* What was drawn, mostly with a tile taken away, and sometimes as it is. */
-static void wait_without_one(const input *in) {
-    input without = *in;
-    uint8_t tile = held_tile(in);
-    if (percent(95) && in->counts[tile] > 0) without.counts[tile]--;
-    lent from;
-    from.counts = (uint8_t *)lend(without.counts, without.counts_length);
-    from.calls = (ziwhakemo_meld *)lend(without.calls, without.calls_length * sizeof *from.calls);
-    wait_for(&without, from);
-    hold(same(from.counts, without.counts, without.counts_length), "the counts changed", in);
-    hold(same(from.calls, without.calls, without.calls_length * sizeof *from.calls),
-         "a call changed", in);
-    free(from.counts);
-    free(from.calls);
-}
-
-/* No tile and no call. */
-static input no_tiles(void) {
-    input in;
-    memset(&in, 0, sizeof in);
-    in.counts_length = ZIWHAKEMO_TILES;
-    return in;
-}
-
-/* Does the hand wait for so many tiles, whatever is lent? */
-static void hold_waits(input in, size_t tiles) {
-    lent from = {in.counts, in.calls};
-    waits w = expected_waits(&in);
-    hold(w.number == 0 && w.bytes == tiles, "the expected number of waiting tiles", &in);
-    for (size_t length = 0; length <= ZIWHAKEMO_TILES + 1; length++)
-        wait_exactly(&in, from, &w, length);
-    wait_guarded(&in, from, &w);
-    for (uint8_t tile = 0; tile < ZIWHAKEMO_TILES; tile++) hold_listed(&in, &w, tile);
-}
-
-/* Thirteen orphans wait for 13 tiles, and with one of them twice and one missing for that one. */
-static void wait_for_orphans(void) {
-    for (int twice = 0; twice < 13; twice++) {
-        for (int missing = 0; missing < 13; missing++) {
-            input in = no_tiles();
-            for (int i = 0; i < 13; i++) in.counts[orphan_kinds[i]] = 1;
-            in.counts[orphan_kinds[twice]]++;
-            in.counts[orphan_kinds[missing]]--;
-            hold_waits(in, twice == missing ? 13 : 1);
-        }
-    }
-}
-
-/* Nine gates of each suit wait for nine tiles. A tile beside four chi waits for itself, but where
-   the calls have the other three of it. */
-static void wait_for_suits(void) {
-    for (uint8_t first = 0; first < ZIWHAKEMO_EAST; first += 9) {
-        input gates = no_tiles();
-        for (int i = 0; i < 9; i++) gates.counts[first + i] = i == 0 || i == 8 ? 3 : 1;
-        hold_waits(gates, 9);
-        for (uint8_t tile = 0; tile < ZIWHAKEMO_TILES; tile++) {
-            input four = no_tiles();
-            four.counts[tile] = 1;
-            for (int i = 0; i < 4; i++) {
-                uint8_t start = (uint8_t)(first + (i < 3 ? 0 : 6));
-                ziwhakemo_meld chi = {start, ZIWHAKEMO_MELD_OPEN_SEQUENCE, ZIWHAKEMO_FROM_LEFT};
-                four.calls[four.calls_length++] = chi;
-            }
-            hold_waits(four, tile >= first && tile < first + 3 ? 0 : 1);
-        }
-    }
-}
-
-/* Grounds for 1 to 7 in every mixture that can be: the first of them, in this order, is answered. */
-static void waits_in_order(void) {
-    for (unsigned grounds = 0; grounds < 64; grounds++) {
-        unsigned first = 1;
-        input in = no_tiles();
-        ziwhakemo_meld pon = {ZIWHAKEMO_RED, ZIWHAKEMO_MELD_OPEN_TRIPLET, ZIWHAKEMO_FROM_RIGHT};
-        for (int n = 1; n <= 9; n++) in.counts[ZIWHAKEMO_SOU(n)] = 1;
-        in.counts[ZIWHAKEMO_EAST] = 1;
-        in.calls[0] = in.calls[1] = in.calls[2] = in.calls[3] = in.calls[4] = pon;
-        in.calls_length = grounds & 2 ? 5 : 1;
-        if (grounds & 1) in.counts_length--;
-        if (grounds & 4) in.calls[0].source = ZIWHAKEMO_FROM_NOBODY;
-        if (grounds & 8) in.counts[ZIWHAKEMO_MAN(1)] = 5;
-        if (grounds & 16) in.counts[ZIWHAKEMO_RED] = 2;
-        if (grounds & 32) in.counts[ZIWHAKEMO_SOU(5)]++;
-        while (first < 7 && !(grounds >> (first - 1) & 1)) first++;
-        lent from = {in.counts, in.calls};
-        waits w = expected_waits(&in);
-        hold(w.number == (first < 7 ? first : 0), "the expected number of waiting tiles", &in);
-        wait_guarded(&in, from, &w);
-        wait_exactly(&in, from, &w, 0); /* 7 comes last */
-    }
-}
-
-static void waiting(void) {
-    wait_for_orphans();
-    wait_for_suits();
-    waits_in_order();
-}
-
 /* ---- The book ---- */
 
 static uint64_t drawn[NUMBERS], booked[NUMBERS], book_settled[NUMBERS];
@@ -2197,7 +1946,6 @@ static void run(const input *in) {
     three_score(in, from);
     three_by_number(in, from);
     three_points(in);
-    wait_without_one(in);
     book_both(in, from);
     go_on(in, from);
     hold(same(from.counts, in->counts, in->counts_length), "the counts changed", in);
@@ -2243,7 +1991,6 @@ static void print_operations(bool enough) {
     print_numbers("ziwhakemo_three_score_reading", three_scored, reading, enough);
     print_numbers("ziwhakemo_three_name_waits", three_named, reading, enough);
     print_numbers("ziwhakemo_three_payment", three_paid, payment, enough);
-    print_numbers("ziwhakemo_waiting_tiles", waited, listing, enough);
     print_numbers("ziwhakemo_book_draw", drawn, draw, enough);
     print_numbers("ziwhakemo_book_win", booked, book_win, enough);
 }
@@ -2255,10 +2002,6 @@ static void print_others(void) {
     print("ziwhakemo_score_level and ziwhakemo_basic_points, by level", levels);
     printf("accepted hands with 0, 1, 2, 3, 4, more readings:");
     for (int i = 0; i <= MANY; i++) printf(" %lu", (unsigned long)with_readings[i]);
-    printf("\naccepted hands at a drawn deal that wait for 0, 1, .. 13 tiles:");
-    for (int i = 0; i <= ZIWHAKEMO_WAITING_ALWAYS_ENOUGH; i++)
-        printf(" %lu", (unsigned long)with_waits[i]);
-    printf("\nof them, all four held of each tile that would serve: %lu", (unsigned long)all_held);
     printf("\nreadings whose pair is both winds, as many fu by two as by four, ten fewer:");
     for (int i = 0; i < 2; i++) printf(" %lu", (unsigned long)fewer_fu[i]);
     printf("\nreadings without dora, with some, with 13 and more; yakuman with some; no yaku at "
@@ -2286,7 +2029,6 @@ int main(int words, char **arguments) {
     indicators();
     sources();
     three_players();
-    waiting();
     books();
     for (unsigned long i = 0; i < inputs; i++) {
         input in = draw_input();

@@ -5,7 +5,7 @@ use crate::OTHER_VERSION;
 use crate::rules::Variant;
 
 /// The version of the interface that is declared here: `ZIWHAKEMO_VERSION` of the header.
-pub const VERSION: u32 = 9;
+pub const VERSION: u32 = 8;
 
 /// A meld: the number of its lowest tile, its kind, and who its tile was called from: 1 to 3 seats onward,
 /// with three players 1 or 2, or 0.
@@ -107,15 +107,6 @@ pub struct WaitsAnswer {
     pub waits: [u8; 6],
 }
 
-/// The answer of an operation that fills lent bytes: 0 with how many were written, or a refusal's
-/// number alone.
-#[repr(C)]
-#[derive(Clone, Copy, Debug, PartialEq, Eq)]
-pub struct FilledAnswer {
-    pub number: u32,
-    pub bytes: usize,
-}
-
 /// The book of a table: the points of seats 0 to 3, the riichi sticks on the table, how many deals
 /// are booked, and the repeat counter. `reserved` is 0 in a new book and is kept by every booking;
 /// with it there is no padding.
@@ -213,16 +204,6 @@ unsafe extern "C" {
         win: GameContext,
         reading: usize,
     ) -> WaitsAnswer;
-
-    // Waiting tiles at a drawn deal, with four players.
-    fn ziwhakemo_waiting_tiles(
-        counts: *const u8,
-        counts_length: usize,
-        calls: *const Meld,
-        calls_length: usize,
-        out: *mut u8,
-        out_length: usize,
-    ) -> FilledAnswer;
 
     // The seat book, with four players.
     fn ziwhakemo_book_draw(book: *mut SeatBook, deal: Deal) -> u32;
@@ -358,22 +339,6 @@ pub fn name_waits(
     }
 }
 
-/// Lists the waiting tiles of a hand at a drawn deal into the lent buffer.
-pub fn waiting_tiles(counts: &[u8], calls: &[Meld], out: &mut [u8]) -> FilledAnswer {
-    check_version();
-    // SAFETY: as for `list_readings`.
-    unsafe {
-        ziwhakemo_waiting_tiles(
-            counts.as_ptr(),
-            counts.len(),
-            calls.as_ptr(),
-            calls.len(),
-            out.as_mut_ptr(),
-            out.len(),
-        )
-    }
-}
-
 /// The level of han and fu.
 pub fn score_level(han: u8, fu: u8, is_yakuman: bool) -> LevelAnswer {
     check_version();
@@ -448,7 +413,6 @@ mod tests {
     use super::*;
     use crate::book::{self, SEATS};
     use crate::record::{ALWAYS_ENOUGH, STANDARD_LENGTH};
-    use crate::waiting::WaitingTiles;
     use std::mem::{align_of, offset_of, size_of};
     use std::ptr;
 
@@ -581,8 +545,6 @@ mod tests {
     fn header_and_crate_have_the_same_lengths() {
         assert!(is_defined("ZIWHAKEMO_STANDARD_LENGTH", STANDARD_LENGTH));
         assert!(is_defined("ZIWHAKEMO_ALWAYS_ENOUGH", ALWAYS_ENOUGH));
-        let waiting = WaitingTiles::ALWAYS_ENOUGH;
-        assert!(is_defined("ZIWHAKEMO_WAITING_ALWAYS_ENOUGH", waiting));
     }
 
     #[test]
@@ -632,10 +594,6 @@ mod tests {
         assert_eq!(offset_of!(PaymentAnswer, settlement), 4);
         assert_eq!(offset_of!(PaymentAnswer, total), 24);
         assert_eq!(size_of::<WaitsAnswer>(), 12);
-        let filled = (size_of::<FilledAnswer>(), align_of::<FilledAnswer>());
-        assert_eq!(filled, (16, 8));
-        assert_eq!(offset_of!(FilledAnswer, number), 0);
-        assert_eq!(offset_of!(FilledAnswer, bytes), 8);
         assert_eq!(size_of::<ScoreAnswer>(), 96);
         assert_eq!(offset_of!(ScoreAnswer, settlement), 4);
         assert_eq!(offset_of!(ScoreAnswer, tallies), 16);
@@ -710,62 +668,6 @@ mod tests {
             ]
         };
         assert_eq!(answers.map(|answer| answer.number), [1, 7]);
-    }
-
-    /// man 1112345678999: nine gates, which wait for each man.
-    fn nine_gates() -> [u8; 34] {
-        let mut counts = [0; 34];
-        counts[..9].copy_from_slice(&[3, 1, 1, 1, 1, 1, 1, 1, 3]);
-        counts
-    }
-
-    #[test]
-    fn waiting_tiles_fill_lent_bytes_of_any_length_or_leave_them() {
-        for length in 0..=34 {
-            // Bytes on both sides of what is lent, which have to stay too.
-            let mut buffer = [0xa5; 64 + 34 + 64];
-            let answer = waiting_tiles(&nine_gates(), &[], &mut buffer[64..64 + length]);
-            let mut expected = [0xa5; 64 + 34 + 64];
-            let (number, bytes) = if length < 9 { (7, 0) } else { (0, 9) };
-            let man = [0, 1, 2, 3, 4, 5, 6, 7, 8];
-            expected[64..64 + bytes].copy_from_slice(&man[..bytes]);
-            let expected_answer = FilledAnswer { number, bytes };
-            assert_eq!(answer, expected_answer, "{length} bytes lent");
-            assert_eq!(buffer, expected, "{length} bytes lent");
-        }
-    }
-
-    #[test]
-    fn a_refusal_of_waiting_tiles_leaves_all_lent_bytes() {
-        let mut buffer = [0xa5; 40];
-        let mut short = nine_gates();
-        short[0] = 2;
-        let mut finished = nine_gates();
-        finished[4] = 2;
-        for counts in [&nine_gates()[1..], &short, &finished, &[0; 34]] {
-            let answer = waiting_tiles(counts, &[], &mut buffer);
-            let number = if counts.len() == 34 { 6 } else { 1 };
-            assert_eq!(answer, FilledAnswer { number, bytes: 0 });
-            assert_eq!(buffer, [0xa5; 40]);
-        }
-    }
-
-    #[test]
-    fn null_is_taken_for_waiting_tiles_where_nothing_is_lent() {
-        // Thirteen tiles, no two of them alike or side by side, wait for nothing.
-        let gates = nine_gates();
-        let none: [u8; 34] = core::array::from_fn(|tile| u8::from(tile < 26 && tile % 2 == 0));
-        let (gates, none) = (gates.as_ptr(), none.as_ptr());
-        // SAFETY: each count that goes with a null pointer is 0.
-        let answers = unsafe {
-            [
-                ziwhakemo_waiting_tiles(ptr::null(), 0, ptr::null(), 0, ptr::null_mut(), 0),
-                ziwhakemo_waiting_tiles(gates, 34, ptr::null(), 0, ptr::null_mut(), 0),
-                ziwhakemo_waiting_tiles(none, 34, ptr::null(), 0, ptr::null_mut(), 0),
-            ]
-        };
-        assert_eq!(answers.map(|answer| answer.number), [1, 7, 0]);
-        assert_eq!(answers.map(|answer| answer.bytes), [0; 3]);
     }
 
     #[test]

@@ -5,7 +5,7 @@
 //! nothing itself. `README.md` says call by call what stands for what in agari.
 //!
 //! A hand is 34 counts by tile number, of the tiles that are not called, the winning tile included
-//! ([`to_counts`]); of [`waiting_tiles`] alone it is without a last tile. Calls are melds in any order, each open one with its [`Source`]. Input that cannot be
+//! ([`to_counts`]). Calls are melds in any order, each open one with its [`Source`]. Input that cannot be
 //! scored is a [`Refusal`].
 //!
 //! ```
@@ -57,22 +57,9 @@
 //! # Ok::<(), ziwhakemo::Refusal>(())
 //! ```
 //!
-//! Once a deal has ended in a draw, [`waiting_tiles`] lists what a hand without a last tile waits for:
-//!
-//! ```
-//! use ziwhakemo::{Suit, Tile, to_counts, waiting_tiles};
-//!
-//! // sou 1112345678999: nine gates
-//! let sou = [1, 1, 1, 2, 3, 4, 5, 6, 7, 8, 9, 9, 9].map(|value| Tile::suited(Suit::Sou, value));
-//! let waiting = waiting_tiles(&to_counts(&sou).unwrap(), &[])?;
-//! assert_eq!(waiting.len(), 9);
-//! assert_eq!(waiting.iter().next(), Some(Tile::suited(Suit::Sou, 1)));
-//! # Ok::<(), ziwhakemo::Refusal>(())
-//! ```
-//!
 //! These functions are of four players. The game of three ([`Variant::Sanma`]) has the same ones as methods:
 //! `Variant::Sanma.score_win(&counts, &[], &context)`. What differs between the two games stands in [`rules`].
-//! The seat book and the waiting tiles are of four players alone.
+//! The seat book is of four players alone.
 //!
 //! Without the feature `std`, which is on by default, the crate needs `alloc` alone, and leaves out
 //! `TileCounts`, `counts_of` and the module `agari`.
@@ -98,7 +85,6 @@ pub mod rules;
 pub mod scoring;
 pub mod tile;
 pub mod wait;
-pub mod waiting;
 pub mod yaku;
 
 pub use book::{Booking, Deal, Seat, SeatBook, Winner};
@@ -114,7 +100,6 @@ pub use tile::{Honor, Suit, Tile, to_counts};
 #[cfg(feature = "std")]
 pub use tile::{TileCounts, counts_of};
 pub use wait::{WaitType, detect_wait_types};
-pub use waiting::{WaitingTiles, list_waiting_tiles, waiting_tiles};
 pub use yaku::{Yaku, YakuResult};
 
 /// What is said where the library answers with a number that has no meaning here.

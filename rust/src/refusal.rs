@@ -22,10 +22,9 @@ pub enum Refusal {
     CountAboveFour = 4,
     /// Hand and calls together hold more than four of a kind.
     FiveOfAKind = 5,
-    /// The hand's tiles are not 14 - 3 × calls: only finished hands are read. Of the waiting tiles at a
-    /// drawn deal: they are not 13 - 3 × calls.
+    /// The hand's tiles are not 14 - 3 × calls. Only finished hands are read.
     NumberOfTiles = 6,
-    /// The records or the waiting tiles need more bytes than were lent. It comes after 1 to 6.
+    /// The records need more bytes than were lent.
     BufferTooShort = 7,
     /// The win type, a wind or the room's setting is out of range. Here: the round or the seat wind is a
     /// dragon, and where a deal is booked the round wind alone.
@@ -95,10 +94,8 @@ impl Refusal {
                 "a count above 4, or with three players one of man 2 to 8 above 0"
             }
             Refusal::FiveOfAKind => "hand and calls together hold more than four of a kind",
-            Refusal::NumberOfTiles => {
-                "the hand's tiles are not 14 - 3 × calls, or 13 - 3 × calls at a drawn deal"
-            }
-            Refusal::BufferTooShort => "more bytes are needed than were lent",
+            Refusal::NumberOfTiles => "the hand's tiles are not 14 - 3 × calls",
+            Refusal::BufferTooShort => "the records need more bytes than were lent",
             Refusal::OutOfRange => "the win type, a wind or the room's setting is out of range",
             Refusal::WinningTile => "the winning tile is no tile or not in the hand",
             Refusal::NoReading => "the hand has no reading",

@@ -16,8 +16,7 @@
 //! | who pays by tsumo | three players | two, each as much as with four; the total is theirs |
 //!
 //! North is a wind like the others with three players too, as round and as seat wind, and no tile is set aside
-//! (nukidora). The seat book ([`SeatBook`](crate::SeatBook)) and the waiting tiles at a drawn deal
-//! ([`waiting_tiles`](crate::waiting_tiles)) are of four players alone.
+//! (nukidora). The seat book ([`SeatBook`](crate::SeatBook)) is of four players alone.
 
 use crate::tile::{Suit, Tile};
 

@@ -6,6 +6,17 @@ use common::book::*;
 use common::{counts, ron, tile};
 use ziwhakemo::*;
 
+// ---- The version ----
+
+#[test]
+fn the_interface_is_of_version_8() {
+    let header = include_str!("../../include/ziwhakemo.h");
+    let is_eight = |line: &str| line == "#define ZIWHAKEMO_VERSION 8";
+    assert!(header.lines().any(is_eight));
+    // A call to an archive of another version panics.
+    assert_eq!(shown(&SeatBook::new()), NEW);
+}
+
 // ---- Books, seats, winners ----
 
 #[test]

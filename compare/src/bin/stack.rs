@@ -4,14 +4,13 @@
 
 use compare::hand::{Hand, KINDS};
 use compare::library::{
-    ALWAYS_ENOUGH, Deal, Listing, RON, SEATS, Score, SeatBook, TSUMO, WAITING_ALWAYS_ENOUGH, Win,
-    Winner, new_book, ziwhakemo_book_draw, ziwhakemo_book_win, ziwhakemo_list_readings,
-    ziwhakemo_name_waits, ziwhakemo_score_reading, ziwhakemo_score_win, ziwhakemo_waiting_tiles,
+    ALWAYS_ENOUGH, Deal, Listing, RON, SEATS, Score, SeatBook, TSUMO, Win, Winner, new_book,
+    ziwhakemo_book_draw, ziwhakemo_book_win, ziwhakemo_list_readings, ziwhakemo_name_waits,
+    ziwhakemo_score_reading, ziwhakemo_score_win,
 };
 use compare::random;
 use compare::rng::Rng;
 use compare::stored::put_win;
-use compare::waiting_hands;
 use compare::wins;
 use std::arch::asm;
 use std::env;
@@ -106,7 +105,6 @@ struct Deepest {
     win: usize,
     reading: usize,
     waits: usize,
-    waiting: usize,
     booked_win: usize,
     booked_draw: usize,
 }
@@ -159,15 +157,6 @@ impl Deepest {
         self.waits = self.waits.max(used);
     }
 
-    /// Lists the waiting tiles of a hand. The answer comes in registers, and all arguments go into them.
-    fn list_waiting(&mut self, hand: &Hand, out: &mut [u8]) {
-        let [counts, length, calls, number] = lent(hand);
-        let (buffer, room) = (out.as_mut_ptr() as u64, out.len() as u64);
-        let registers = [counts, length, calls, number, buffer, room];
-        let used = depth(ziwhakemo_waiting_tiles as *const (), registers, &[]);
-        self.waiting = self.waiting.max(used);
-    }
-
     /// Books a win. The deal goes into the last register, the win and the winner onto the stack.
     fn book_win(&mut self, book: &mut SeatBook, hand: &Hand, win: &Win, seats: &(Deal, Winner)) {
         let (deal, winner) = seats;
@@ -218,13 +207,10 @@ fn main() {
     };
     let mut rng = Rng::new(SEED);
     let mut out = [0; ALWAYS_ENOUGH];
-    let mut waiting_rng = Rng::new(SEED);
-    let mut waiting = [0; WAITING_ALWAYS_ENOUGH];
     let mut deepest = Deepest::default();
     for _ in 0..hands {
         let hand = random::any(&mut rng);
         let readings = deepest.list(&hand, &mut out);
-        deepest.list_waiting(&waiting_hands::any(&mut waiting_rng), &mut waiting);
         for win_type in [RON, TSUMO] {
             let win = won(&mut rng, &hand, win_type);
             deepest.score_win(&hand, &win);
@@ -243,7 +229,6 @@ fn main() {
     println!("scoring a win          {}", deepest.win);
     println!("scoring a reading      {}", deepest.reading);
     println!("naming its waits       {}", deepest.waits);
-    println!("listing waiting tiles  {}", deepest.waiting);
     println!("booking a win          {}", deepest.booked_win);
     println!("booking a draw         {}", deepest.booked_draw);
 }
@@ -268,22 +253,6 @@ mod tests {
                 assert_eq!(deepest.score_reading(&hand, &win, reading), want);
             }
         }
-    }
-
-    #[test]
-    fn a_hand_at_a_drawn_deal_arrives_as_it_is() {
-        let mut rng = Rng::new(6);
-        let mut deepest = Deepest::default();
-        let mut listed = 0;
-        for _ in 0..500 {
-            let hand = waiting_hands::with_all_four(&mut rng);
-            let [mut want, mut got] = [[0xa5; WAITING_ALWAYS_ENOUGH]; 2];
-            let answer = library::waiting_tiles(hand.counts(), hand.calls, &mut want);
-            deepest.list_waiting(&hand, &mut got);
-            assert_eq!(got, want);
-            listed += answer.bytes;
-        }
-        assert!(listed > 100 && deepest.waiting > 0, "{listed}");
     }
 
     #[test]

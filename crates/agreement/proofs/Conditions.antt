@@ -39,7 +39,7 @@ use Rattle.scoring.specs.Level.{level, basicPoints}
 use Rattle.scoring.specs.Payment.{payment, totalAt}
 use Rattle.renamed.specs.Renamed.{renCounts}
 use Rattle.checks.specs.declared.Calls.{Calls}
-use Rattle.checks.specs.Checks.{called, together, check, handCheckOf}
+use Rattle.checks.specs.Checks.{called, together, check, handCheckIn}
 use Rattle.lent.specs.Lent.{calls_of}
 use Rattle.unit.specs.Listing.{handReadings}
 use Rattle.reading_score.specs.Score.{result, scoreOf, rank}
@@ -77,7 +77,7 @@ ron = plain 0 19
 
 -- the scored win of a game. What a proof computes with stands here once: `unfolding scoredWin` opens all of it
 unfoldable scoredWin : Game → List ℕ → Calls → GameContext → ScoreAnswer
-unfolding scoreWinIn winCheckIn orThen check handCheckOf choice chooseBy rank scores scoreIn scoreOf result doraIn doraOf totalHan handReadings readings standardsAt meldLists sevenPairs thirteenOrphans tallies ordinary isYakuman oneHan moreHan han hanOf names fu standardFu pinfu level basicPoints payment tileYaku tanyao honroutou tsuuiisou chinroutou ryuuiisou honitsu chinitsu nineGates pureWait toitoi kans yakuhai dragons winds sanAnkou ittsu sanshokuDoujun sanshokuDoukou peikou chanta junchan shousangen suuankou daisangen shousuushii daisuushii suuKantsu
+unfolding scoreWinIn winCheckIn orThen check handCheckIn choice chooseBy rank scores scoreIn scoreOf result doraIn doraOf totalHan handReadings readings standardsAt meldLists sevenPairs thirteenOrphans tallies ordinary isYakuman oneHan moreHan han hanOf names fu standardFu pinfu level basicPoints payment tileYaku tanyao honroutou tsuuiisou chinroutou ryuuiisou honitsu chinitsu nineGates pureWait toitoi kans yakuhai dragons winds sanAnkou ittsu sanshokuDoujun sanshokuDoukou peikou chanta junchan shousangen suuankou daisangen shousuushii daisuushii suuKantsu
 scoredWin g cs k w = scoreWinIn g cs k w
 
 abbrev hanOfWin : Game → List ℕ → Calls → GameContext → ℕ
@@ -91,7 +91,7 @@ two-han Sanma = (refl, refl)
 
 -- and both wins pass
 two-pass : (v : Variant) → (winCheckIn (game v) green none ron ≡ 0) × (winCheckIn (game v) (renCounts swap green) none (renWin swap ron) ≡ 0)
-unfolding winCheckIn orThen check handCheckOf
+unfolding winCheckIn orThen check handCheckIn
 two-pass Yonma = (refl, refl)
 two-pass Sanma = (refl, refl)
 
@@ -223,7 +223,7 @@ winds-han = (refl, refl)
 pub mirror-condition-needed :
     (ρ : Renaming) × (cs : List ℕ) × (k : Calls) × (j : Calls) × (w : GameContext) × (v : GameContext)
     × NotGreen cs k × NotGreen (renCounts ρ cs) j × (ρ.honors.dragons ≡ false) × T (allStay ρ.honors.winds) × Differ four ρ cs k j w v
-unfolding winCheckIn orThen check handCheckOf
+unfolding winCheckIn orThen check handCheckIn
 mirror-condition-needed = (
   mirrored,
   souPair,
@@ -242,7 +242,7 @@ mirror-condition-needed = (
 pub dragons-condition-needed :
     (ρ : Renaming) × (cs : List ℕ) × (k : Calls) × (j : Calls) × (w : GameContext) × (v : GameContext)
     × NotGreen cs k × NotGreen (renCounts ρ cs) j × (ρ.numbers.mirror ≡ false) × T (allStay ρ.honors.winds) × Differ four ρ cs k j w v
-unfolding winCheckIn orThen check handCheckOf
+unfolding winCheckIn orThen check handCheckIn
 dragons-condition-needed = (
   dragonsChanged,
   souPair,
@@ -261,7 +261,7 @@ dragons-condition-needed = (
 pub winds-condition-needed :
     (ρ : Renaming) × (cs : List ℕ) × (k : Calls) × (j : Calls) × (w : GameContext) × (v : GameContext)
     × NotGreen cs k × NotGreen (renCounts ρ cs) j × (ρ.numbers.mirror ≡ false) × (ρ.honors.dragons ≡ false) × Differ four ρ cs k j w v
-unfolding winCheckIn orThen check handCheckOf
+unfolding winCheckIn orThen check handCheckIn
 winds-condition-needed = (
   windsChanged,
   westPair,
@@ -300,7 +300,7 @@ pub east-could-not-join :
     × (winCheck cs k (win byRon t round seat []) ≡ 0)
     × (winCheck cs k (win byRon (eastSouth t) (eastSouth round) (eastSouth seat) []) ≡ 0)
     × (totalOfWin cs k (win byRon (eastSouth t) (eastSouth round) (eastSouth seat) []) ≡ totalOfWin cs k (win byRon t round seat []) → ⊥)
-unfolding winCheckIn orThen check handCheckOf
+unfolding winCheckIn orThen check handCheckIn
 east-could-not-join = (
   souPair,
   calls_of withGreen,

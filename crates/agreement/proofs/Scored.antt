@@ -40,7 +40,6 @@ use Rattle.reading_score.proofs.Counted.{by-dora-alone}
 use Rattle.choice.specs.Choice.{scored}
 use Rattle.win.specs.Win.{isOpened, tilesTogether, doraTogether, scoreIn, scores}
 use Rattle.agreement.specs.Agreement.{NotGreen, Comparable, SameAnswer, RenamedCalls}
-use Rattle.checks.proofs.Passed.{passed}
 use Rattle.win.proofs.Passed.{Checked}
 use Rattle.agreement.proofs.Indicators.{BothRenamed, same-dora}
 use Rattle.agreement.proofs.Twin.{renamed-twin, together-twin, readings-renamed}
@@ -126,7 +125,7 @@ module _ {g : Game} {ρ : Renaming} {cs : List ℕ} {k j : Calls} {w : GameConte
 
       -- hand and calls together: the same counts, and so the same yaku of the tiles and the same dora
       counts-stay : (t : ℕ) → t < 34 → together (renCounts ρ cs) (called j) (ren ρ t) ≡ together cs (called k) t
-      counts-stay = together-twin (keeps ρ) (renamed-twin ρ cs c) g (passed cs k p.hand)
+      counts-stay = together-twin (keeps ρ) (renamed-twin ρ cs c) g p.hand
 
       tiles-stay : tilesTogether (renCounts ρ cs) j v ≡ tilesTogether cs k w
       tiles-stay =

@@ -35,8 +35,9 @@ use Rattle.checks.specs.declared.Calls.{Calls}
 use Rattle.checks.specs.Checks.{called, together, inWall, isPlayed, handCheckIn}
 use Rattle.checks.proofs.Four.{four-each}
 use Rattle.checks.proofs.Played.{wall-each, each-wall}
-use Rattle.checks.proofs.Passed.{PassedOf, passed, melds-passed, passes}
+use Rattle.checks.proofs.Passed.{Passed, passed, passes, passes-four}
 use Rattle.unit.specs.Listing.{handReadings}
+use Rattle.unit.proofs.Listed.{melds-called}
 use Rattle.agreement.specs.Agreement.{StaysAllowed, RenamedCalls}
 use Rattle.agreement.proofs.Indicators.{BothRenamed, checked-alike, none_alike}
 use Rattle.win.proofs.Passed.{Checked}
@@ -62,11 +63,10 @@ most-stays false b h = omega arith
 module _
     {f f' : ℕ → ℕ} {g g' : Meld → Meld} (s : Keeps f f' g g') {cs ds : List ℕ} {k j : Calls} (q : Twin f g cs k ds j)
     (γ : Game)
-    {n : ℕ}
-    (p : PassedOf n γ cs k)
+    (hand : handCheckIn γ cs k ≡ 0)
   where
     are-melds : T (all isMeld (called k))
-    are-melds = melds-passed p
+    are-melds = melds-called cs k (passes-four γ cs k hand)
 
     -- hand and calls together
     pub together-twin : SameCounts f (together cs (called k)) (together ds (called j))
@@ -96,7 +96,7 @@ module _
 
       calls-twin : T (all is_call (called j))
       calls-twin =
-          subst (λ (l : List Meld). T (all is_call l)) (sym q.calls) (all_map is_call is_call g stays.call (called k) p.calls)
+          subst (λ (l : List Meld). T (all is_call l)) (sym q.calls) (all_map is_call is_call g stays.call (called k) (passed cs k hand).calls)
 
       played-twin : T (all (isPlayed γ) (called j))
       played-twin =
@@ -104,10 +104,12 @@ module _
           (all-intro (isPlayed γ) (map g (called k))
           (λ m i.
           let r = Memᴰ.of_map g (called k) i in
+          let p = passed cs k hand in
           subst (λ (m : Meld). T (isPlayed γ m)) r.2 (stays.played r.0 (all-mem is_call p.calls r.1) (all-mem (isPlayed γ) p.played r.1))))
 
-      pub passed-twin : PassedOf n γ ds j
+      pub passed-twin : Passed γ ds j
       passed-twin =
+          let p = passed cs k hand in
           let e = sum-stays s (held cs) (held ds) q.counts in
           record {
             long = q.long;
@@ -127,7 +129,7 @@ pub checked-twin :
     → Checked γ cs k w → Checked γ ds j v
 checked-twin s {cs} {ds} {k} {j} q {γ} stays {w} {v} range indicators none e p =
     record {
-      hand = passes ds j (passed-twin s q γ (passed cs k p.hand) stays);
+      hand = passes ds j (passed-twin s q γ p.hand stays);
       range = range;
       indicators = indicators;
       shown = subst (λ (b : Bool). T (γ.dora || b)) (sym none) p.shown;
@@ -169,16 +171,13 @@ renamed-stays g ρ stays =
 pub readings-renamed :
     (g : Game) {ρ : Renaming} (cs : List ℕ) {k j : Calls} → RenamedCalls ρ k j → handCheckIn g cs k ≡ 0
     → Permᴰ (handReadings (renCounts ρ cs) j) (map (renReading ρ) (handReadings cs k))
-readings-renamed g {ρ} cs {k} c hand = readings-twin (keeps ρ) (renamed-twin ρ cs c) g (passed cs k hand)
+readings-renamed g {ρ} cs c hand = readings-twin (keeps ρ) (renamed-twin ρ cs c) g hand
 
 -- ---- in a game whose tiles in the wall stay in it
 module _ (g : Game) {ρ : Renaming} (stays : StaysAllowed g ρ) where
-  -- the hand renamed passes the same checks, with n tiles
-  pub passed-renamed : {n : ℕ} {cs : List ℕ} {k j : Calls} → RenamedCalls ρ k j → PassedOf n g cs k → PassedOf n g (renCounts ρ cs) j
-  passed-renamed {cs = cs} c p = passed-twin (keeps ρ) (renamed-twin ρ cs c) g p (renamed-stays g ρ stays)
-
+  -- the hand renamed passes the same checks
   pub hand-renamed : (cs : List ℕ) {k j : Calls} → RenamedCalls ρ k j → handCheckIn g cs k ≡ 0 → handCheckIn g (renCounts ρ cs) j ≡ 0
-  hand-renamed cs {k} {j} c hand = passes (renCounts ρ cs) j (passed-renamed c (passed cs k hand))
+  hand-renamed cs {j = j} c hand = passes (renCounts ρ cs) j (passed-twin (keeps ρ) (renamed-twin ρ cs c) g hand (renamed-stays g ρ stays))
 
   -- the same win renamed passes the same checks, with the indicators d and u
   pub checked-renamed :

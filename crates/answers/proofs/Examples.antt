@@ -1,9 +1,8 @@
--- The numbers of the levels, levels and payments of worked scores, and the numbers of an operation that fills lent bytes, as they are answered. Assumes nothing.
+-- The numbers of the levels, and levels and payments of worked scores, as they are answered. Assumes nothing.
 use mathlib.Core.Path.{◌≡◌, refl}
 use mathlib.Core.Bool.{true, false}
 use mathlib.Core.List.{[]}
 use Prim.Native.Nat.{ℕ}
-use Rattle.filled.specs.declared.Filled.TheVariants as F
 use Rattle.scoring.specs.declared.ScoreLevel.TheVariants.{Normal, Mangan, Haneman, Baiman, Sanbaiman, Yakuman}
 use Rattle.scoring.specs.declared.Payment.TheVariants.{Tsumo}
 use Rattle.scoring.specs.Level.{level}
@@ -12,20 +11,13 @@ use Rattle.reading_score.specs.declared.ScoringResult.{ScoringResult}
 use Rattle.choice.specs.Choice.{refused, scored}
 use Rattle.answers.specs.declared.LevelAnswer.{LevelAnswer}
 use Rattle.answers.specs.declared.PaymentValues.{PaymentValues}
-use Rattle.answers.specs.Answers.{filledAnswer, levelAnswer, paymentValues, scoreValues}
+use Rattle.answers.specs.Answers.{levelAnswer, paymentValues, scoreValues}
 
 abbrev leveled : ℕ → ℕ → LevelAnswer
 leveled l n = record { level = l; count = n }
 
 abbrev pays : ℕ → ℕ → ℕ → ℕ → ℕ → PaymentValues
 pays settlement other dealer discarder total = record { number = 0; settlement = settlement; from_non_dealer = other; from_dealer = dealer; from_discarder = discarder; total = total }
-
--- ---- bytes written, and a refusal, beside which none are
-pub written-13 : filledAnswer (F.Written 13) ≡ record { number = 0; bytes = 13 }
-written-13 = refl
-
-pub refused-6 : filledAnswer (F.Refused 6) ≡ record { number = 6; bytes = 0 }
-refused-6 = refl
 
 -- ---- the six levels by their names; only a yakuman has a count
 pub normal-is-0 : levelAnswer Normal ≡ leveled 0 0

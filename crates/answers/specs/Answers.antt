@@ -1,7 +1,5 @@
 -- The operations' answers as plain numbers, for C. These are definitions.
 use Rattle.std.specs.Prelude.{cond, ℕ, eqb}
-use Rattle.filled.specs.declared.Filled.{Filled}
-use Rattle.filled.specs.Filled as F
 use Rattle.unit.specs.declared.Listing.{Listing}
 use Rattle.unit.specs.Listing.{number_of, readingsOf, bytes_of}
 use Rattle.scoring.specs.declared.ScoreLevel.{ScoreLevel}
@@ -13,7 +11,6 @@ use Rattle.scoring.specs.declared.PaymentAnswer.TheVariants.{Refused, Paid}
 use Rattle.scoring.specs.Payment.{totalAt}
 use Rattle.choice.specs.declared.ScoreAnswer.{ScoreAnswer}
 use Rattle.win.specs.declared.WaitsAnswer.{WaitsAnswer}
-use Rattle.answers.specs.declared.FilledAnswer.{FilledAnswer}
 use Rattle.answers.specs.declared.ListingAnswer.{ListingAnswer}
 use Rattle.answers.specs.declared.LevelAnswer.{LevelAnswer}
 use Rattle.answers.specs.declared.PaymentValues.{PaymentValues}
@@ -22,15 +19,11 @@ use Rattle.answers.specs.declared.WaitsValues.{WaitsValues}
 
 -- the version of the interface: rises with each change of it
 abbrev pub version : ℕ
-version = 9
+version = 8
 
 -- the refusal's number, or 0 with how many readings and how many bytes were written
 abbrev pub listingAnswer : Listing → ListingAnswer
 listingAnswer a = record { number = number_of a; readings = readingsOf a; bytes = bytes_of a }
-
--- the refusal's number, or 0 with how many bytes were written; every operation that fills lent bytes answers so
-abbrev pub filledAnswer : Filled → FilledAnswer
-filledAnswer a = record { number = F.number_of a; bytes = F.bytes_of a }
 
 -- the level's place in ScoreLevel, and how many times a yakuman counts
 abbrev pub levelAnswer : ScoreLevel → LevelAnswer

@@ -1,7 +1,7 @@
 // The unit's answers as plain numbers, for C: a struct for each answer, and the function that makes it.
 ghost use Rattle.std.specs.Prelude.{◌≡◌};
 ghost use Rattle.rules.specs.Rules.{game};
-ghost use Rattle.answers.specs.Answers.{listingAnswer, filledAnswer, levelAnswer, paid, paymentValuesAt, settlementBeside, scoreValuesAt, waitsValues};
+ghost use Rattle.answers.specs.Answers.{listingAnswer, levelAnswer, paid, paymentValuesAt, settlementBeside, scoreValuesAt, waitsValues};
 
 // The answer to a listing: number 0 where accepted, else the refusal; the count of readings; the count of bytes written.
 #[repr(C)]
@@ -26,30 +26,6 @@ pub fn listing_of(a: unit::Listing) -> ListingAnswer
             number: 0,
             readings: readings,
             bytes: bytes,
-        },
-    }
-}
-
-// The answer of every operation that fills lent bytes: number 0 where accepted, else the refusal; the count of bytes written.
-#[repr(C)]
-#[derive(Drop)]
-pub struct FilledAnswer {
-    pub number: u32,
-    pub bytes: usize,
-}
-
-// The numbers of such an answer.
-pub fn filled_of(a: filled::Filled) -> FilledAnswer
-    ensures { result ≡ filledAnswer a }
-{
-    match a {
-        filled::Filled::Refused(number) => FilledAnswer {
-            number: number as u32,
-            bytes: 0,
-        },
-        filled::Filled::Written(written) => FilledAnswer {
-            number: 0,
-            bytes: written,
         },
     }
 }

@@ -9,7 +9,7 @@ use borrow.Author.Tests.{eq-eqb, lt-leb}
 use Rattle.meld.specs.declared.Meld.{Meld}
 use Rattle.hand.specs.Counts.{held}
 use Rattle.checks.specs.declared.Calls.{Calls}
-use Rattle.checks.specs.Checks.{called, check, handCheck, handCheckOf}
+use Rattle.checks.specs.Checks.{called, check, handCheck, handCheckIn}
 use Rattle.checks.proofs.Passed.{passed}
 use Rattle.tile_words.specs.Words.{addTo}
 use Rattle.call_words.specs.Calls.{withCall}
@@ -22,7 +22,7 @@ kept-in-order k m four h =
 
 -- a fifth call is refused with 2
 pub fifth-refused : (cs : List ℕ) (k : Calls) (m : Meld) → length cs ≡ 34 → 4 ≤ k.count → handCheck cs (withCall k m) ≡ 2
-unfolding handCheckOf check
+unfolding handCheckIn check
 fifth-refused cs k m long h =
     simp (eq-eqb (length cs) 34 long, lt-leb (min (k.count + 1) 1000) 4 (omega arith))
 

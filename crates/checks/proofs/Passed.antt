@@ -11,18 +11,18 @@ use Rattle.lists.proofs.Members.{all-mem, all-intro}
 use Rattle.tile.specs.Tile.{tiles}
 use Rattle.rules.specs.Rules.{Game, four, most}
 use Rattle.meld.specs.declared.Meld.{Meld}
-use Rattle.meld.specs.Meld.{is_call, isMeld}
+use Rattle.meld.specs.Meld.{is_call}
 use Rattle.hand.specs.Counts.{held, AtMostFour}
 use Rattle.checks.specs.declared.Calls.{Calls}
-use Rattle.checks.specs.Checks.{called, together, isPlayed, finished, handCheckOf, handCheckIn, handCheck}
-use Rattle.checks.specs.Refusals.{Callable, handChecksOf}
+use Rattle.checks.specs.Checks.{called, together, isPlayed, handCheckIn, handCheck}
+use Rattle.checks.specs.Refusals.{Callable, handChecks}
 use Rattle.checks.proofs.InOrder.{all_pass, pass_all}
 use Rattle.checks.proofs.Four.{four-each}
 use Rattle.checks.proofs.Played.{call-four}
 use Rattle.checks.proofs.Refusals.{callable, is-call, hand-refusals}
 
--- of a hand of n tiles in the game g
-pub record PassedOf (n : ℕ) (g : Game) (cs : List ℕ) (k : Calls) : Type 0 where
+-- in the game g
+pub record Passed (g : Game) (cs : List ℕ) (k : Calls) : Type 0 where
   pub long : length cs ≡ 34
   pub few : k.count ≤ 4
   pub calls : T (all is_call (called k))
@@ -30,22 +30,19 @@ pub record PassedOf (n : ℕ) (g : Game) (cs : List ℕ) (k : Calls) : Type 0 wh
   pub four : AtMostFour cs
   pub wall : (t : ℕ) → t < 34 → held cs t ≤ most g t
   pub whole : (t : ℕ) → t < 34 → together cs (called k) t ≤ 4
-  pub tiles : sum (held cs) tiles + 3 * k.count ≡ n
-
--- of a finished hand
-abbrev pub Passed : Game → List ℕ → Calls → Type 0
-Passed g cs k = PassedOf finished g cs k
+  pub tiles : sum (held cs) tiles + 3 * k.count ≡ 14
 
 -- ---- the six checks
 most-four : (g : Game) (t : ℕ) → most g t ≤ 4
 most-four g t = cond-le (g.allowed t) 4 0 4 (omega arith) (omega arith)
 
-pub passed : {n : ℕ} {g : Game} (cs : List ℕ) (k : Calls) → handCheckOf n g cs k ≡ 0 → PassedOf n g cs k
-passed {n} {g} cs k e =
-    let a = all_pass (handChecksOf n g cs k) tt ((hand-refusals cs k 0).0 e) in
+pub passed : {g : Game} (cs : List ℕ) (k : Calls) → handCheckIn g cs k ≡ 0 → Passed g cs k
+passed {g} cs k e =
+    let a = all_pass (handChecks g cs k) tt ((hand-refusals cs k 0).0 e) in
     let long = a.0 in
     let few = a.1.0 in
     let calls = a.1.1.0 in
+    let tiles = a.1.1.1.1.1.0 in
     record {
       long = long;
       few = few;
@@ -54,21 +51,17 @@ passed {n} {g} cs k e =
       four = four-each cs long (λ t h. let m = a.1.1.1.0 t h in let n = most-four g t in omega arith);
       wall = a.1.1.1.0;
       whole = a.1.1.1.1.0;
-      tiles = a.1.1.1.1.1.0;
+      tiles = omega arith;
     }
 
 -- each call can be called
-pub each-callable : {n : ℕ} {g : Game} {cs : List ℕ} {k : Calls} → PassedOf n g cs k → (m : Meld) → Memᴰ m (called k) → Callable g m
-each-callable {n} {g} p m i = callable g m (and_both (is_call m) (isPlayed g m) (all-mem is_call p.calls i) (all-mem (isPlayed g) p.played i))
+pub each-callable : {g : Game} {cs : List ℕ} {k : Calls} → Passed g cs k → (m : Meld) → Memᴰ m (called k) → Callable g m
+each-callable {g} p m i = callable g m (and_both (is_call m) (isPlayed g m) (all-mem is_call p.calls i) (all-mem (isPlayed g) p.played i))
 
--- and is a meld
-pub melds-passed : {n : ℕ} {g : Game} {cs : List ℕ} {k : Calls} → PassedOf n g cs k → T (all isMeld (called k))
-melds-passed {k = k} p = all-intro isMeld (called k) (λ m i. and_left (isMeld m) _ (all-mem is_call p.calls i))
-
-pub passes : {n : ℕ} {g : Game} (cs : List ℕ) (k : Calls) → PassedOf n g cs k → handCheckOf n g cs k ≡ 0
-passes {n} {g} cs k p =
+pub passes : {g : Game} (cs : List ℕ) (k : Calls) → Passed g cs k → handCheckIn g cs k ≡ 0
+passes {g} cs k p =
     (hand-refusals cs k 0).1
-    (pass_all (handChecksOf n g cs k) (p.long, (p.few, (each-callable p, (p.wall, (p.whole, (p.tiles, tt)))))))
+    (pass_all (handChecks g cs k) (p.long, (p.few, (each-callable p, (p.wall, (p.whole, (omega arith, tt)))))))
 
 -- ---- what passes in some game passes with four players and all tiles
 pub passes-four : (g : Game) (cs : List ℕ) (k : Calls) → handCheckIn g cs k ≡ 0 → handCheck cs k ≡ 0

@@ -21,8 +21,8 @@ use Rattle.meld.specs.Meld.{isSequence, is_call, isMeld, meldFrom}
 use Rattle.meld.proofs.Melds.{meld-kind, meld-tile, meld-source}
 use Rattle.hand.specs.Counts.{held}
 use Rattle.checks.specs.declared.Calls.{Calls}
-use Rattle.checks.specs.Checks.{called, together, inWall, isPlayed, isCallIn, handCheckOf}
-use Rattle.checks.specs.Refusals.{callKinds, Callable, handChecksOf}
+use Rattle.checks.specs.Checks.{called, together, inWall, isPlayed, isCallIn, handCheckIn}
+use Rattle.checks.specs.Refusals.{callKinds, Callable, handChecks}
 use Rattle.checks.proofs.InOrder.{next-check, exactly}
 use Rattle.checks.proofs.Played.{wall-each, each-wall}
 
@@ -153,9 +153,9 @@ most-false : (f most : ℕ → ℕ) → all (λ t. leb (f t) (most t)) tiles ≡
 most-false f most e h = subst T e (all-intro (λ t. leb (f t) (most t)) tiles (λ t i. le→leb (f t) (most t) (h t (tile-lt i))))
 
 -- ---- the six checks
-module _ {size : ℕ} {g : Game} (cs : List ℕ) (k : Calls) where
-  hand-answers : (n : ℕ) → n ≡ handCheckOf size g cs k → Answers (handChecksOf size g cs k) n
-  unfolding handCheckOf
+module _ {g : Game} (cs : List ℕ) (k : Calls) where
+  hand-answers : (n : ℕ) → n ≡ handCheckIn g cs k → Answers (handChecks g cs k) n
+  unfolding handCheckIn
   hand-answers n e =
       next-check _ _ _ e (λ h. omega (arith, eqb-true)) (λ h a. omega (arith, eqb-false))
       (λ long e. next-check _ _ _ e (λ h. omega (arith, leb-true)) (λ h a. omega (arith, leb-false))
@@ -165,5 +165,5 @@ module _ {size : ℕ} {g : Game} (cs : List ℕ) (k : Calls) where
       (λ whole e. next-check _ _ _ e (λ h. omega (arith, eqb-true)) (λ h a. omega (arith, eqb-false)) (λ tiles e. e))))))
 
   -- n is answered exactly where the checks before it pass and this one fails; 0 where all pass
-  pub hand-refusals : (n : ℕ) → (handCheckOf size g cs k ≡ n) ↔ Answers (handChecksOf size g cs k) n
-  hand-refusals n = exactly (handChecksOf size g cs k) (handCheckOf size g cs k) (hand-answers (handCheckOf size g cs k) refl) n
+  pub hand-refusals : (n : ℕ) → (handCheckIn g cs k ≡ n) ↔ Answers (handChecks g cs k) n
+  hand-refusals n = exactly (handChecks g cs k) (handCheckIn g cs k) (hand-answers (handCheckIn g cs k) refl) n

@@ -32,27 +32,16 @@ unfoldable pub check : Bool → ℕ → ℕ → ℕ
 check true n next = next
 check false n next = n
 
--- how many tiles a hand has, three fewer for each call: a finished one, and one without a last tile
-abbrev pub finished : ℕ
-finished = 14
-
-abbrev pub withoutLast : ℕ
-withoutLast = 13
-
--- of a hand of n tiles in the game g: 1 the counts are not 34 long; 2 more than four calls; 3 a call is not a meld that can be called; 4 a count above 4, or above 0 of a tile
--- that is absent; 5 hand and calls together hold more than four of one tile; 6 the hand's tiles are not n - 3 × calls; 0 where all pass
-unfoldable pub handCheckOf : ℕ → Game → List ℕ → Calls → ℕ
-handCheckOf n g cs k =
+-- in the game g: 1 the counts are not 34 long; 2 more than four calls; 3 a call is not a meld that can be called; 4 a count above 4, or above 0 of a tile
+-- that is absent; 5 hand and calls together hold more than four of one tile; 6 the hand's tiles are not 14 - 3 × calls; 0 where all pass
+unfoldable pub handCheckIn : Game → List ℕ → Calls → ℕ
+handCheckIn g cs k =
     check (eqb (length cs) 34) 1
     (check (leb k.count 4) 2
     (check (all (isCallIn g) (called k)) 3
     (check (all (λ t. leb (held cs t) (most g t)) tiles) 4
     (check (all (λ t. leb (together cs (called k) t) 4) tiles) 5
-    (check (eqb (sum (held cs) tiles + 3 * k.count) n) 6 0)))))
-
--- of a finished hand
-abbrev pub handCheckIn : Game → List ℕ → Calls → ℕ
-handCheckIn g cs k = handCheckOf finished g cs k
+    (check (eqb (sum (held cs) tiles + 3 * k.count) 14) 6 0)))))
 
 -- with four players and all tiles
 abbrev pub handCheck : List ℕ → Calls → ℕ

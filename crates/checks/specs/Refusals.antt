@@ -1,5 +1,5 @@
 -- The checks 1 to 6 in the words of the scope paper, each a fact about the counts and the calls, in their order. These are definitions.
-use Rattle.std.specs.Prelude.{◌≡◌, ◌≢◌, ℕ, ◌+◌, ◌*◌, ◌≤◌, ◌<◌, T, length}
+use Rattle.std.specs.Prelude.{◌≡◌, ◌≢◌, ℕ, ◌-◌, ◌*◌, ◌≤◌, ◌<◌, T, length}
 use mathlib.Core.List.{List, [], ◌∷◌, Memᴰ}
 use Rattle.lists.specs.Fold.{sum}
 use Rattle.lists.specs.Refusals.{Check, unless}
@@ -9,7 +9,7 @@ use Rattle.meld.specs.declared.Meld.{Meld}
 use Rattle.meld.specs.Meld.{uses}
 use Rattle.hand.specs.Counts.{held}
 use Rattle.checks.specs.declared.Calls.{Calls}
-use Rattle.checks.specs.Checks.{called, together, finished}
+use Rattle.checks.specs.Checks.{called, together}
 
 -- the kinds that are called: an open sequence, an open triplet, a closed, an open and an added kan
 abbrev pub callKinds : List ℕ
@@ -30,17 +30,13 @@ pub record Callable (g : Game) (m : Meld) : Type 0 where
   pub allowed : (t : ℕ) → t < 34 → 0 < uses m t → T (g.allowed t)
 
 -- 34 counts; at most four calls; each can be called; at most four of each tile in the hand, and none that is absent; at most four in hand and calls together;
--- the hand's tiles, and three for each call, are n
-abbrev pub handChecksOf : ℕ → Game → List ℕ → Calls → List Check
-handChecksOf n g cs k =
+-- the hand's tiles are 14, three fewer for each call
+abbrev pub handChecks : Game → List ℕ → Calls → List Check
+handChecks g cs k =
     unless 1 (length cs ≡ 34)
     ∷ unless 2 (k.count ≤ 4)
     ∷ unless 3 ((m : Meld) → Memᴰ m (called k) → Callable g m)
     ∷ unless 4 ((t : ℕ) → t < 34 → held cs t ≤ most g t)
     ∷ unless 5 ((t : ℕ) → t < 34 → together cs (called k) t ≤ 4)
-    ∷ unless 6 (sum (held cs) tiles + 3 * k.count ≡ n)
+    ∷ unless 6 (sum (held cs) tiles ≡ 14 - 3 * k.count)
     ∷ []
-
--- of a finished hand
-abbrev pub handChecks : Game → List ℕ → Calls → List Check
-handChecks g cs k = handChecksOf finished g cs k

@@ -5,12 +5,7 @@ ghost use Rattle.tile.specs.Tile.{tiles};
 ghost use Rattle.rules.specs.Rules.{game, most};
 ghost use Rattle.meld.specs.Meld.{is_call, isMeld, uses};
 ghost use Rattle.hand.specs.Counts.{held, AtMostFour};
-ghost use Rattle.checks.specs.Checks.{called, together, inWall, isPlayed, isCallIn, handCheckOf, handCheckIn};
-
-// How many tiles a hand has, three fewer for each call: a finished one, and one without a last tile.
-pub const FINISHED: u64 = 14;
-
-pub const WITHOUT_LAST: u64 = 13;
+ghost use Rattle.checks.specs.Checks.{called, together, inWall, isPlayed, isCallIn, handCheckIn};
 
 // The calls: how many there are, and the first four of them. With fewer than four the rest mean nothing; more than four are refused.
 #[repr(C)]
@@ -108,7 +103,7 @@ fn within_wall(counts: &[u8], v: rules::Variant) -> bool
 }
 
 // Adds tiles of one kind to the counts.
-pub fn add(counts: &mut [u8; 34], t: usize, n: u8)
+fn add(counts: &mut [u8; 34], t: usize, n: u8)
     requires { (length counts.old ≡ 34) × ((t < 34) × (held counts.old t + n < 256)) }
     ensures { (length counts.new ≡ 34) × ((u : ℕ) → held counts.new u ≡ held counts.old u + cond (eqb u t) n 0) }
 {
@@ -135,7 +130,7 @@ fn add_meld(counts: &mut [u8; 34], m: meld::Meld)
 }
 
 // The counts as an array.
-pub fn array_of(counts: &[u8]) -> [u8; 34]
+fn array_of(counts: &[u8]) -> [u8; 34]
     requires { length counts.now ≡ 34 }
     ensures { result ≡ counts.now }
 {
@@ -177,9 +172,9 @@ fn together_at_most_four(counts: &[u8], k: Calls) -> bool
     at_most_four(&sum)
 }
 
-// The number of the first check that a hand of so many tiles fails, or 0.
-pub fn check_hand_of(counts: &[u8], k: Calls, v: rules::Variant, tiles: u64) -> u8
-    ensures { result ≡ handCheckOf tiles (game v) counts.now k }
+// The number of the first check that fails, or 0.
+pub fn check_hand(counts: &[u8], k: Calls, v: rules::Variant) -> u8
+    ensures { result ≡ handCheckIn (game v) counts.now k }
 {
     if counts.len() != 34 {
         return 1;
@@ -197,15 +192,8 @@ pub fn check_hand_of(counts: &[u8], k: Calls, v: rules::Variant, tiles: u64) -> 
     if !together_at_most_four(counts, k) {
         return 5;
     }
-    if hand::sum_range(counts, 0, 34) + 3 * (count as u64) != tiles {
+    if hand::sum_range(counts, 0, 34) + 3 * (count as u64) != 14 {
         return 6;
     }
     0
-}
-
-// The number of the first check that a finished hand fails, or 0.
-pub fn check_hand(counts: &[u8], k: Calls, v: rules::Variant) -> u8
-    ensures { result ≡ handCheckIn (game v) counts.now k }
-{
-    check_hand_of(counts, k, v, FINISHED)
 }

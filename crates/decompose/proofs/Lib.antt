@@ -1,4 +1,3 @@
-pub mod Added
 pub mod Words
 pub mod Places
 pub mod Turns

@@ -106,12 +106,9 @@ module _ (c : ℕ → ℕ) where
 
 -- ---- the suit and the number of a pair that fits
 -- a tile has one suit, whose tiles start at nine times the suit
-one-suit-test : T (all_below 34 (λ p. eqb (inSuit 0 p + inSuit 1 p + inSuit 2 p + inSuit 3 p) 1))
+one-suit : T (all_below 34 (λ p. eqb (inSuit 0 p + inSuit 1 p + inSuit 2 p + inSuit 3 p) 1))
 unfolding inSuit
-one-suit-test = tt
-
-pub one-suit : (p : ℕ) → p < 34 → inSuit 0 p + inSuit 1 p + inSuit 2 p + inSuit 3 p ≡ 1
-one-suit p h = eqb→eq _ 1 (at 34 (λ p. eqb (inSuit 0 p + inSuit 1 p + inSuit 2 p + inSuit 3 p) 1) one-suit-test p h)
+one-suit = tt
 
 suit-starts : T (all_below 34 (λ p. eqb (inSuit 1 p * 9 + inSuit 2 p * 18 + inSuit 3 p * 27) (p / 9 * 9)))
 unfolding inSuit
@@ -168,7 +165,7 @@ module _
         let x₂ = fit (inSuit 2) sou-weighed in
         let x₃ = fit (inSuit 3) honors-weighed in
         let y = fit byThree numbers-weighed in
-        let a = one-suit p h in
+        let a : inSuit 0 p + inSuit 1 p + inSuit 2 p + inSuit 3 p ≡ 1 = eqb→eq _ 1 (at 34 (λ p. eqb (inSuit 0 p + inSuit 1 p + inSuit 2 p + inSuit 3 p) 1) one-suit p h) in
         let b : inSuit 1 p * 9 + inSuit 2 p * 18 + inSuit 3 p * 27 ≡ p / 9 * 9 = eqb→eq _ (p / 9 * 9) (at 34 (λ p. eqb (inSuit 1 p * 9 + inSuit 2 p * 18 + inSuit 3 p * 27) (p / 9 * 9)) suit-starts p h) in
         let z₀ : man % 3 ≡ 2 * inSuit 0 p = double man _ (inSuit 0 p) (omega arith) m x₀ in
         let z₁ : pin % 3 ≡ 2 * inSuit 1 p = double pin _ (inSuit 1 p) (omega arith) n x₁ in

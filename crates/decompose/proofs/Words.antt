@@ -72,16 +72,16 @@ pack-none c to =
     ap (λ (n : ℕ). packFrom c n to) (sym e)
 
 -- ---- the words below and from tile 18 on
-pub low_word : (h : Packed) (t : ℕ) → t < 18 → in_words h t ≡ digit h.low t
+low_word : (h : Packed) (t : ℕ) → t < 18 → in_words h t ≡ digit h.low t
 unfolding in_words
 low_word h t k = ap (λ (b : Bool). cond b (digit h.low t) (digit h.high (t - 18))) (lt-ltb t 18 k)
 
-pub high_word : (h : Packed) (t : ℕ) → 18 ≤ t → in_words h t ≡ digit h.high (t - 18)
+high_word : (h : Packed) (t : ℕ) → 18 ≤ t → in_words h t ≡ digit h.high (t - 18)
 unfolding in_words
 high_word h t k = ap (λ (b : Bool). cond b (digit h.low t) (digit h.high (t - 18))) (le-ltb t 18 k)
 
 -- two functions of a tile are equal if they are below 18 and from 18 on
-pub by-words : (f g : ℕ → ℕ) → ((t : ℕ) → t < 18 → f t ≡ g t) → ((t : ℕ) → 18 ≤ t → f t ≡ g t) → f ≡ g
+by-words : (f g : ℕ → ℕ) → ((t : ℕ) → t < 18 → f t ≡ g t) → ((t : ℕ) → 18 ≤ t → f t ≡ g t) → f ≡ g
 by-words f g low high = fun_ext (λ t. go t (dec_lt t 18))
   where
     go : (t : ℕ) → Dec (t < 18) → f t ≡ g t
@@ -127,7 +127,7 @@ digit_at w k n e =
     let g : k + 0 ≡ k = omega arith in
     ap (λ (m : ℕ). w / 2 ^ m % 8) (e ∙ f) ∙ digit_shift k w 0 ∙ ap (digit w) g
 
-pub word_small : (n w : ℕ) → ((t : ℕ) → n ≤ t → digit w t ≡ 0) → w < 2 ^ (3 * n)
+word_small : (n w : ℕ) → ((t : ℕ) → n ≤ t → digit w t ≡ 0) → w < 2 ^ (3 * n)
 unfolding digit
 word_small zero w f = omega (arith, no-digits w (λ k. f k (omega arith)))
 word_small (suc n) w f =

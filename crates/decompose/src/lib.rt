@@ -3,7 +3,7 @@
 ghost use Rattle.std.specs.Prelude.{◌≡◌, ◌+◌, ◌-◌, ◌*◌, ◌≤◌, ◌<◌, leb, length};
 ghost use Rattle.std.proofs.lemmas.List.Edits.{sets};
 ghost use Rattle.tile.specs.Tile.{tiles};
-ghost use Rattle.hand.specs.Counts.{held, AtMostFour, withTile};
+ghost use Rattle.hand.specs.Counts.{held, AtMostFour};
 ghost use Rattle.hand.specs.Readings.{lessPair};
 ghost use Rattle.hand.specs.Weights.{weight, byThree};
 ghost use Rattle.search.specs.Remaining.{split, left, Fair};
@@ -70,24 +70,6 @@ impl Packed {
             behind: (self.high - (2u64 << ((p - 18) * 3))) * 64,
         }
     }
-
-    // The words with one more of the tile t.
-    pub fn with_tile(self, t: u32) -> Packed
-        requires { (t < 34) × (Fit self × (in_words self t < 4)) }
-        ensures counts { in_words result ≡ withTile (in_words self) t }
-        ensures fits { Fit result }
-    {
-        if t < 18 {
-            return Packed {
-                low: self.low + (1u64 << (t * 3)),
-                high: self.high,
-            };
-        }
-        Packed {
-            low: self.low,
-            high: self.high + (1u64 << ((t - 18) * 3)),
-        }
-    }
 }
 
 // Where the pair can stand: at the tiles from `first` on in steps of three, below `end`.
@@ -98,7 +80,7 @@ pub struct PairPlaces {
 }
 
 // What the tiles' numbers leave by 3, summed over the tiles, of which the last leaves nothing.
-pub fn sum_numbers(counts: &[u8]) -> u64
+fn sum_numbers(counts: &[u8]) -> u64
     requires { length counts.now ≡ 34 }
     ensures { (result ≡ weight byThree (held counts.now)) × (result ≤ 765 * 11) }
 {
@@ -146,24 +128,6 @@ pub fn count_standard(h: Packed, places: PairPlaces, needed: u32) -> usize
         p += 3;
     }
     total
-}
-
-// Is there a standard reading with `needed` melds of the hand itself? It stops at the first pair with one.
-pub fn has_standard(h: Packed, places: PairPlaces, needed: u32) -> bool
-    requires { (needed ≤ 4) × (Fit h × OnlyAt (in_words h) places) }
-    ensures { result ≡ leb 1 (length (foundWith needed (in_words h) tiles)) }
-{
-    let end = places.end;
-    let mut p = places.first;
-    while p < end {
-        if h.has_pair(p as u32) {
-            if search::count_meld_combinations(h.without_pair(p as u32), needed) != 0 {
-                return true;
-            }
-        }
-        p += 3;
-    }
-    false
 }
 
 // Writes the records of all standard readings. Answers the place behind them.

@@ -1,5 +1,3 @@
-pub mod Added
-pub mod Apart
 pub mod Search
 pub mod Lowest
 pub mod Weights

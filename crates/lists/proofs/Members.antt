@@ -206,19 +206,7 @@ pub in-single : {A : Type 0} {x a : A} (b : Bool) → Memᴰ x (cond b (a ∷ []
 in-single {x = x} {a = a} b i =
     ⊎_elim (λ e. e) (λ j. absurd (Memᴰ.not-nil j)) (Memᴰ.cases_cons (in-cond b (a ∷ []) i).1)
 
--- ---- what is empty, and what is not
-pub no-members : {A : Type 0} (l : List A) → ((a : A) → Memᴰ a l → ⊥) → l ≡ []
-no-members [] f = refl
-no-members (a ∷ l) f = absurd (f a (Memᴰ.head refl))
-
-pub some-member : {A : Type 0} (l : List A) → 1 ≤ length l → (a : A) × Memᴰ a l
-some-member [] h = absurd (omega arith)
-some-member (a ∷ l) h = (a, Memᴰ.head refl)
-
-pub member-some : {A : Type 0} {a : A} (l : List A) → Memᴰ a l → 1 ≤ length l
-member-some [] i = absurd (Memᴰ.not-nil i)
-member-some (a ∷ l) i = omega arith
-
+-- ---- what is not empty
 pub not-empty : {A : Type 0} (a : A) (l : List A) → (a ∷ l) ≡ [] → ⊥
 not-empty a l e = let z : ◌≡◌ {A = ℕ} 0 1 = cc in omega arith
 

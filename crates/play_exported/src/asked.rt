@@ -21,7 +21,7 @@ const VERSION: usize = 7;
 const DIFFER: usize = 8;
 
 // The version of the interface that is asked here.
-const WRITTEN_FOR: u32 = 9;
+const WRITTEN_FOR: u32 = 8;
 
 // ---- what is lent
 

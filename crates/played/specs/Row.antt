@@ -26,7 +26,7 @@ use Rattle.fu.specs.Fu.{standardFu, fu}
 use Rattle.dora.specs.Dora.{doraOf, doraIn, totalHan}
 use Rattle.scoring.specs.Level.{level, basicPoints}
 use Rattle.scoring.specs.Payment.{payment, paymentAnswer}
-use Rattle.checks.specs.Checks.{check, handCheckOf}
+use Rattle.checks.specs.Checks.{check, handCheckIn}
 use Rattle.unit.specs.declared.Listing.{Listing}
 use Rattle.unit.specs.Listing.{handReadings, handRecords, listingIn, number_of, readingsOf}
 use Rattle.lent.specs.Lent.{calls_of}
@@ -194,7 +194,7 @@ answers vs o n l f a =
 
 -- the row holds in the game g. What a proof computes with stands here once: `unfolding holdsIn` opens all of it
 unfoldable pub holdsIn : Game → Row → Bool
-unfolding meldLists standardsAt sevenPairs thirteenOrphans readings recordOf pinfu waits tanyao honroutou tsuuiisou chinroutou ryuuiisou honitsu chinitsu nineGates pureWait tileYaku toitoi kans yakuhai dragons winds sanAnkou ittsu sanshokuDoujun sanshokuDoukou peikou chanta junchan shousangen suuankou daisangen shousuushii daisuushii suuKantsu names oneHan moreHan isYakuman ordinary tallies hanOf han standardFu fu level basicPoints payment paymentAnswer check handCheckOf handReadings handRecords listingIn doraOf doraIn totalHan result scoreOf rank chooseBy choice numbered orThen winCheckIn scoreIn scores scoreReadingIn scoreWinIn nameWaitsIn
+unfolding meldLists standardsAt sevenPairs thirteenOrphans readings recordOf pinfu waits tanyao honroutou tsuuiisou chinroutou ryuuiisou honitsu chinitsu nineGates pureWait tileYaku toitoi kans yakuhai dragons winds sanAnkou ittsu sanshokuDoujun sanshokuDoukou peikou chanta junchan shousangen suuankou daisangen shousuushii daisuushii suuKantsu names oneHan moreHan isYakuman ordinary tallies hanOf han standardFu fu level basicPoints payment paymentAnswer check handCheckIn handReadings handRecords listingIn doraOf doraIn totalHan result scoreOf rank chooseBy choice numbered orThen winCheckIn scoreIn scores scoreReadingIn scoreWinIn nameWaitsIn
 holdsIn g (won cs ms w vs o) =
     let k = calls_of ms in
     answers vs o (winCheckIn g cs k w) (listingIn g cs k alwaysEnough) (scoreReadingIn g cs k w) (scoreWinIn g cs k w)

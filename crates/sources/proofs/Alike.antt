@@ -18,7 +18,7 @@ use Rattle.wait.specs.Wait.{waits}
 use Rattle.tile_yaku.specs.Tiles.{tileYaku}
 use Rattle.dora.specs.Dora.{doraIn}
 use Rattle.checks.specs.declared.Calls.{Calls}
-use Rattle.checks.specs.Checks.{called, isCallIn, finished}
+use Rattle.checks.specs.Checks.{called, isCallIn}
 use Rattle.unit.specs.declared.Listing.TheVariants.{Refused, Listed}
 use Rattle.unit.specs.Listing.{handReadings, handRecords, listingIn}
 use Rattle.records.specs.Pick.{pick_at}
@@ -68,7 +68,7 @@ module _ (g : Game) (cs : List ℕ) {k j : Calls} (s : SameButSources k j) (call
   same-listing : (lent : ℕ) → listingIn g cs j lent ≡ listingIn g cs k lent
   unfolding listingIn
   same-listing lent =
-      let number = same_check cs s g calls calls' finished in
+      let number = same_check cs s g calls calls' in
       λ i. cond (eqb (number i) 0) (cond (leb (same_bytes i) lent) (Listed (same-many i) (same_bytes i)) (Refused 7)) (Refused (number i))
 
   -- ---- their scores

@@ -18,7 +18,7 @@ use Rattle.context.specs.declared.GameContext.{GameContext}
 use Rattle.context.specs.Context.{in_range}
 use Rattle.hand.specs.Counts.{held}
 use Rattle.checks.specs.declared.Calls.{Calls}
-use Rattle.checks.specs.Checks.{called, together, isPlayed, isCallIn, check, finished, handCheckOf}
+use Rattle.checks.specs.Checks.{called, together, isPlayed, isCallIn, check, handCheckIn}
 use Rattle.checks.proofs.Played.{played-four, calls-made}
 use Rattle.win.specs.Win.{isOpened, orThen, inHand, indicatedIn, winCheckIn}
 use Rattle.sources.specs.Sources.{SameButSources}
@@ -54,10 +54,10 @@ module _ (cs : List ℕ) {k j : Calls} (s : SameButSources k j) where
   same-opened = of-both (any isOpen) (any-but isOpen (λ m. refl)) s
 
   module _ (g : Game) (calls : T (all (isCallIn g) (called k))) (calls' : T (all (isCallIn g) (called j))) where
-    -- checks 1 to 6 of a hand of n tiles in the game
-    pub same_check : (n : ℕ) → handCheckOf n g cs j ≡ handCheckOf n g cs k
-    unfolding handCheckOf
-    same_check n =
+    -- checks 1 to 6 of the game
+    pub same_check : handCheckIn g cs j ≡ handCheckIn g cs k
+    unfolding handCheckIn
+    same_check =
         let third : all (isCallIn g) (called j) ≡ all (isCallIn g) (called k) = T→true _ calls' ∙ sym (T→true _ calls) in
         λ i.
         check (eqb (length cs) 34) 1
@@ -65,7 +65,7 @@ module _ (cs : List ℕ) {k j : Calls} (s : SameButSources k j) where
         (check (third i) 3
         (check (all (λ t. leb (held cs t) (most g t)) tiles) 4
         (check (all (λ t. leb (same-together i t) 4) tiles) 5
-        (check (eqb (sum (held cs) tiles + 3 * s.many i) n) 6 0)))))
+        (check (eqb (sum (held cs) tiles + 3 * s.many i) 14) 6 0)))))
 
     -- and those of the win
     pub same-winCheck : (w : GameContext) → winCheckIn g cs j w ≡ winCheckIn g cs k w
@@ -73,4 +73,4 @@ module _ (cs : List ℕ) {k j : Calls} (s : SameButSources k j) where
     same-winCheck w =
         ap
         (λ (n : ℕ). orThen n (check (in_range w) 8 (check (indicatedIn g w) 14 (check (inHand cs w.winning_tile) 9 0))))
-        (same_check finished)
+        same_check

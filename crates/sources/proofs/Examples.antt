@@ -15,7 +15,7 @@ use Rattle.hand.specs.Reading.{standard}
 use Rattle.hand.specs.Records.{recordOf}
 use Rattle.hand.specs.Readings.{meldLists, standardsAt, sevenPairs, thirteenOrphans, readings}
 use Rattle.checks.specs.declared.Calls.{Calls}
-use Rattle.checks.specs.Checks.{check, handCheck, handCheckOf, handCheckIn}
+use Rattle.checks.specs.Checks.{check, handCheck, handCheckIn}
 use Rattle.lent.specs.Lent.{calls_of}
 use Rattle.unit.specs.Listing.{handReadings, handRecords}
 use Rattle.sources.specs.Sources.{AlikeIn, Alike, butSources}
@@ -36,16 +36,16 @@ left = calls_of (calling fromLeft)
 
 -- both pass the checks
 right-passes : handCheck counts right ≡ 0
-unfolding handCheckOf check
+unfolding handCheckIn check
 right-passes = refl
 
 left-passes : handCheck counts left ≡ 0
-unfolding handCheckOf check
+unfolding handCheckIn check
 left-passes = refl
 
 -- the same with a chi from the right does not: a sequence is called from the left alone, so the theorem asks check 3 of both
 chi-from-right : handCheck counts (calls_of (pon White ∷ fromRight (chi (man 1)) ∷ chi (pin 4) ∷ chi (sou 7) ∷ [])) ≡ 3
-unfolding handCheckOf check
+unfolding handCheckIn check
 chi-from-right = refl
 
 -- the operations answer alike
@@ -84,11 +84,11 @@ calledFrom seats = fromSeat seats (pon Red) ∷ fromRight (pon (man 1)) ∷ from
 
 -- from either of the two others it passes the checks
 first-other-passes : handCheckIn three counts (calls_of (calledFrom 1)) ≡ 0
-unfolding handCheckOf check
+unfolding handCheckIn check
 first-other-passes = refl
 
 second-other-passes : handCheckIn three counts (calls_of (calledFrom 2)) ≡ 0
-unfolding handCheckOf check
+unfolding handCheckIn check
 second-other-passes = refl
 
 -- and is answered alike
@@ -97,9 +97,9 @@ either-other = sources-lent-in three counts (calledFrom 1) (calledFrom 2) refl t
 
 -- there is no third, though with four players there is
 pub no-third-other : handCheckIn three counts (calls_of (calledFrom 3)) ≡ 3
-unfolding handCheckOf check
+unfolding handCheckIn check
 no-third-other = refl
 
 third-other-of-four : handCheck counts (calls_of (calledFrom 3)) ≡ 0
-unfolding handCheckOf check
+unfolding handCheckIn check
 third-other-of-four = refl

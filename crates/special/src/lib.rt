@@ -60,7 +60,7 @@ pub fn is_chiitoitsu(counts: &[u8], kinds: u64) -> bool
 }
 
 // Is the tile a terminal or an honor?
-pub fn is_orphan(t: usize) -> bool
+fn is_orphan(t: usize) -> bool
     requires { t < 34 }
     ensures { result ≡ isTerminalOrHonor t }
 {

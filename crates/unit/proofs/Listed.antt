@@ -9,9 +9,10 @@ use lib.ListN.{length, length-append}
 use lib.Seq.{sets, length-sets}
 use borrow.Author.Tests.{lt-ltb, le-ltb}
 use Rattle.lists.specs.Fold.{all, flat}
-use Rattle.lists.proofs.Finite.{and_right, true→T}
+use Rattle.lists.proofs.Finite.{and_left, and_right, true→T}
+use Rattle.lists.proofs.Members.{all-mem, all-intro}
 use Rattle.tile.specs.Tile.{tiles}
-use Rattle.meld.specs.Meld.{isMeld}
+use Rattle.meld.specs.Meld.{is_call, isMeld}
 use Rattle.hand.specs.Counts.{held}
 use Rattle.hand.specs.Reading.{pairs, orphans}
 use Rattle.hand.specs.Records.{recordOf, standardBytes, records}
@@ -24,7 +25,7 @@ use Rattle.decompose.specs.Packed.{in_words}
 use Rattle.decompose.specs.Pairs.{foundWith, recordsOver}
 use Rattle.checks.specs.declared.Calls.{Calls}
 use Rattle.checks.specs.Checks.{called, handCheck}
-use Rattle.checks.proofs.Passed.{passed, melds-passed}
+use Rattle.checks.proofs.Passed.{passed}
 use Rattle.unit.specs.declared.Found.{Found}
 use Rattle.unit.specs.declared.FoundSpecial.{FoundSpecial}
 use Rattle.unit.specs.Listing.{handReadings, handRecords}
@@ -67,7 +68,7 @@ special-length cs f e =
 
 -- the calls of a hand that has passed the checks are melds
 pub melds-called : (cs : List ℕ) (k : Calls) → handCheck cs k ≡ 0 → T (all isMeld (called k))
-melds-called cs k ok = melds-passed (passed cs k ok)
+melds-called cs k ok = all-intro isMeld (called k) (λ m i. and_left (isMeld m) _ (all-mem is_call (passed cs k ok).calls i))
 
 -- ---- the whole
 module _ (cs : List ℕ) (k : Calls) (ok : handCheck cs k ≡ 0) (long : length (called k) ≡ k.count) where

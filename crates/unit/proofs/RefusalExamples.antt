@@ -8,7 +8,7 @@ use Rattle.hand.specs.Named.{hand}
 use Rattle.hand.specs.Records.{recordOf, standardBytes}
 use Rattle.hand.specs.Readings.{readings, sevenPairs, thirteenOrphans, standardsAt, meldLists}
 use Rattle.checks.specs.declared.Calls.{Calls}
-use Rattle.checks.specs.Checks.{check, handCheckOf}
+use Rattle.checks.specs.Checks.{check, handCheckIn}
 use Rattle.unit.specs.declared.Listing.TheVariants.{Refused, Listed}
 use Rattle.unit.specs.Listing.{number_of, handReadings, handRecords, listing, listingIn}
 
@@ -21,20 +21,20 @@ played = hand (mans 12355 ++ (pins 456 ++ sous 234678))
 
 -- ---- 7: fewer bytes are lent than the records need
 pub one-byte-short : number_of (listing played nothingCalled (standardBytes - 1)) ≡ 7
-unfolding listingIn handRecords handReadings readings sevenPairs thirteenOrphans standardsAt meldLists recordOf handCheckOf check
+unfolding listingIn handRecords handReadings readings sevenPairs thirteenOrphans standardsAt meldLists recordOf handCheckIn check
 one-byte-short = refl
 
 -- just enough
 pub just_enough : listing played nothingCalled standardBytes ≡ Listed 1 standardBytes
-unfolding listingIn handRecords handReadings readings sevenPairs thirteenOrphans standardsAt meldLists recordOf handCheckOf check
+unfolding listingIn handRecords handReadings readings sevenPairs thirteenOrphans standardsAt meldLists recordOf handCheckIn check
 just_enough = refl
 
 -- ---- 1: the counts are not 34 long, though there is room
 pub one-count-short : listing (take 33 played) nothingCalled standardBytes ≡ Refused 1
-unfolding listingIn handCheckOf check
+unfolding listingIn handCheckIn check
 one-count-short = refl
 
 -- ---- two faults: the lower number
 pub one-before-seven : listing (take 33 played) nothingCalled 0 ≡ Refused 1
-unfolding listingIn handCheckOf check
+unfolding listingIn handCheckIn check
 one-before-seven = refl

@@ -8,12 +8,11 @@ ghost use Rattle.win.specs.Win.{scoreWin, scoreReading, nameWaits};
 ghost use Rattle.answers.specs.Answers.{version, listingAnswer, levelAnswer, paymentValues, scoreValues, waitsValues};
 
 pub mod book;
-pub mod drawn;
 pub mod games;
 pub mod three;
 
 // The version of this interface.
-const VERSION: u32 = 9;
+const VERSION: u32 = 8;
 
 // The version of this interface, for a caller that was written for one.
 #[unsafe(no_mangle)]

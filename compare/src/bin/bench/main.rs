@@ -2,7 +2,6 @@
 
 mod cases;
 mod timing;
-mod waiting;
 mod worst;
 
 use cases::{Booked, CASES, Case, Won, wins_of_three, with_and_without_indicators};
@@ -19,11 +18,9 @@ use compare::oracle::Expected;
 use std::hint::black_box;
 use std::process::ExitCode;
 
-const USAGE: &str = "usage: bench [readings | wins | dora | three | books | waiting | worst]
+const USAGE: &str = "usage: bench [readings | wins | dora | three | books | worst]
        bench profile readings|wins|books CASE N
-       bench profile waiting ROW N
-where CASE is mixture, several, flush, none or changing, and ROW is random, one suit, no call,
-1 call, 2 calls, 3 calls, 4 calls, six pairs or orphans";
+where CASE is mixture, several, flush, none or changing";
 const NUMBER: usize = 20_000;
 /// A book with sticks on the table and a counter to pay. Each win is booked in a copy of it.
 const BOOK: SeatBook = SeatBook {
@@ -193,7 +190,6 @@ fn main() -> ExitCode {
                 measure_dora();
                 measure_three();
                 measure_books();
-                waiting::measure();
                 worst::measure(NUMBER);
             }
             ["readings"] => measure_readings(),
@@ -201,9 +197,7 @@ fn main() -> ExitCode {
             ["dora"] => measure_dora(),
             ["three"] => measure_three(),
             ["books"] => measure_books(),
-            ["waiting"] => waiting::measure(),
             ["worst"] => worst::measure(NUMBER),
-            ["profile", "waiting", row, times] => waiting::profile(row, times.parse().ok()?)?,
             ["profile", operation, case, times] => profile(operation, case, times.parse().ok()?)?,
             _ => return None,
         }

@@ -3,7 +3,6 @@ use mathlib.Core.Path.{◌≡◌}
 use mathlib.Core.List.{List}
 use Prim.Native.Nat.{ℕ}
 use lib.ListN.{length}
-use denote.Struct.Laws as LL
 use denote.Triple.Table.{cited}
 use Rattle.lent.proofs.Handed.{Gather}
 use Rattle.lent.proofs.gather.Symbol as g-def
@@ -11,8 +10,6 @@ use Rattle.lent.proofs.gather.Symbol.{name as #g}
 use Rattle.lent.proofs.gather.Met as g-thm
 use Rattle.unit.specs.Listing.{listing, written}
 use Rattle.answers.specs.declared.ListingAnswer.{ListingAnswer}
-use Rattle.answers.specs.contracts.ListingAnswer as R
-use Rattle.answers.proofs.ListingAnswer.TheLaws as R'
 use Rattle.answers.specs.Answers.{listingAnswer}
 use Rattle.checks.specs.declared.Calls.{Calls}
 use Rattle.ziwhakemo.proofs.Listed.{Handed, listed}
@@ -33,7 +30,6 @@ left cs k out last = last ≡ written cs k out
 pub ziwhakemo-list-readings-spec : {M : Type 1} → stated.statement M
 unfolding code.routine
 ziwhakemo-list-readings-spec 𝓤 𝓛 𝓜 𝓡 =
-    listed R.the_row R'.mir answered left #h 𝓛 𝓜 𝓡 code.env #f
-    (λ r v is. ((LL.lawful R.the_type R'.the_laws 𝓛).typed r _ is).0) (code.unfolded 𝓤 𝓛.H 𝓜 𝓡)
+    listed answered left #h 𝓛 𝓜 𝓡 code.env #f (code.unfolded 𝓤 𝓛.H 𝓜 𝓡)
     (cited 𝓤 𝓛.H (Gather 𝓛 𝓜.mem 𝓡.run) 𝓜 𝓡 code.env #g g-def.routine code.calls-lent::gather (g-thm.met 𝓤 𝓛 𝓜 𝓡))
-    (cited 𝓤 𝓛.H (Handed R.the_row answered left 𝓛) 𝓜 𝓡 code.env #h h-def.routine code.calls-ziwhakemo::list-values (h_thm.met 𝓤 𝓛 𝓜 𝓡))
+    (cited 𝓤 𝓛.H (Handed answered left 𝓛) 𝓜 𝓡 code.env #h h-def.routine code.calls-ziwhakemo::list-values (h_thm.met 𝓤 𝓛 𝓜 𝓡))

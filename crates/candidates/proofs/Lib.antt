@@ -1,5 +1,0 @@
-pub mod Added
-pub mod Alone
-pub mod Suits
-pub mod Specials
-pub mod Only

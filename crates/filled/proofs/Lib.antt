@@ -1,3 +1,0 @@
-pub mod Borders
-pub mod Ends
-pub mod Laws

@@ -1,3 +1,0 @@
-pub mod Renamed
-pub mod Alike
-pub mod Sources

@@ -1,9 +1,0 @@
-pub mod Alike
-pub mod Bounds
-pub mod Examples
-pub mod Fewer
-pub mod OneMeld
-pub mod Orphans
-pub mod Pair
-pub mod Remainders
-pub mod Standard
