@@ -11,54 +11,54 @@ use lib.ListN.{length}
 use Rattle.tile.specs.Named.{man, pin, sou, sous, East, South, West, White, Green}
 use Rattle.tile.specs.declared.Order.TheVariants.{Abc, Acb, Bac, Cba}
 use Rattle.tile.specs.declared.Renaming.{Renaming}
-use Rattle.tile.specs.Renaming.{allStay, ren}
+use Rattle.tile.specs.Renaming.{all_stay, ren}
 use Rattle.tile.proofs.Renamings.{renaming}
 use Rattle.rules.specs.declared.Variant.{Variant}
 use Rattle.rules.specs.declared.Variant.TheVariants.{Yonma, Sanma}
 use Rattle.rules.specs.Rules.{Game, four, three, game}
 use Rattle.meld.specs.declared.Meld.{Meld}
 use Rattle.meld.specs.Named.{chi, pon}
-use Rattle.meld.specs.Renamed.{renMeld}
+use Rattle.meld.specs.Renamed.{ren_meld}
 use Rattle.context.specs.declared.GameContext.{GameContext}
-use Rattle.context.specs.Context.{renWin}
-use Rattle.context.specs.Named.{byRon, win, plain, showing}
+use Rattle.context.specs.Context.{ren_win}
+use Rattle.context.specs.Named.{by_ron, win, plain, showing}
 use Rattle.hand.specs.Named.{hand}
-use Rattle.hand.specs.Readings.{meldLists, standardsAt, sevenPairs, thirteenOrphans, readings}
+use Rattle.hand.specs.Readings.{meld_lists, standards_at, seven_pairs, thirteen_orphans, readings}
 use Rattle.wait.specs.Wait.{pinfu}
-use Rattle.tile_yaku.specs.Tiles.{tanyao, honroutou, tsuuiisou, chinroutou, ryuuiisou, honitsu, chinitsu, nineGates, pureWait, tileYaku}
-use Rattle.set_yaku.specs.Sets.{toitoi, kans, sanAnkou, sanshokuDoukou, suuankou, suuKantsu}
+use Rattle.tile_yaku.specs.Tiles.{tanyao, honroutou, tsuuiisou, chinroutou, ryuuiisou, honitsu, chinitsu, nine_gates, pure_wait, tile_yaku}
+use Rattle.set_yaku.specs.Sets.{toitoi, kans, san_ankou, sanshoku_doukou, suuankou, suu_kantsu}
 use Rattle.honor_yaku.specs.Honors.{yakuhai, dragons, winds, shousangen, daisangen, shousuushii, daisuushii}
-use Rattle.sequence_yaku.specs.Sequences.{ittsu, sanshokuDoujun, peikou}
+use Rattle.sequence_yaku.specs.Sequences.{ittsu, sanshoku_doujun, peikou}
 use Rattle.end_yaku.specs.Ends.{chanta, junchan}
-use Rattle.yaku.specs.Tally.{oneHan, moreHan, isYakuman, ordinary, tallies}
+use Rattle.yaku.specs.Tally.{one_han, more_han, is_yakuman, ordinary, tallies}
 use Rattle.yaku.specs.Names.{names}
-use Rattle.yaku.specs.Han.{hanOf, han}
-use Rattle.fu.specs.Fu.{standardFu, fu}
-use Rattle.dora.specs.Dora.{doraOf, doraIn, totalHan}
-use Rattle.scoring.specs.Level.{level, basicPoints}
-use Rattle.scoring.specs.Payment.{payment, totalAt}
-use Rattle.renamed.specs.Renamed.{renCounts}
+use Rattle.yaku.specs.Han.{han_of, han}
+use Rattle.fu.specs.Fu.{standard_fu, fu}
+use Rattle.dora.specs.Dora.{dora_of, dora_in, total_han}
+use Rattle.scoring.specs.Level.{level, basic_points}
+use Rattle.scoring.specs.Payment.{payment, total_at}
+use Rattle.renamed.specs.Renamed.{ren_counts}
 use Rattle.checks.specs.declared.Calls.{Calls}
-use Rattle.checks.specs.Checks.{called, together, check, handCheckIn}
+use Rattle.checks.specs.Checks.{called, together, check, hand_check_in}
 use Rattle.lent.specs.Lent.{calls_of}
-use Rattle.unit.specs.Listing.{handReadings}
-use Rattle.reading_score.specs.Score.{result, scoreOf, rank}
+use Rattle.unit.specs.Listing.{hand_readings}
+use Rattle.reading_score.specs.Score.{result, score_of, rank}
 use Rattle.choice.specs.declared.ScoreAnswer.{ScoreAnswer}
-use Rattle.choice.specs.Choice.{chooseBy, choice}
-use Rattle.win.specs.Win.{orThen, winCheck, winCheckIn, scoreIn, scores, scoreWin, scoreWinIn}
-use Rattle.agreement.specs.Agreement.{StaysAllowed, RenamedCalls, RenamedWin, NotGreen, Comparable, no-indicator}
-use Rattle.agreement.proofs.Indicators.{renamed-win}
-use Rattle.agreement.proofs.Demand3.{four-stays}
-use Rattle.agreement.proofs.Lent.{lent-renamed}
-use Rattle.agreement.proofs.ThreePlayers.{three-renamings}
+use Rattle.choice.specs.Choice.{choose_by, choice}
+use Rattle.win.specs.Win.{or_then, win_check, win_check_in, score_in, scores, score_win, score_win_in}
+use Rattle.agreement.specs.Agreement.{StaysAllowed, RenamedCalls, RenamedWin, NotGreen, Comparable, no_indicator}
+use Rattle.agreement.proofs.Indicators.{renamed_win}
+use Rattle.agreement.proofs.Demand3.{four_stays}
+use Rattle.agreement.proofs.Lent.{lent_renamed}
+use Rattle.agreement.proofs.ThreePlayers.{three_renamings}
 
 -- pin and sou change places: a renaming of either game
 abbrev swap : Renaming
 swap = renaming Acb false false Abc
 
-swap-stays : (v : Variant) → StaysAllowed (game v) swap
-swap-stays Yonma = four-stays swap
-swap-stays Sanma = (three-renamings swap).1 tt
+swap_stays : (v : Variant) → StaysAllowed (game v) swap
+swap_stays Yonma = four_stays swap
+swap_stays Sanma = (three_renamings swap).1 tt
 
 -- 223344 666 888 of sou and a pair of Green; nothing is called
 abbrev green : List ℕ
@@ -68,32 +68,32 @@ green = 0 ∷ 0 ∷ 0 ∷ 0 ∷ 0 ∷ 0 ∷ 0 ∷ 0 ∷ 0 ∷ 0 ∷ 0 ∷ 0 ∷ 
 abbrev none : Calls
 none = calls_of []
 
-abbrev renamedBy : Renaming → List Meld → Calls
-renamedBy ρ ms = calls_of (map (renMeld ρ) ms)
+abbrev renamed_by : Renaming → List Meld → Calls
+renamed_by ρ ms = calls_of (map (ren_meld ρ) ms)
 
 -- ron on sou 2, round East, seat South
 abbrev ron : GameContext
 ron = plain 0 19
 
--- the scored win of a game. What a proof computes with stands here once: `unfolding scoredWin` opens all of it
-unfoldable scoredWin : Game → List ℕ → Calls → GameContext → ScoreAnswer
-unfolding scoreWinIn winCheckIn orThen check handCheckIn choice chooseBy rank scores scoreIn scoreOf result doraIn doraOf totalHan handReadings readings standardsAt meldLists sevenPairs thirteenOrphans tallies ordinary isYakuman oneHan moreHan han hanOf names fu standardFu pinfu level basicPoints payment tileYaku tanyao honroutou tsuuiisou chinroutou ryuuiisou honitsu chinitsu nineGates pureWait toitoi kans yakuhai dragons winds sanAnkou ittsu sanshokuDoujun sanshokuDoukou peikou chanta junchan shousangen suuankou daisangen shousuushii daisuushii suuKantsu
-scoredWin g cs k w = scoreWinIn g cs k w
+-- the scored win of a game. What a proof computes with stands here once: `unfolding scored_win` opens all of it
+unfoldable scored_win : Game → List ℕ → Calls → GameContext → ScoreAnswer
+unfolding score_win_in win_check_in or_then check hand_check_in choice choose_by rank scores score_in score_of result dora_in dora_of total_han hand_readings readings standards_at meld_lists seven_pairs thirteen_orphans tallies ordinary is_yakuman one_han more_han han han_of names fu standard_fu pinfu level basic_points payment tile_yaku tanyao honroutou tsuuiisou chinroutou ryuuiisou honitsu chinitsu nine_gates pure_wait toitoi kans yakuhai dragons winds san_ankou ittsu sanshoku_doujun sanshoku_doukou peikou chanta junchan shousangen suuankou daisangen shousuushii daisuushii suu_kantsu
+scored_win g cs k w = score_win_in g cs k w
 
-abbrev hanOfWin : Game → List ℕ → Calls → GameContext → ℕ
-hanOfWin g cs k w = (scoredWin g cs k w).score.han
+abbrev han_of_win : Game → List ℕ → Calls → GameContext → ℕ
+han_of_win g cs k w = (scored_win g cs k w).score.han
 
 -- Ryuuiisou; and Iipeikou with Honitsu
-two-han : (v : Variant) → (hanOfWin (game v) green none ron ≡ 13) × (hanOfWin (game v) (renCounts swap green) none (renWin swap ron) ≡ 4)
-unfolding scoredWin
-two-han Yonma = (refl, refl)
-two-han Sanma = (refl, refl)
+two_han : (v : Variant) → (han_of_win (game v) green none ron ≡ 13) × (han_of_win (game v) (ren_counts swap green) none (ren_win swap ron) ≡ 4)
+unfolding scored_win
+two_han Yonma = (refl, refl)
+two_han Sanma = (refl, refl)
 
 -- and both wins pass
-two-pass : (v : Variant) → (winCheckIn (game v) green none ron ≡ 0) × (winCheckIn (game v) (renCounts swap green) none (renWin swap ron) ≡ 0)
-unfolding winCheckIn orThen check handCheckIn
-two-pass Yonma = (refl, refl)
-two-pass Sanma = (refl, refl)
+two_pass : (v : Variant) → (win_check_in (game v) green none ron ≡ 0) × (win_check_in (game v) (ren_counts swap green) none (ren_win swap ron) ≡ 0)
+unfolding win_check_in or_then check hand_check_in
+two_pass Yonma = (refl, refl)
+two_pass Sanma = (refl, refl)
 
 -- in the game g all that the theorem asks but what is said beside it, and two scored wins that do not agree
 pub record Differ (g : Game) (ρ : Renaming) (cs : List ℕ) (k j : Calls) (w v : GameContext) : Type 0 where
@@ -102,208 +102,208 @@ pub record Differ (g : Game) (ρ : Renaming) (cs : List ℕ) (k j : Calls) (w v 
   pub four' : length j.melds ≡ 4
   pub renamed : RenamedCalls ρ k j
   pub win : RenamedWin ρ w v
-  pub passes : winCheckIn g cs k w ≡ 0
-  pub han : (scoreWinIn g (renCounts ρ cs) j v).score.han ≡ (scoreWinIn g cs k w).score.han → ⊥
+  pub passes : win_check_in g cs k w ≡ 0
+  pub han : (score_win_in g (ren_counts ρ cs) j v).score.han ≡ (score_win_in g cs k w).score.han → ⊥
 
 -- so it is of a hand whose han, n and m, differ
 differ :
-    (g : Game) (ρ : Renaming) → StaysAllowed g ρ → (cs : List ℕ) (ms : List Meld) (w : GameContext) (n m : ℕ) → winCheckIn g cs (calls_of ms) w ≡ 0
-    → hanOfWin g cs (calls_of ms) w ≡ n → hanOfWin g (renCounts ρ cs) (renamedBy ρ ms) (renWin ρ w) ≡ m → (m ≡ n → ⊥)
-    → Differ g ρ cs (calls_of ms) (renamedBy ρ ms) w (renWin ρ w)
-unfolding scoredWin
+    (g : Game) (ρ : Renaming) → StaysAllowed g ρ → (cs : List ℕ) (ms : List Meld) (w : GameContext) (n m : ℕ) → win_check_in g cs (calls_of ms) w ≡ 0
+    → han_of_win g cs (calls_of ms) w ≡ n → han_of_win g (ren_counts ρ cs) (renamed_by ρ ms) (ren_win ρ w) ≡ m → (m ≡ n → ⊥)
+    → Differ g ρ cs (calls_of ms) (renamed_by ρ ms) w (ren_win ρ w)
+unfolding scored_win
 differ g ρ stays cs ms w n m passes first second apart =
     record {
       stays = stays;
       four = refl;
       four' = refl;
-      renamed = lent-renamed ρ ms;
-      win = renamed-win ρ w;
+      renamed = lent_renamed ρ ms;
+      win = renamed_win ρ w;
       passes = passes;
       han = λ e. apart (sym second ∙ e ∙ first);
     }
 
 -- in either game: the first hand is all green, the second is not
-pub green-condition-needed :
+pub green_condition_needed :
     (variant : Variant)
     → (ρ : Renaming) × (cs : List ℕ) × (k : Calls) × (j : Calls) × (w : GameContext) × (v : GameContext)
-    × NotGreen (renCounts ρ cs) j × Comparable ρ w × Differ (game variant) ρ cs k j w v
-green-condition-needed variant = (
+    × NotGreen (ren_counts ρ cs) j × Comparable ρ w × Differ (game variant) ρ cs k j w v
+green_condition_needed variant = (
   swap,
   green,
   none,
   none,
   ron,
-  renWin swap ron,
+  ren_win swap ron,
   tt,
-  no-indicator (refl, refl),
-  differ (game variant) swap (swap-stays variant) green [] ron 13 4 (two-pass variant).0 (two-han variant).0 (two-han variant).1 (λ e. omega arith),
+  no_indicator (refl, refl),
+  differ (game variant) swap (swap_stays variant) green [] ron 13 4 (two_pass variant).0 (two_han variant).0 (two_han variant).1 (λ e. omega arith),
 )
 
 -- and the other way round: the first hand is not all green, the second is
-pub second-condition-needed :
+pub second_condition_needed :
     (variant : Variant)
     → (ρ : Renaming) × (cs : List ℕ) × (k : Calls) × (j : Calls) × (w : GameContext) × (v : GameContext)
     × NotGreen cs k × Comparable ρ w × Differ (game variant) ρ cs k j w v
-second-condition-needed variant = (
+second_condition_needed variant = (
   swap,
-  renCounts swap green,
+  ren_counts swap green,
   none,
   none,
-  renWin swap ron,
-  renWin swap (renWin swap ron),
+  ren_win swap ron,
+  ren_win swap (ren_win swap ron),
   tt,
-  no-indicator (refl, refl),
-  differ (game variant) swap (swap-stays variant) (renCounts swap green) [] (renWin swap ron) 4 13 (two-pass variant).1 (two-han variant).1 (two-han variant).0 (λ e. omega arith),
+  no_indicator (refl, refl),
+  differ (game variant) swap (swap_stays variant) (ren_counts swap green) [] (ren_win swap ron) 4 13 (two_pass variant).1 (two_han variant).1 (two_han variant).0 (λ e. omega arith),
 )
 
 -- ---- a tile leaves the wall: with man and sou exchanged sou 5 becomes man 5, which three players have not
-abbrev manSou : Renaming
-manSou = renaming Cba false false Abc
+abbrev man_sou : Renaming
+man_sou = renaming Cba false false Abc
 
-pub leaves-wall : T (three.allowed (sou 5)) × (ren manSou (sou 5) ≡ man 5) × (three.allowed (man 5) ≡ false)
-leaves-wall = (tt, refl, refl)
+pub leaves_wall : T (three.allowed (sou 5)) × (ren man_sou (sou 5) ≡ man 5) × (three.allowed (man 5) ≡ false)
+leaves_wall = (tt, refl, refl)
 
 -- so the three-player win is accepted, and the same win renamed is refused with 4
-pub stays-condition-needed :
+pub stays_condition_needed :
     (cs : List ℕ) × (k : Calls) × (j : Calls) × (w : GameContext) × (v : GameContext)
-    × RenamedCalls manSou k j × RenamedWin manSou w v × ((scoreWinIn three cs k w).number ≡ 0)
-    × ((scoreWinIn three (renCounts manSou cs) j v).number ≡ 4)
-unfolding scoredWin
-stays-condition-needed = (green, none, none, ron, renWin manSou ron, lent-renamed manSou [], renamed-win manSou ron, refl, refl)
+    × RenamedCalls man_sou k j × RenamedWin man_sou w v × ((score_win_in three cs k w).number ≡ 0)
+    × ((score_win_in three (ren_counts man_sou cs) j v).number ≡ 4)
+unfolding scored_win
+stays_condition_needed = (green, none, none, ron, ren_win man_sou ron, lent_renamed man_sou [], renamed_win man_sou ron, refl, refl)
 
 -- ---- an indicator is shown: 345 567 of man, 345 of pin and three Green are called, and a pair of sou 8 or of West is won by ron
-abbrev withGreen : List Meld
-withGreen = chi (man 3) ∷ chi (man 5) ∷ chi (pin 3) ∷ pon Green ∷ []
+abbrev with_green : List Meld
+with_green = chi (man 3) ∷ chi (man 5) ∷ chi (pin 3) ∷ pon Green ∷ []
 
-abbrev souPair : List ℕ
-souPair = hand (sous 88)
+abbrev sou_pair : List ℕ
+sou_pair = hand (sous 88)
 
-abbrev westPair : List ℕ
-westPair = hand (West ∷ West ∷ [])
+abbrev west_pair : List ℕ
+west_pair = hand (West ∷ West ∷ [])
 
 -- all numbers n become 10 - n; White and Red change places; South and West change places
 abbrev mirrored : Renaming
 mirrored = renaming Abc true false Abc
 
-abbrev dragonsChanged : Renaming
-dragonsChanged = renaming Abc false true Abc
+abbrev dragons_changed : Renaming
+dragons_changed = renaming Abc false true Abc
 
-abbrev windsChanged : Renaming
-windsChanged = renaming Abc false false Bac
+abbrev winds_changed : Renaming
+winds_changed = renaming Abc false false Bac
 
 -- man 2 makes man 3 dora, of which there is one; mirrored, man 8 makes man 9 dora, and the hand's man 3 is its man 7
-abbrev manShown : GameContext
-manShown = showing (man 2 ∷ []) [] (plain 0 (sou 8))
+abbrev man_shown : GameContext
+man_shown = showing (man 2 ∷ []) [] (plain 0 (sou 8))
 
 -- White makes Green dora, of which there are three; exchanged, Red makes White dora, and Green stays Green
-abbrev whiteShown : GameContext
-whiteShown = showing (White ∷ []) [] (plain 0 (sou 8))
+abbrev white_shown : GameContext
+white_shown = showing (White ∷ []) [] (plain 0 (sou 8))
 
 -- South makes West dora, of which there are two; exchanged, West makes North dora, and the pair is South's
-abbrev southShown : GameContext
-southShown = showing (South ∷ []) [] (plain 0 West)
+abbrev south_shown : GameContext
+south_shown = showing (South ∷ []) [] (plain 0 West)
 
 -- the han of the win with these calls, and of the win renamed
-abbrev bothHan : Renaming → List ℕ → GameContext → ℕ → ℕ → Type 0
-bothHan ρ cs w n m = (hanOfWin four cs (calls_of withGreen) w ≡ n) × (hanOfWin four (renCounts ρ cs) (renamedBy ρ withGreen) (renWin ρ w) ≡ m)
+abbrev both_han : Renaming → List ℕ → GameContext → ℕ → ℕ → Type 0
+both_han ρ cs w n m = (han_of_win four cs (calls_of with_green) w ≡ n) × (han_of_win four (ren_counts ρ cs) (renamed_by ρ with_green) (ren_win ρ w) ≡ m)
 
-mirror-han : bothHan mirrored souPair manShown 2 1
-unfolding scoredWin
-mirror-han = (refl, refl)
+mirror_han : both_han mirrored sou_pair man_shown 2 1
+unfolding scored_win
+mirror_han = (refl, refl)
 
-dragons-han : bothHan dragonsChanged souPair whiteShown 4 1
-unfolding scoredWin
-dragons-han = (refl, refl)
+dragons_han : both_han dragons_changed sou_pair white_shown 4 1
+unfolding scored_win
+dragons_han = (refl, refl)
 
-winds-han : bothHan windsChanged westPair southShown 3 1
-unfolding scoredWin
-winds-han = (refl, refl)
+winds_han : both_han winds_changed west_pair south_shown 3 1
+unfolding scored_win
+winds_han = (refl, refl)
 
 -- numbers stay, dragons stay, winds stay: without the first the two do not agree
-pub mirror-condition-needed :
+pub mirror_condition_needed :
     (ρ : Renaming) × (cs : List ℕ) × (k : Calls) × (j : Calls) × (w : GameContext) × (v : GameContext)
-    × NotGreen cs k × NotGreen (renCounts ρ cs) j × (ρ.honors.dragons ≡ false) × T (allStay ρ.honors.winds) × Differ four ρ cs k j w v
-unfolding winCheckIn orThen check handCheckIn
-mirror-condition-needed = (
+    × NotGreen cs k × NotGreen (ren_counts ρ cs) j × (ρ.honors.dragons ≡ false) × T (all_stay ρ.honors.winds) × Differ four ρ cs k j w v
+unfolding win_check_in or_then check hand_check_in
+mirror_condition_needed = (
   mirrored,
-  souPair,
-  calls_of withGreen,
-  renamedBy mirrored withGreen,
-  manShown,
-  renWin mirrored manShown,
+  sou_pair,
+  calls_of with_green,
+  renamed_by mirrored with_green,
+  man_shown,
+  ren_win mirrored man_shown,
   tt,
   tt,
   refl,
   tt,
-  differ four mirrored (four-stays mirrored) souPair withGreen manShown 2 1 refl mirror-han.0 mirror-han.1 (λ e. omega arith),
+  differ four mirrored (four_stays mirrored) sou_pair with_green man_shown 2 1 refl mirror_han.0 mirror_han.1 (λ e. omega arith),
 )
 
 -- nor without the second
-pub dragons-condition-needed :
+pub dragons_condition_needed :
     (ρ : Renaming) × (cs : List ℕ) × (k : Calls) × (j : Calls) × (w : GameContext) × (v : GameContext)
-    × NotGreen cs k × NotGreen (renCounts ρ cs) j × (ρ.numbers.mirror ≡ false) × T (allStay ρ.honors.winds) × Differ four ρ cs k j w v
-unfolding winCheckIn orThen check handCheckIn
-dragons-condition-needed = (
-  dragonsChanged,
-  souPair,
-  calls_of withGreen,
-  renamedBy dragonsChanged withGreen,
-  whiteShown,
-  renWin dragonsChanged whiteShown,
+    × NotGreen cs k × NotGreen (ren_counts ρ cs) j × (ρ.numbers.mirror ≡ false) × T (all_stay ρ.honors.winds) × Differ four ρ cs k j w v
+unfolding win_check_in or_then check hand_check_in
+dragons_condition_needed = (
+  dragons_changed,
+  sou_pair,
+  calls_of with_green,
+  renamed_by dragons_changed with_green,
+  white_shown,
+  ren_win dragons_changed white_shown,
   tt,
   tt,
   refl,
   tt,
-  differ four dragonsChanged (four-stays dragonsChanged) souPair withGreen whiteShown 4 1 refl dragons-han.0 dragons-han.1 (λ e. omega arith),
+  differ four dragons_changed (four_stays dragons_changed) sou_pair with_green white_shown 4 1 refl dragons_han.0 dragons_han.1 (λ e. omega arith),
 )
 
 -- nor without the third
-pub winds-condition-needed :
+pub winds_condition_needed :
     (ρ : Renaming) × (cs : List ℕ) × (k : Calls) × (j : Calls) × (w : GameContext) × (v : GameContext)
-    × NotGreen cs k × NotGreen (renCounts ρ cs) j × (ρ.numbers.mirror ≡ false) × (ρ.honors.dragons ≡ false) × Differ four ρ cs k j w v
-unfolding winCheckIn orThen check handCheckIn
-winds-condition-needed = (
-  windsChanged,
-  westPair,
-  calls_of withGreen,
-  renamedBy windsChanged withGreen,
-  southShown,
-  renWin windsChanged southShown,
+    × NotGreen cs k × NotGreen (ren_counts ρ cs) j × (ρ.numbers.mirror ≡ false) × (ρ.honors.dragons ≡ false) × Differ four ρ cs k j w v
+unfolding win_check_in or_then check hand_check_in
+winds_condition_needed = (
+  winds_changed,
+  west_pair,
+  calls_of with_green,
+  renamed_by winds_changed with_green,
+  south_shown,
+  ren_win winds_changed south_shown,
   tt,
   tt,
   refl,
   refl,
-  differ four windsChanged (four-stays windsChanged) westPair withGreen southShown 3 1 refl winds-han.0 winds-han.1 (λ e. omega arith),
+  differ four winds_changed (four_stays winds_changed) west_pair with_green south_shown 3 1 refl winds_han.0 winds_han.1 (λ e. omega arith),
 )
 
 -- ---- East could not join: with East and South exchanged a dealer's win becomes another's, which pays less
-abbrev eastSouth : ℕ → ℕ
-eastSouth t = cond (eqb t East) South (cond (eqb t South) East t)
+abbrev east_south : ℕ → ℕ
+east_south t = cond (eqb t East) South (cond (eqb t South) East t)
 
 -- the total of the scored win
-abbrev totalOfWin : List ℕ → Calls → GameContext → ℕ
-totalOfWin cs k w = totalAt 4 (scoreWin cs k w).score.payment
+abbrev total_of_win : List ℕ → Calls → GameContext → ℕ
+total_of_win cs k w = total_at 4 (score_win cs k w).score.payment
 
 -- the seat East in the round East, and the seat South in the round South
-east-total :
-    (totalOfWin souPair (calls_of withGreen) (win byRon (sou 8) East East []) ≡ 1500)
-    × (totalOfWin souPair (calls_of withGreen) (win byRon (sou 8) South South []) ≡ 1000)
-unfolding scoredWin
-east-total = (refl, refl)
+east_total :
+    (total_of_win sou_pair (calls_of with_green) (win by_ron (sou 8) East East []) ≡ 1500)
+    × (total_of_win sou_pair (calls_of with_green) (win by_ron (sou 8) South South []) ≡ 1000)
+unfolding scored_win
+east_total = (refl, refl)
 
 -- a hand that with its calls holds neither wind is the same hand after the exchange, and the two wins, which both pass, are paid differently
-pub east-could-not-join :
+pub east_could_not_join :
     (cs : List ℕ) × (k : Calls) × (t : ℕ) × (round : ℕ) × (seat : ℕ)
     × (together cs (called k) East ≡ 0)
     × (together cs (called k) South ≡ 0)
     × NotGreen cs k
-    × (winCheck cs k (win byRon t round seat []) ≡ 0)
-    × (winCheck cs k (win byRon (eastSouth t) (eastSouth round) (eastSouth seat) []) ≡ 0)
-    × (totalOfWin cs k (win byRon (eastSouth t) (eastSouth round) (eastSouth seat) []) ≡ totalOfWin cs k (win byRon t round seat []) → ⊥)
-unfolding winCheckIn orThen check handCheckIn
-east-could-not-join = (
-  souPair,
-  calls_of withGreen,
+    × (win_check cs k (win by_ron t round seat []) ≡ 0)
+    × (win_check cs k (win by_ron (east_south t) (east_south round) (east_south seat) []) ≡ 0)
+    × (total_of_win cs k (win by_ron (east_south t) (east_south round) (east_south seat) []) ≡ total_of_win cs k (win by_ron t round seat []) → ⊥)
+unfolding win_check_in or_then check hand_check_in
+east_could_not_join = (
+  sou_pair,
+  calls_of with_green,
   sou 8,
   East,
   East,
@@ -312,5 +312,5 @@ east-could-not-join = (
   tt,
   refl,
   refl,
-  λ e. omega (arith, e, east-total),
+  λ e. omega (arith, e, east_total),
 )

@@ -1,7 +1,7 @@
 // The unit's answers as plain numbers, for C: a struct for each answer, and the function that makes it.
 ghost use Rattle.std.specs.Prelude.{◌≡◌};
 ghost use Rattle.rules.specs.Rules.{game};
-ghost use Rattle.answers.specs.Answers.{listingAnswer, levelAnswer, paid, paymentValuesAt, settlementBeside, scoreValuesAt, waitsValues};
+ghost use Rattle.answers.specs.Answers.{listing_answer, level_answer, paid, payment_values_at, settlement_beside, score_values_at, waits_values};
 
 // The answer to a listing: number 0 where accepted, else the refusal; the count of readings; the count of bytes written.
 #[repr(C)]
@@ -14,7 +14,7 @@ pub struct ListingAnswer {
 
 // The numbers of a listing.
 pub fn listing_of(a: unit::Listing) -> ListingAnswer
-    ensures { result ≡ listingAnswer a }
+    ensures { result ≡ listing_answer a }
 {
     match a {
         unit::Listing::Refused(refusal) => ListingAnswer {
@@ -40,7 +40,7 @@ pub struct LevelAnswer {
 
 // The numbers of a level.
 pub fn level_of(l: scoring::ScoreLevel) -> LevelAnswer
-    ensures { result ≡ levelAnswer l }
+    ensures { result ≡ level_answer l }
 {
     match l {
         scoring::ScoreLevel::Normal => LevelAnswer { level: 0, count: 0 },
@@ -112,7 +112,7 @@ fn values_of(p: scoring::Payment, v: rules::Variant) -> PaymentValues
 
 // The values of the answer to who pays what at the table of the game.
 pub fn payment_values(a: scoring::PaymentAnswer, v: rules::Variant) -> PaymentValues
-    ensures { result ≡ paymentValuesAt (game v).players a }
+    ensures { result ≡ payment_values_at (game v).players a }
 {
     match a {
         scoring::PaymentAnswer::Refused(number) => PaymentValues {
@@ -153,14 +153,14 @@ pub struct ScoreValues {
 
 // The settlement beside an answer's number: none beside a refusal.
 fn settlement_beside(number: u8, settlement: u32) -> u32
-    ensures { result ≡ settlementBeside number settlement }
+    ensures { result ≡ settlement_beside number settlement }
 {
     if number == 0 { settlement } else { NONE }
 }
 
 // The values of a scored win or reading of the game.
 pub fn score_values(a: choice::ScoreAnswer, v: rules::Variant) -> ScoreValues
-    ensures { result ≡ scoreValuesAt (game v).players a }
+    ensures { result ≡ score_values_at (game v).players a }
 {
     let score = a.score;
     let tallies = score.tallies;
@@ -201,7 +201,7 @@ pub struct WaitsValues {
 
 // The values of the waits of a reading.
 pub fn waits_values(a: win::WaitsAnswer) -> WaitsValues
-    ensures { result ≡ waitsValues a }
+    ensures { result ≡ waits_values a }
 {
     let waits = a.waits;
     WaitsValues {

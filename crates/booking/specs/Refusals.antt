@@ -17,9 +17,9 @@ abbrev pub Countable : SeatBook → Deal → Winner → Type 0
 Countable b d p = p.seat ≡ d.dealer → b.counter ≢ 255
 
 -- a win: the seats, the book, what scoring asks, and last the counter
-abbrev pub winBookChecks : SeatBook → Deal → Winner → List Check → List Check
-winBookChecks b d p scoring = unless 15 (Seated d p) ∷ unless 16 (Roomy b) ∷ (scoring ++ (unless 16 (Countable b d p) ∷ []))
+abbrev pub win_book_checks : SeatBook → Deal → Winner → List Check → List Check
+win_book_checks b d p scoring = unless 15 (Seated d p) ∷ unless 16 (Roomy b) ∷ (scoring ++ (unless 16 (Countable b d p) ∷ []))
 
 -- a draw: the dealer's seat, the book and the counter
-abbrev pub drawBookChecks : SeatBook → Deal → List Check
-drawBookChecks b d = unless 15 (d.dealer < 4) ∷ unless 16 (Roomy b) ∷ unless 16 (b.counter ≢ 255) ∷ []
+abbrev pub draw_book_checks : SeatBook → Deal → List Check
+draw_book_checks b d = unless 15 (d.dealer < 4) ∷ unless 16 (Roomy b) ∷ unless 16 (b.counter ≢ 255) ∷ []

@@ -1,8 +1,8 @@
 // Bookings, with the book, the calls and the rest by value: a draw, and a win that the unit scores.
 ghost use Rattle.std.specs.Prelude.{◌≡◌, true, ◌<◌};
-ghost use Rattle.seat_book.specs.Book.{hasRoom, Small};
+ghost use Rattle.seat_book.specs.Book.{has_room, Small};
 ghost use Rattle.seat_book.specs.History.{refused};
-ghost use Rattle.booking.specs.Booking.{seatWind, type_of, seated, areSeats, raising, scoredOutcome, winOutcome, drawOutcome, answer_of};
+ghost use Rattle.booking.specs.Booking.{seat_wind, type_of, seated, are_seats, raising, scored_outcome, win_outcome, draw_outcome, answer_of};
 
 // Refused: a seat is above 3, or the discarder is the winner.
 const NOT_SEATS: u32 = 15;
@@ -26,7 +26,7 @@ pub struct Booked {
 // The seat wind of a seat, counted in turn order from the dealer's.
 fn seat_wind(dealer: u8, seat: u8) -> u8
     requires { (dealer < 4) × (seat < 4) }
-    ensures { result ≡ seatWind dealer seat }
+    ensures { result ≡ seat_wind dealer seat }
 {
     EAST + (seat + 4 - dealer) % 4
 }
@@ -57,7 +57,7 @@ fn seated(
 
 // Are the seats those of four players, and is the discarder, if there is one, another than the winner?
 fn are_seats(d: seat_book::Deal, won: settlements::Winner) -> bool
-    ensures { result ≡ areSeats d won }
+    ensures { result ≡ are_seats d won }
 {
     (d.dealer < 4)
         & ((won.seat < 4)
@@ -76,7 +76,7 @@ fn refuse(number: u32, b: seat_book::SeatBook, d: seat_book::Deal) -> Booked
 
 // A deal that is settled so, unless it would raise a counter that cannot rise.
 fn settle(b: seat_book::SeatBook, d: seat_book::Deal, x: seat_book::Settlement) -> Booked
-    requires { (hasRoom b ≡ true) × Small x }
+    requires { (has_room b ≡ true) × Small x }
     ensures { result ≡ answer_of b d (raising b x) }
 {
     if x.raises & (b.counter == MOST_COUNTER) {
@@ -96,8 +96,8 @@ fn book_scored(
     won: settlements::Winner,
     a: choice::ScoreAnswer,
 ) -> Booked
-    requires { hasRoom b ≡ true }
-    ensures { result ≡ answer_of b d (scoredOutcome b d won a) }
+    requires { has_room b ≡ true }
+    ensures { result ≡ answer_of b d (scored_outcome b d won a) }
 {
     let number = a.number;
     if number != 0 {
@@ -121,7 +121,7 @@ pub fn book_win(
     d: seat_book::Deal,
     won: settlements::Winner,
 ) -> Booked
-    ensures { result ≡ answer_of b d (winOutcome b counts.now k w d won) }
+    ensures { result ≡ answer_of b d (win_outcome b counts.now k w d won) }
 {
     if !are_seats(d, won) {
         return refuse(NOT_SEATS, b, d);
@@ -135,7 +135,7 @@ pub fn book_win(
 
 // Books a draw.
 pub fn book_draw(b: seat_book::SeatBook, d: seat_book::Deal) -> Booked
-    ensures { result ≡ answer_of b d (drawOutcome b d) }
+    ensures { result ≡ answer_of b d (draw_outcome b d) }
 {
     if 4 <= d.dealer {
         return refuse(NOT_SEATS, b, d);

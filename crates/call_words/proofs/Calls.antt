@@ -8,46 +8,46 @@ use lib.Dec.{T, eqb}
 use lib.ListN.{replicate, get_or-replicate}
 use borrow.Author.Tests.{eqb-true, eq-eqb, ne_eqb}
 use Rattle.lists.specs.Fold.{count}
-use Rattle.lists.proofs.Finite.{T→true, true→T, or_elim, and_left, and_right, and_both}
-use Rattle.lists.proofs.Members.{all-intro}
+use Rattle.lists.proofs.Finite.{T→true, true→t, or_elim, and_left, and_right, and_both}
+use Rattle.lists.proofs.Members.{all_intro}
 use Rattle.tile.specs.Tile.{tiles}
-use Rattle.tile.proofs.Tiles.{tile-lt}
+use Rattle.tile.proofs.Tiles.{tile_lt}
 use Rattle.meld.specs.declared.Meld.{Meld}
-use Rattle.meld.specs.Meld.{isMeld, is_call, isOpen, meld, butSource, uses}
-use Rattle.meld.proofs.Melds.{but-isMeld}
+use Rattle.meld.specs.Meld.{is_meld, is_call, is_open, meld, but_source, uses}
+use Rattle.meld.proofs.Melds.{but_is_meld_holds}
 use Rattle.hand.specs.Counts.{held}
-use Rattle.checks.proofs.Added.{uses-first}
-use Rattle.tile_words.specs.Words.{tilesIn, addTo}
-use Rattle.call_words.specs.Calls.{made_of, isKind, isAsked, IsLowest, CallOf, IsCallOf, IsCallIn}
+use Rattle.checks.proofs.Added.{uses_first}
+use Rattle.tile_words.specs.Words.{tiles_in, add_to}
+use Rattle.call_words.specs.Calls.{made_of, is_kind, is_asked, IsLowest, CallOf, IsCallOf, IsCallIn}
 use Rattle.call_words.specs.declared.Found.{Found}
 use Rattle.call_words.specs.declared.Found.TheVariants.{Nothing, Call}
-use Rattle.tile_words.proofs.Adding.{add-few, few-added}
-use Rattle.call_words.proofs.Least.{made, lowest-own}
+use Rattle.tile_words.proofs.Adding.{add_few, few_added}
+use Rattle.call_words.proofs.Least.{made, lowest_own}
 
 -- a meld holds at most four of a tile
 few : (m : Meld) (t : ℕ) → uses m t ≤ 4
-few m t = let h = uses-first (m ∷ []) 1 t in omega arith
+few m t = let h = uses_first (m ∷ []) 1 t in omega arith
 
 -- a call but for its source is a call
-but-call : (m : Meld) → is_call m ≡ true → is_call (butSource m) ≡ true
-but-call m e =
-    let c = true→T (is_call m) e in
-    T→true (is_call (butSource m)) (and_both (isMeld (butSource m)) _ (but-isMeld m (and_left (isMeld m) _ c)) (and_right (isMeld m) _ c))
+but_call : (m : Meld) → is_call m ≡ true → is_call (but_source m) ≡ true
+but_call m e =
+    let c = true→t (is_call m) e in
+    T→true (is_call (but_source m)) (and_both (is_meld (but_source m)) _ (but_is_meld_holds m (and_left (is_meld m) _ c)) (and_right (is_meld m) _ c))
 
 -- ---- the call of a kind: its tile is the lowest, so there is only one, but for its source
-module _ (cs : List ℕ) (r k : ℕ) (low : IsLowest cs r) (m : Meld) (x : CallOf (isKind k) cs m) where
-  only : butSource m ≡ meld r k
-  only = ap₂ meld (lowest-own m cs r x.0 x.1.1 low) (eqb-true m.kind k x.1.0)
+module _ (cs : List ℕ) (r k : ℕ) (low : IsLowest cs r) (m : Meld) (x : CallOf (is_kind k) cs m) where
+  only : but_source m ≡ meld r k
+  only = ap₂ meld (lowest_own m cs r x.0 x.1.1 low) (eqb-true m.kind k x.1.0)
 
   pub no_call : (l : Meld) → l ≡ meld r k → is_call l ≡ false → ⊥
-  no_call l is e = true→T false (sym e ∙ ap is_call (is ∙ sym only) ∙ but-call m x.0)
+  no_call l is e = true→t false (sym e ∙ ap is_call (is ∙ sym only) ∙ but_call m x.0)
 
   pub not_made : (l : Meld) → l ≡ meld r k → made_of l cs ≡ false → ⊥
-  not_made l is e = true→T false (sym e ∙ ap (λ (c : Meld). made_of c cs) (is ∙ sym only) ∙ x.1.1)
+  not_made l is e = true→t false (sym e ∙ ap (λ (c : Meld). made_of c cs) (is ∙ sym only) ∙ x.1.1)
 
 -- the one that was tried is of that kind and from the left
-pub tried : (cs : List ℕ) (r k : ℕ) (l : Meld) → l ≡ meld r k → is_call l ≡ true → made_of l cs ≡ true → IsCallOf (isKind k) cs (Call l)
-tried cs r k l is call same = ((call, (ap (isKind k) is ∙ eq-eqb k k refl, same)), is ∙ sym (ap butSource is))
+pub tried : (cs : List ℕ) (r k : ℕ) (l : Meld) → l ≡ meld r k → is_call l ≡ true → made_of l cs ≡ true → IsCallOf (is_kind k) cs (Call l)
+tried cs r k l is call same = ((call, (ap (is_kind k) is ∙ eq-eqb k k refl, same)), is ∙ sym (ap but_source is))
 
 -- ---- open calls
 -- what was found by one test passes a weaker one
@@ -59,60 +59,60 @@ weaker p q g cs f m e x =
     subst (IsCallOf q cs) (sym e) ((y.0.0, (g m y.0.1.0, y.0.1.1)), y.1)
 
 -- kans, triplets and sequences that were called are open
-pub open-kind : (k : ℕ) → isOpen (meld 0 k) ≡ true → (m : Meld) → isKind k m ≡ true → isOpen m ≡ true
-open-kind k e m h = ap (λ (n : ℕ). isOpen (meld 0 n)) (eqb-true m.kind k h) ∙ e
+pub open_kind : (k : ℕ) → is_open (meld 0 k) ≡ true → (m : Meld) → is_kind k m ≡ true → is_open m ≡ true
+open_kind k e m h = ap (λ (n : ℕ). is_open (meld 0 n)) (eqb-true m.kind k h) ∙ e
 
 -- an added kan has the tiles of an open kan
-as-open-kan : (cs : List ℕ) (m : Meld) → CallOf (isKind 6) cs m → CallOf (isKind 5) cs (meld m.tile 5)
-as-open-kan cs m x =
+as_open_kan : (cs : List ℕ) (m : Meld) → CallOf (is_kind 6) cs m → CallOf (is_kind 5) cs (meld m.tile 5)
+as_open_kan cs m x =
     let e = eqb-true m.kind 6 x.1.0 in (
-      sym (ap (λ (k : ℕ). is_call (meld m.tile k)) e) ∙ but-call m x.0,
+      sym (ap (λ (k : ℕ). is_call (meld m.tile k)) e) ∙ but_call m x.0,
       (refl, sym (ap (λ (k : ℕ). made_of (meld m.tile k) cs) e) ∙ x.1.1),
     )
 
 -- no open kan, no open triplet and no open sequence: no open call
-module _ (cs : List ℕ) (five : IsCallOf (isKind 5) cs Nothing) (three : IsCallOf (isKind 3) cs Nothing) where
-  no-open : IsCallOf (isKind 1) cs Nothing → IsCallOf isOpen cs Nothing
-  no-open one m x =
-      or_elim (isKind 1 m) _ (true→T (isOpen m) x.1.0) (λ t. one m (of 1 t))
+module _ (cs : List ℕ) (five : IsCallOf (is_kind 5) cs Nothing) (three : IsCallOf (is_kind 3) cs Nothing) where
+  no_open : IsCallOf (is_kind 1) cs Nothing → IsCallOf is_open cs Nothing
+  no_open one m x =
+      or_elim (is_kind 1 m) _ (true→t (is_open m) x.1.0) (λ t. one m (of 1 t))
       (λ s.
-      or_elim (isKind 3 m) _ s (λ t. three m (of 3 t))
-      (λ s. or_elim (isKind 5 m) (isKind 6 m) s (λ t. five m (of 5 t)) (λ t. five (meld m.tile 5) (as-open-kan cs m (of 6 t)))))
+      or_elim (is_kind 3 m) _ s (λ t. three m (of 3 t))
+      (λ s. or_elim (is_kind 5 m) (is_kind 6 m) s (λ t. five m (of 5 t)) (λ t. five (meld m.tile 5) (as_open_kan cs m (of 6 t)))))
     where
-      of : (k : ℕ) → T (isKind k m) → CallOf (isKind k) cs m
-      of k t = (x.0, (T→true (isKind k m) t, x.1.1))
+      of : (k : ℕ) → T (is_kind k m) → CallOf (is_kind k) cs m
+      of k t = (x.0, (T→true (is_kind k m) t, x.1.1))
 
-  pub open-sequence : (f : Found) → IsCallOf (isKind 1) cs f → IsCallOf isOpen cs f
-  open-sequence Nothing x = no-open x
-  open-sequence (Call m) x = ((x.0.0, (open-kind 1 refl m x.0.1.0, x.0.1.1)), x.1)
+  pub open_sequence : (f : Found) → IsCallOf (is_kind 1) cs f → IsCallOf is_open cs f
+  open_sequence Nothing x = no_open x
+  open_sequence (Call m) x = ((x.0.0, (open_kind 1 refl m x.0.1.0, x.0.1.1)), x.1)
 
 -- what is asked for by its kind, or by 0
-pub asked-open : (k : ℕ) → k ≡ 0 → isAsked k ≡ isOpen
-asked-open k e = ap (λ (b : Bool). cond b isOpen (isKind k)) (eq-eqb k 0 e)
+pub asked_open : (k : ℕ) → k ≡ 0 → is_asked k ≡ is_open
+asked_open k e = ap (λ (b : Bool). cond b is_open (is_kind k)) (eq-eqb k 0 e)
 
-pub asked-kind : (k : ℕ) → (k ≡ 0 → ⊥) → isAsked k ≡ isKind k
-asked-kind k e = ap (λ (b : Bool). cond b isOpen (isKind k)) (ne_eqb k 0 e)
+pub asked_kind : (k : ℕ) → (k ≡ 0 → ⊥) → is_asked k ≡ is_kind k
+asked_kind k e = ap (λ (b : Bool). cond b is_open (is_kind k)) (ne_eqb k 0 e)
 
-module _ (cs w : List ℕ) (counted : (t : ℕ) → t < 34 → held cs t ≡ addTo (held (replicate 34 0) t) (count (eqb t) (tilesIn w))) where
+module _ (cs w : List ℕ) (counted : (t : ℕ) → t < 34 → held cs t ≡ add_to (held (replicate 34 0) t) (count (eqb t) (tiles_in w))) where
   -- the counts began at nothing
-  from_nothing : (t : ℕ) → t < 34 → held cs t ≡ addTo 0 (count (eqb t) (tilesIn w))
-  from_nothing t h = counted t h ∙ ap (λ (n : ℕ). addTo n (count (eqb t) (tilesIn w))) (get_or-replicate 34 t 0 0 h)
+  from_nothing : (t : ℕ) → t < 34 → held cs t ≡ add_to 0 (count (eqb t) (tiles_in w))
+  from_nothing t h = counted t h ∙ ap (λ (n : ℕ). add_to n (count (eqb t) (tiles_in w))) (get_or-replicate 34 t 0 0 h)
 
   -- where the word names the tiles of a meld, so few, all are counted
-  counted-made : (m : Meld) → ((t : ℕ) → t < 34 → count (eqb t) (tilesIn w) ≡ uses m t) → made_of m cs ≡ true
-  counted-made m e =
+  counted_made : (m : Meld) → ((t : ℕ) → t < 34 → count (eqb t) (tiles_in w) ≡ uses m t) → made_of m cs ≡ true
+  counted_made m e =
       T→true (made_of m cs)
-      (all-intro (λ t. eqb (held cs t) (uses m t)) tiles
+      (all_intro (λ t. eqb (held cs t) (uses m t)) tiles
       (λ t i.
-      let h = tile-lt i in
-      true→T _ (eq-eqb (held cs t) (uses m t) (from_nothing t h ∙ few-added (count (eqb t) (tilesIn w)) (uses m t) (e t h) (few m t)))))
+      let h = tile_lt i in
+      true→t _ (eq-eqb (held cs t) (uses m t) (from_nothing t h ∙ few_added (count (eqb t) (tiles_in w)) (uses m t) (e t h) (few m t)))))
 
-  tiles-in : (p : Meld → Bool) (f : Found) → IsCallOf p cs f → IsCallIn p w f
-  tiles-in p Nothing x = λ m y. x m (y.0, (y.1.0, counted-made m y.1.1))
-  tiles-in p (Call m) x = (
-    (x.0.0, (x.0.1.0, λ t h. add-few (count (eqb t) (tilesIn w)) (uses m t) (sym (from_nothing t h) ∙ made m cs x.0.1.1 t h) (few m t))),
+  tiles_in_holds : (p : Meld → Bool) (f : Found) → IsCallOf p cs f → IsCallIn p w f
+  tiles_in_holds p Nothing x = λ m y. x m (y.0, (y.1.0, counted_made m y.1.1))
+  tiles_in_holds p (Call m) x = (
+    (x.0.0, (x.0.1.0, λ t h. add_few (count (eqb t) (tiles_in w)) (uses m t) (sym (from_nothing t h) ∙ made m cs x.0.1.1 t h) (few m t))),
     x.1,
   )
 
-  pub call-in : (p q : Meld → Bool) → q ≡ p → (f : Found) → IsCallOf p cs f → IsCallIn q w f
-  call-in p q e f x = subst (λ (r : Meld → Bool). IsCallIn r w f) (sym e) (tiles-in p f x)
+  pub call_in : (p q : Meld → Bool) → q ≡ p → (f : Found) → IsCallOf p cs f → IsCallIn q w f
+  call_in p q e f x = subst (λ (r : Meld → Bool). IsCallIn r w f) (sym e) (tiles_in_holds p f x)

@@ -7,12 +7,12 @@ use native.Mathlib.Decide.{ℕ_discrete}
 use native.Mathlib.Omega.{arith}
 use lib.Dec.{eqb, ltb, eqb→eq}
 use borrow.Author.Tests.{eq-eqb, ne_eqb, ltb-true, ltb-false}
-use Rattle.lists.proofs.Finite.{true→T, and_left}
+use Rattle.lists.proofs.Finite.{true→t, and_left}
 use Rattle.meld.specs.declared.Meld.{Meld}
-use Rattle.meld.specs.Meld.{isSequence, isKan, isMeld, is_call, runUses, setSize, uses}
-use Rattle.meld.proofs.Melds.{meld-tile}
+use Rattle.meld.specs.Meld.{is_sequence, is_kan, is_meld, is_call, run_uses, set_size, uses}
+use Rattle.meld.proofs.Melds.{meld_tile}
 use Rattle.hand.specs.Counts.{held}
-use Rattle.hand.proofs.Lowest.{run_in, run-before}
+use Rattle.hand.proofs.Lowest.{run_in, run_before}
 use Rattle.checks.proofs.Turns.{test_at}
 use Rattle.call_words.specs.Calls.{made_of, IsLowest}
 
@@ -28,54 +28,54 @@ clear_next cs u z f t h = go (ℕ_discrete t u)
     go (no n) = f t (omega arith)
 
 -- ---- a meld holds its own tile, and none below
-own-tile : (m : Meld) → 0 < uses m m.tile
-own-tile m = go (isSequence m)
+own_tile : (m : Meld) → 0 < uses m m.tile
+own_tile m = go (is_sequence m)
   where
-    size : (kan : Bool) → 0 < setSize kan
+    size : (kan : Bool) → 0 < set_size kan
     size true = omega arith
     size false = omega arith
 
-    go : (b : Bool) → 0 < cond b (runUses m.tile m.tile) (cond (eqb m.tile m.tile) (setSize (isKan m)) 0)
+    go : (b : Bool) → 0 < cond b (run_uses m.tile m.tile) (cond (eqb m.tile m.tile) (set_size (is_kan m)) 0)
     go true = let h = run_in m.tile m.tile (omega arith) (omega arith) in omega arith
-    go false = rw (eq-eqb m.tile m.tile refl) (size (isKan m))
+    go false = rw (eq-eqb m.tile m.tile refl) (size (is_kan m))
 
 none_below : (m : Meld) (t : ℕ) → t < m.tile → uses m t ≡ 0
-none_below m t h = go (isSequence m)
+none_below m t h = go (is_sequence m)
   where
-    go : (b : Bool) → cond b (runUses m.tile t) (cond (eqb t m.tile) (setSize (isKan m)) 0) ≡ 0
-    go true = run-before m.tile t h
+    go : (b : Bool) → cond b (run_uses m.tile t) (cond (eqb t m.tile) (set_size (is_kan m)) 0) ≡ 0
+    go true = run_before m.tile t h
     go false = rw (ne_eqb t m.tile (λ e. omega arith)) refl
 
 -- ---- the counts are those of the meld
 pub made : (m : Meld) (cs : List ℕ) → made_of m cs ≡ true → (t : ℕ) → t < 34 → held cs t ≡ uses m t
 made m cs e t h =
-    eqb→eq (held cs t) (uses m t) (test_at (λ u. eqb (held cs u) (uses m u)) 34 0 (true→T (made_of m cs) e) t (omega arith) (omega arith))
+    eqb→eq (held cs t) (uses m t) (test_at (λ u. eqb (held cs u) (uses m u)) 34 0 (true→t (made_of m cs) e) t (omega arith) (omega arith))
 
 module _ (m : Meld) (cs : List ℕ) (r : ℕ) (call : is_call m ≡ true) (same : made_of m cs ≡ true) (low : IsLowest cs r) where
-  in-tiles : m.tile < 34
-  in-tiles = meld-tile m (and_left (isMeld m) _ (true→T (is_call m) call))
+  in_tiles : m.tile < 34
+  in_tiles = meld_tile m (and_left (is_meld m) _ (true→t (is_call m) call))
 
   -- its tile is there, so the lowest is not above it
-  not-above : m.tile < r → ⊥
-  not-above h =
-      let a = own-tile m in
-      let b = made m cs same m.tile in-tiles in
+  not_above : m.tile < r → ⊥
+  not_above h =
+      let a = own_tile m in
+      let b = made m cs same m.tile in_tiles in
       let z = low.below m.tile h in
       omega arith
 
   -- none below its tile is there
-  not-below : r < m.tile → ⊥
-  not-below h =
-      let t = in-tiles in
+  not_below : r < m.tile → ⊥
+  not_below h =
+      let t = in_tiles in
       let a = none_below m r h in
       let b = made m cs same r (omega arith) in
       let z = low.there (omega arith) in
       omega arith
 
-  pub lowest-own : m.tile ≡ r
-  lowest-own = go (ltb m.tile r) (ltb r m.tile) (ltb-true m.tile r) (ltb-false m.tile r) (ltb-true r m.tile) (ltb-false r m.tile)
+  pub lowest_own : m.tile ≡ r
+  lowest_own = go (ltb m.tile r) (ltb r m.tile) (ltb-true m.tile r) (ltb-false m.tile r) (ltb-true r m.tile) (ltb-false r m.tile)
     where
       go : (a b : Bool) → (a ≡ true → m.tile < r) → (a ≡ false → r ≤ m.tile) → (b ≡ true → r < m.tile) → (b ≡ false → m.tile ≤ r) → m.tile ≡ r
-      go true b f g h k = absurd (not-above (f refl))
-      go false true f g h k = absurd (not-below (h refl))
+      go true b f g h k = absurd (not_above (f refl))
+      go false true f g h k = absurd (not_below (h refl))
       go false false f g h k = let x = g refl in let y = k refl in omega arith

@@ -3,10 +3,10 @@ use Rattle.std.specs.Prelude.{◌≡◌, Bool, true, ◌||◌, cond, List, ℕ, 
 use Rattle.lists.specs.Fold.{all, count}
 use Rattle.tile.specs.Tile.{tiles}
 use Rattle.meld.specs.declared.Meld.{Meld}
-use Rattle.meld.specs.Meld.{is_call, isOpen, isSourced, fromSeat, meld, butSource, uses}
+use Rattle.meld.specs.Meld.{is_call, is_open, is_sourced, from_seat, meld, but_source, uses}
 use Rattle.hand.specs.Counts.{held}
 use Rattle.checks.specs.declared.Calls.{Calls}
-use Rattle.tile_words.specs.Words.{tilesIn}
+use Rattle.tile_words.specs.Words.{tiles_in}
 use Rattle.call_words.specs.declared.Found.{Found}
 use Rattle.call_words.specs.declared.Found.TheVariants.{Nothing, Call}
 
@@ -15,11 +15,11 @@ abbrev pub made_of : Meld → List ℕ → Bool
 made_of m cs = all (λ t. eqb (held cs t) (uses m t)) tiles
 
 -- the meld is of the kind asked for; 0 asks for any open one
-abbrev pub isKind : ℕ → Meld → Bool
-isKind k m = eqb m.kind k
+abbrev pub is_kind : ℕ → Meld → Bool
+is_kind k m = eqb m.kind k
 
-abbrev pub isAsked : ℕ → Meld → Bool
-isAsked k = cond (eqb k 0) isOpen (isKind k)
+abbrev pub is_asked : ℕ → Meld → Bool
+is_asked k = cond (eqb k 0) is_open (is_kind k)
 
 -- the lowest tile that is there; 34 where there is none
 pub record IsLowest (cs : List ℕ) (r : ℕ) : Type 0 where
@@ -29,7 +29,7 @@ pub record IsLowest (cs : List ℕ) (r : ℕ) : Type 0 where
 
 -- a call as it is taken where nothing says whom it came from: an open one from the left, from where each kind of them can come
 abbrev pub IsFromLeft : Meld → Type 0
-IsFromLeft m = m ≡ butSource m
+IsFromLeft m = m ≡ but_source m
 
 -- a call that passes the test p, and has exactly the tiles of the counts
 abbrev pub CallOf : (Meld → Bool) → List ℕ → Meld → Type 0
@@ -42,7 +42,7 @@ IsCallOf p cs (Call m) = CallOf p cs m × IsFromLeft m
 
 -- a call that passes the test p, and has exactly the tiles that the word names
 abbrev pub CallIn : (Meld → Bool) → List ℕ → Meld → Type 0
-CallIn p w m = (is_call m ≡ true) × ((p m ≡ true) × ((t : ℕ) → t < 34 → count (eqb t) (tilesIn w) ≡ uses m t))
+CallIn p w m = (is_call m ≡ true) × ((p m ≡ true) × ((t : ℕ) → t < 34 → count (eqb t) (tiles_in w) ≡ uses m t))
 
 -- what is found is such a call, from the left; where nothing is found, there is none, whomever it came from
 abbrev pub IsCallIn : (Meld → Bool) → List ℕ → Found → Type 0
@@ -50,17 +50,17 @@ IsCallIn p w Nothing = (m : Meld) → CallIn p w m → ⊥
 IsCallIn p w (Call m) = CallIn p w m × IsFromLeft m
 
 -- one call more: each is counted, up to 1,000, and the first four are kept
-abbrev pub withCall : Calls → Meld → Calls
-withCall k m = record { count = min (k.count + 1) 1000; melds = set k.melds k.count m }
+abbrev pub with_call : Calls → Meld → Calls
+with_call k m = record { count = min (k.count + 1) 1000; melds = set k.melds k.count m }
 
 -- the last of the calls; a closed sequence, which is no call, where it was not kept
-abbrev pub lastCall : Calls → Meld
-lastCall k = get_or k.melds (k.count - 1) (meld 0 0)
+abbrev pub last_call : Calls → Meld
+last_call k = get_or k.melds (k.count - 1) (meld 0 0)
 
 -- the last of the calls came from the seat s; the others stay, and so does their count. Where it was not kept nothing changes
-abbrev pub withSource : ℕ → Calls → Calls
-withSource s k = record { count = k.count; melds = set k.melds (k.count - 1) (fromSeat s (lastCall k)) }
+abbrev pub with_source : ℕ → Calls → Calls
+with_source s k = record { count = k.count; melds = set k.melds (k.count - 1) (from_seat s (last_call k)) }
 
 -- can the last of the calls come from the seat s? Of more than four it is not asked
-abbrev pub canComeFrom : ℕ → Calls → Bool
-canComeFrom s k = ltb 4 k.count || isSourced (fromSeat s (lastCall k))
+abbrev pub can_come_from : ℕ → Calls → Bool
+can_come_from s k = ltb 4 k.count || is_sourced (from_seat s (last_call k))

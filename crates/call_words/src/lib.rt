@@ -1,7 +1,7 @@
 // Calls from words of tiles.
 ghost use Rattle.std.specs.Prelude.{◌≡◌, ◌+◌, ◌-◌, min, get_or, set};
-ghost use Rattle.meld.specs.Meld.{isOpen, meld};
-ghost use Rattle.call_words.specs.Calls.{made_of, isKind, isAsked, IsLowest, IsCallOf, IsCallIn, withCall, withSource, canComeFrom};
+ghost use Rattle.meld.specs.Meld.{is_open, meld};
+ghost use Rattle.call_words.specs.Calls.{made_of, is_kind, is_asked, IsLowest, IsCallOf, IsCallIn, with_call, with_source, can_come_from};
 
 // A call that was looked for.
 #[derive(Drop)]
@@ -39,7 +39,7 @@ fn is_made_of(m: meld::Meld, counts: &[u8; 34]) -> bool
 
 // The call of a kind that has exactly these tiles, from the left; nothing where there is none.
 fn call_of(counts: &[u8; 34], kind: u8) -> Found
-    ensures { IsCallOf (isKind kind) counts.now result }
+    ensures { IsCallOf (is_kind kind) counts.now result }
 {
     let m = meld::Meld::from_left(lowest(counts), kind);
     if !m.is_call() {
@@ -53,7 +53,7 @@ fn call_of(counts: &[u8; 34], kind: u8) -> Found
 
 // The open call that has exactly these tiles, from the left: a kan, a triplet or a sequence; nothing where there is none.
 fn open_call_of(counts: &[u8; 34]) -> Found
-    ensures { IsCallOf isOpen counts.now result }
+    ensures { IsCallOf is_open counts.now result }
 {
     let kan = call_of(counts, 5);
     if let Found::Call(_) = kan {
@@ -68,7 +68,7 @@ fn open_call_of(counts: &[u8; 34]) -> Found
 
 // The call that has exactly the tiles of a word, from the left: of a kind, or any open one where the kind is 0. Nothing where there is none.
 pub fn call_in(word: &[u8], kind: u8) -> Found
-    ensures { IsCallIn (isAsked kind) word.now result }
+    ensures { IsCallIn (is_asked kind) word.now result }
 {
     let mut counts = [0u8; 34];
     tile_words::add_tiles(&mut counts, word);
@@ -98,7 +98,7 @@ fn kept(melds: [meld::Meld; 4], count: usize, m: meld::Meld) -> [meld::Meld; 4]
 
 // The calls with one more. Each is counted; four are kept.
 pub fn with_call(k: checks::Calls, m: meld::Meld) -> checks::Calls
-    ensures { result ≡ withCall k m }
+    ensures { result ≡ with_call k m }
 {
     let count = k.count;
     let melds = k.melds;
@@ -136,7 +136,7 @@ fn at_place(melds: [meld::Meld; 4], i: usize) -> meld::Meld
 
 // Can the last of the calls come from a seat? Of more than four it is not asked.
 pub fn can_come_from(k: checks::Calls, source: u8) -> bool
-    ensures { result ≡ canComeFrom source k }
+    ensures { result ≡ can_come_from source k }
 {
     let melds = k.melds;
     let count = k.count;
@@ -146,7 +146,7 @@ pub fn can_come_from(k: checks::Calls, source: u8) -> bool
 
 // The calls, the last of them from a seat. Where it was not kept nothing changes.
 pub fn with_source(k: checks::Calls, source: u8) -> checks::Calls
-    ensures { result ≡ withSource source k }
+    ensures { result ≡ with_source source k }
 {
     let melds = k.melds;
     let count = k.count;

@@ -12,12 +12,12 @@ use Rattle.lists.proofs.Finite.{and_left, and_right}
 use Rattle.checks.specs.Checks.{check}
 
 -- n is the answer to one check, which asks A, and to those after it, which are made where it passes and say R
-pub next-check :
+pub next_check :
     (b : Bool) (m next : ℕ) {n : ℕ} {A R : Type 0} → n ≡ check b m next → (b ≡ true → A) → (b ≡ false → A → ⊥) → (A → n ≡ next → R)
     → (A × R) ⊎ ((A → ⊥) × (n ≡ m))
 unfolding check
-next-check true m next e f g r = inl (f refl, r (f refl) e)
-next-check false m next e f g r = inr (g refl, e)
+next_check true m next e f g r = inl (f refl, r (f refl) e)
+next_check false m next e f g r = inr (g refl, e)
 
 -- each refuses with a number above 0
 abbrev pub numbered : List Check → Bool
@@ -48,20 +48,20 @@ passed_on [] ys n a b = b
 passed_on (c ∷ xs) ys n a b = inl (a.0, passed_on xs ys n a.1 b)
 
 -- one refuses, whatever follows
-refused-at : (xs ys : List Check) (n : ℕ) → (n ≡ 0 → ⊥) → Answers xs n → Answers (xs ++ ys) n
-refused-at [] ys n z a = absurd (z a)
-refused-at (c ∷ xs) ys n z (inl a) = inl (a.0, refused-at xs ys n z a.1)
-refused-at (c ∷ xs) ys n z (inr a) = inr a
+refused_at : (xs ys : List Check) (n : ℕ) → (n ≡ 0 → ⊥) → Answers xs n → Answers (xs ++ ys) n
+refused_at [] ys n z a = absurd (z a)
+refused_at (c ∷ xs) ys n z (inl a) = inl (a.0, refused_at xs ys n z a.1)
+refused_at (c ∷ xs) ys n z (inr a) = inr a
 
 -- f is the answer to the first checks; n is f where one of them refuses, and else the answer to those that follow
-pub then-checks :
+pub then_checks :
     (xs ys : List Check) → T (numbered xs) → (f n : ℕ) → Answers xs f → ((f ≡ 0 → ⊥) → n ≡ f) → (f ≡ 0 → Answers ys n)
     → Answers (xs ++ ys) n
-then-checks xs ys h f n a g l = go (ℕ_discrete f 0)
+then_checks xs ys h f n a g l = go (ℕ_discrete f 0)
   where
     go : Dec (f ≡ 0) → Answers (xs ++ ys) n
     go (yes z) = passed_on xs ys n (all_pass xs h (subst (Answers xs) z a)) (l z)
-    go (no z) = subst (Answers (xs ++ ys)) (sym (g z)) (refused-at xs ys f z a)
+    go (no z) = subst (Answers (xs ++ ys)) (sym (g z)) (refused_at xs ys f z a)
 
 -- one answer only
 same_answer : (xs : List Check) (n m : ℕ) → Answers xs n → Answers xs m → n ≡ m

@@ -3,9 +3,9 @@ ghost use Rattle.std.specs.Prelude.{◌≡◌, true, ◌||◌, cond, ℕ, ◌+�
 ghost use Rattle.lists.specs.Fold.{all};
 ghost use Rattle.tile.specs.Tile.{tiles};
 ghost use Rattle.rules.specs.Rules.{game, most};
-ghost use Rattle.meld.specs.Meld.{is_call, isMeld, uses};
+ghost use Rattle.meld.specs.Meld.{is_call, is_meld, uses};
 ghost use Rattle.hand.specs.Counts.{held, AtMostFour};
-ghost use Rattle.checks.specs.Checks.{called, together, inWall, isPlayed, isCallIn, handCheckIn};
+ghost use Rattle.checks.specs.Checks.{called, together, in_wall, is_played, is_call_in, hand_check_in};
 
 // The calls: how many there are, and the first four of them. With fewer than four the rest mean nothing; more than four are refused.
 #[repr(C)]
@@ -18,7 +18,7 @@ pub struct Calls {
 // Are all tiles of the meld in the wall: its lowest, and of a sequence the two after it?
 fn is_in_wall(m: meld::Meld, v: rules::Variant) -> bool
     requires { m.tile < 34 }
-    ensures { result ≡ inWall (game v) m }
+    ensures { result ≡ in_wall (game v) m }
 {
     v.in_wall(m.tile) & (!m.is_sequence() | (v.in_wall(m.tile + 1) & v.in_wall(m.tile + 2)))
 }
@@ -26,14 +26,14 @@ fn is_in_wall(m: meld::Meld, v: rules::Variant) -> bool
 // Can the meld be called in this game?
 fn is_played(m: meld::Meld, v: rules::Variant) -> bool
     requires { m.tile < 34 }
-    ensures { result ≡ isPlayed (game v) m }
+    ensures { result ≡ is_played (game v) m }
 {
     (v.allows_chi() | !m.is_sequence()) & (((m.source as u64) < v.players()) & is_in_wall(m, v))
 }
 
 // Is it a meld that is called, and can be called in this game? With four players each that is called can be.
 fn is_call_in(m: meld::Meld, v: rules::Variant) -> bool
-    ensures { result ≡ isCallIn (game v) m }
+    ensures { result ≡ is_call_in (game v) m }
 {
     if !m.is_call() {
         return false;
@@ -47,7 +47,7 @@ fn is_call_in(m: meld::Meld, v: rules::Variant) -> bool
 // Is each call one that can be called?
 fn are_calls(k: Calls, v: rules::Variant) -> bool
     requires { k.count ≤ 4 }
-    ensures { result ≡ all (isCallIn (game v)) (called k) }
+    ensures { result ≡ all (is_call_in (game v)) (called k) }
 {
     let melds = k.melds;
     let count = k.count;
@@ -112,7 +112,7 @@ fn add(counts: &mut [u8; 34], t: usize, n: u8)
 
 // Adds the tiles of a meld to the counts.
 fn add_meld(counts: &mut [u8; 34], m: meld::Meld)
-    requires { (isMeld m ≡ true) × ((length counts.old ≡ 34) × ((t : ℕ) → held counts.old t ≤ 16)) }
+    requires { (is_meld m ≡ true) × ((length counts.old ≡ 34) × ((t : ℕ) → held counts.old t ≤ 16)) }
     ensures { (length counts.new ≡ 34) × ((t : ℕ) → held counts.new t ≡ held counts.old t + uses m t) }
 {
     let t = m.tile as usize;
@@ -174,7 +174,7 @@ fn together_at_most_four(counts: &[u8], k: Calls) -> bool
 
 // The number of the first check that fails, or 0.
 pub fn check_hand(counts: &[u8], k: Calls, v: rules::Variant) -> u8
-    ensures { result ≡ handCheckIn (game v) counts.now k }
+    ensures { result ≡ hand_check_in (game v) counts.now k }
 {
     if counts.len() != 34 {
         return 1;

@@ -11,33 +11,33 @@ use native.Mathlib.Nat.{add-zero}
 use lib.Dec.{eqb, eqb-suc-zero}
 use borrow.Author.Tests.{eqb-true, eqb-false}
 use Rattle.reading_score.specs.declared.ScoringResult.{ScoringResult}
-use Rattle.choice.specs.Choice.{greatest, none, chosen, first, chooseBy}
+use Rattle.choice.specs.Choice.{greatest, none, chosen, first, choose_by}
 use Rattle.choice.specs.Standing.{StandsAt}
-use Rattle.choice.proofs.Standing.{stands-mem}
+use Rattle.choice.proofs.Standing.{stands_mem}
 
 -- ---- the greatest of a list
-pub greatest-perm : {l m : List ℕ} → Permᴰ l m → greatest l ≡ greatest m
-greatest-perm Permᴰ.nil = refl
-greatest-perm (Permᴰ.cons e d) = ap₂ max e (greatest-perm d)
-greatest-perm (Permᴰ.swap {a = a} {b = b} {l = l} e f) = swap a b (greatest l) ∙ ap₂ (λ (x y : ℕ). max x (max y (greatest l))) f e
+pub greatest_perm : {l m : List ℕ} → Permᴰ l m → greatest l ≡ greatest m
+greatest_perm Permᴰ.nil = refl
+greatest_perm (Permᴰ.cons e d) = ap₂ max e (greatest_perm d)
+greatest_perm (Permᴰ.swap {a = a} {b = b} {l = l} e f) = swap a b (greatest l) ∙ ap₂ (λ (x y : ℕ). max x (max y (greatest l))) f e
   where
     swap : (a b c : ℕ) → max a (max b c) ≡ max b (max a c)
     swap a b c = omega arith
-greatest-perm (Permᴰ.trans d e) = greatest-perm d ∙ greatest-perm e
+greatest_perm (Permᴰ.trans d e) = greatest_perm d ∙ greatest_perm e
 
 -- a greatest number above 0 is a member
-greatest-mem : (l : List ℕ) → 0 < greatest l → Memᴰ (greatest l) l
-greatest-mem [] h = absurd (omega arith)
-greatest-mem (n ∷ l) h = go (greatest-mem l) (dec_le (greatest l) n)
+greatest_mem : (l : List ℕ) → 0 < greatest l → Memᴰ (greatest l) l
+greatest_mem [] h = absurd (omega arith)
+greatest_mem (n ∷ l) h = go (greatest_mem l) (dec_le (greatest l) n)
   where
     go : (0 < greatest l → Memᴰ (greatest l) l) → Dec (greatest l ≤ n) → Memᴰ (max n (greatest l)) (n ∷ l)
     go r (yes le) = let e : max n (greatest l) ≡ n = omega arith in Memᴰ.head e
     go r (no le) = subst (λ (x : ℕ). Memᴰ x (n ∷ l)) (omega arith) (Memᴰ.tail {x = n} (r (omega arith)))
 
 -- no score has a greater rank
-pub greatest-most : (f : ScoringResult → ℕ) (xs : List ScoringResult) (x : ScoringResult) → Memᴰ x xs → f x ≤ greatest (map f xs)
-greatest-most f [] x i = absurd (Memᴰ.not-nil i)
-greatest-most f (y ∷ ys) x i = go (greatest-most f ys x) (Memᴰ.cases_cons i)
+pub greatest_most : (f : ScoringResult → ℕ) (xs : List ScoringResult) (x : ScoringResult) → Memᴰ x xs → f x ≤ greatest (map f xs)
+greatest_most f [] x i = absurd (Memᴰ.not-nil i)
+greatest_most f (y ∷ ys) x i = go (greatest_most f ys x) (Memᴰ.cases_cons i)
   where
     go : (Memᴰ x ys → f x ≤ greatest (map f ys)) → (x ≡ y) ⊎ Memᴰ x ys → f x ≤ max (f y) (greatest (map f ys))
     go r (inl e) = let h = ap f e in omega arith
@@ -63,9 +63,9 @@ found_here f i x xs b e =
       before = λ j y l s q. absurd (omega arith);
     }
 
-found-later :
+found_later :
     (f : ScoringResult → ℕ) (b i : ℕ) (x : ScoringResult) (xs : List ScoringResult) → eqb (f x) b ≡ false → Found f b (suc i) xs → Found f b i (x ∷ xs)
-found-later f b i x xs e r =
+found_later f b i x xs e r =
     record {
       place = suc r.place;
       score = r.score;
@@ -86,55 +86,55 @@ first_found f b i (x ∷ xs) m = go (eqb (f x) b) refl (first_found f b (suc i) 
     go : (t : Bool) → eqb (f x) b ≡ t → (Memᴰ b (map f xs) → Found f b (suc i) xs) → (b ≡ f x) ⊎ Memᴰ b (map f xs) → Found f b i (x ∷ xs)
     go true e r k = found_here f i x xs b e
     go false e r (inl q) = absurd (eqb-false (f x) b e (sym q))
-    go false e r (inr j) = found-later f b i x xs e (r j)
+    go false e r (inr j) = found_later f b i x xs e (r j)
 
 -- ---- the choice
 -- where no score has a rank above 0, none is chosen; else a score of the greatest rank, which stands at the number answered
 pub data ChosenOrNone (f : ScoringResult → ℕ) (xs : List ScoringResult) : Type 0 where
-  none-there : greatest (map f xs) ≡ 0 → chooseBy f xs ≡ none → ChosenOrNone f xs
-  one-there :
-      (i : ℕ) (x : ScoringResult) → chooseBy f xs ≡ chosen i x → Memᴰ x xs → f x ≡ greatest (map f xs) → 0 < f x → StandsAt x i xs
+  none_there : greatest (map f xs) ≡ 0 → choose_by f xs ≡ none → ChosenOrNone f xs
+  one_there :
+      (i : ℕ) (x : ScoringResult) → choose_by f xs ≡ chosen i x → Memᴰ x xs → f x ≡ greatest (map f xs) → 0 < f x → StandsAt x i xs
       → ChosenOrNone f xs
 
 module _ (f : ScoringResult → ℕ) (xs : List ScoringResult) where
-  none-chosen : greatest (map f xs) ≡ 0 → chooseBy f xs ≡ none
-  unfolding chooseBy
-  none-chosen e = rw e
+  none_chosen : greatest (map f xs) ≡ 0 → choose_by f xs ≡ none
+  unfolding choose_by
+  none_chosen e = rw e
 
   -- where the greatest rank is above 0, the first score of this rank
-  the-first : (b : ℕ) → greatest (map f xs) ≡ suc b → Found f (suc b) 0 xs
-  the-first b e = first_found f (suc b) 0 xs (subst (λ (n : ℕ). Memᴰ n (map f xs)) e (greatest-mem (map f xs) (omega arith)))
+  the_first : (b : ℕ) → greatest (map f xs) ≡ suc b → Found f (suc b) 0 xs
+  the_first b e = first_found f (suc b) 0 xs (subst (λ (n : ℕ). Memᴰ n (map f xs)) e (greatest_mem (map f xs) (omega arith)))
 
-  one-chosen : (b : ℕ) → greatest (map f xs) ≡ suc b → (r : Found f (suc b) 0 xs) → chooseBy f xs ≡ chosen r.place r.score
-  unfolding chooseBy
-  one-chosen b e r = rw (e, eqb-suc-zero b) (r.is ∙ ap (λ (n : ℕ). chosen n r.score) (omega arith))
+  one_chosen : (b : ℕ) → greatest (map f xs) ≡ suc b → (r : Found f (suc b) 0 xs) → choose_by f xs ≡ chosen r.place r.score
+  unfolding choose_by
+  one_chosen b e r = rw (e, eqb-suc-zero b) (r.is ∙ ap (λ (n : ℕ). chosen n r.score) (omega arith))
 
-  pub chosen-or-none : ChosenOrNone f xs
-  chosen-or-none = go (greatest (map f xs)) refl
+  pub chosen_or_none : ChosenOrNone f xs
+  chosen_or_none = go (greatest (map f xs)) refl
     where
       one : (b : ℕ) → greatest (map f xs) ≡ suc b → Found f (suc b) 0 xs → ChosenOrNone f xs
       one b e r =
-          one-there r.place r.score (one-chosen b e r) (stands-mem r.score r.place xs r.stands) (r.rank ∙ sym e)
+          one_there r.place r.score (one_chosen b e r) (stands_mem r.score r.place xs r.stands) (r.rank ∙ sym e)
           (let h = r.rank in omega arith) r.stands
 
       go : (b : ℕ) → greatest (map f xs) ≡ b → ChosenOrNone f xs
-      go zero e = none-there e (none-chosen e)
-      go (suc b) e = one b e (the-first b e)
+      go zero e = none_there e (none_chosen e)
+      go (suc b) e = one b e (the_first b e)
 
   -- the earliest: each score before the number answered has a smaller rank
-  pub chosen-first :
-      (i : ℕ) (x : ScoringResult) → chooseBy f xs ≡ chosen i x → (j : ℕ) (y : ScoringResult) → j < i → StandsAt y j xs → f y < f x
-  chosen-first i x c j y l s = go (greatest (map f xs)) refl
+  pub chosen_first :
+      (i : ℕ) (x : ScoringResult) → choose_by f xs ≡ chosen i x → (j : ℕ) (y : ScoringResult) → j < i → StandsAt y j xs → f y < f x
+  chosen_first i x c j y l s = go (greatest (map f xs)) refl
     where
-      one : (b : ℕ) → greatest (map f xs) ≡ suc b → (r : Found f (suc b) 0 xs) → chooseBy f xs ≡ chosen r.place r.score → f y < f x
+      one : (b : ℕ) → greatest (map f xs) ≡ suc b → (r : Found f (suc b) 0 xs) → choose_by f xs ≡ chosen r.place r.score → f y < f x
       one b e r d =
           let k : i ≡ r.place = cc in
           let q : x ≡ r.score = cc in
           let h = ap f q ∙ r.rank in
-          let m = greatest-most f xs y (stands-mem y j xs s) in
+          let m = greatest_most f xs y (stands_mem y j xs s) in
           let n : f y ≡ suc b → ⊥ = r.before j y (omega arith) s in
           omega arith
 
       go : (b : ℕ) → greatest (map f xs) ≡ b → f y < f x
-      go zero e = absurd (let d = none-chosen e in let z : ◌≡◌ {A = ℕ} 0 1 = cc in omega arith)
-      go (suc b) e = let r = the-first b e in one b e r (one-chosen b e r)
+      go zero e = absurd (let d = none_chosen e in let z : ◌≡◌ {A = ℕ} 0 1 = cc in omega arith)
+      go (suc b) e = let r = the_first b e in one b e r (one_chosen b e r)

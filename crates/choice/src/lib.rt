@@ -2,8 +2,8 @@
 ghost use Rattle.std.specs.Prelude.{◌≡◌, map, ◌≤◌};
 ghost use Rattle.rules.specs.Rules.{game};
 ghost use Rattle.dora.specs.Dora.{AtMostForty};
-ghost use Rattle.records.specs.Buffer.{readingsIn};
-ghost use Rattle.reading_score.specs.Score.{scoreOf};
+ghost use Rattle.records.specs.Buffer.{readings_in};
+ghost use Rattle.reading_score.specs.Score.{score_of};
 ghost use Rattle.choice.specs.Choice.{refused, scored, choice};
 
 // The answer to a scored win or reading: number 0, the number of the reading and its score; or a refusal's number alone.
@@ -56,7 +56,7 @@ pub fn choose(
     v: rules::Variant,
 ) -> ScoreAnswer
     requires { (n ≤ 3000) × AtMostForty d }
-    ensures { result ≡ choice (game v).players (map (scoreOf w opened s d) (readingsIn b.now n 0)) }
+    ensures { result ≡ choice (game v).players (map (score_of w opened s d) (readings_in b.now n 0)) }
 {
     if n == 0 {
         return refused(10);

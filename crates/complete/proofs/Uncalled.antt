@@ -6,14 +6,14 @@ use Rattle.meld.specs.declared.Meld.{Meld}
 use Rattle.meld.specs.Meld.{sorted}
 use Rattle.hand.specs.Reading.{Reading, standard}
 use Rattle.hand.specs.Readings.{readings}
-use Rattle.complete.proofs.Listed.{Listed, as-pairs, as-orphans, as-standard, listed}
+use Rattle.complete.proofs.Listed.{Listed, as_pairs, as_orphans, as_standard, listed}
 
-pub called-standard :
+pub called_standard :
     (c : ℕ → ℕ) (k : List Meld) → (k ≡ [] → ⊥) → (r : Reading) → Memᴰ r (readings c k)
     → (p : ℕ) × (ms : List Meld) × (r ≡ standard p ms)
-called-standard c k called r i = go (listed c k i)
+called_standard c k called r i = go (listed c k i)
   where
     go : Listed c k r → (p : ℕ) × (ms : List Meld) × (r ≡ standard p ms)
-    go (as-pairs u s e) = absurd (called u)
-    go (as-orphans u p j s e) = absurd (called u)
-    go (as-standard p j two l f e) = (p, sorted (k ++ l), e)
+    go (as_pairs u s e) = absurd (called u)
+    go (as_orphans u p j s e) = absurd (called u)
+    go (as_standard p j two l f e) = (p, sorted (k ++ l), e)

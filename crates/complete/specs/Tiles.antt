@@ -2,16 +2,16 @@
 use Rattle.std.specs.Prelude.{Bool, ◌||◌, ℕ, ◌<◌, ◌≤◌, T, eqb, leb}
 use mathlib.Core.List.{List, Memᴰ}
 use Rattle.lists.specs.Fold.{any}
-use Rattle.tile.specs.Tile.{isTerminalOrHonor}
+use Rattle.tile.specs.Tile.{is_terminal_or_honor}
 use Rattle.meld.specs.declared.Meld.{Meld}
 use Rattle.meld.specs.Meld.{uses}
 use Rattle.hand.specs.Reading.{Reading, pairs, orphans, standard}
 
 -- the tile t is in the reading, calls counted
-abbrev pub inReading : Reading → ℕ → Bool
-inReading (pairs ps) t = any (eqb t) ps
-inReading (orphans p) t = isTerminalOrHonor t || eqb t p
-inReading (standard p ms) t = eqb t p || any (λ m. leb 1 (uses m t)) ms
+abbrev pub in_reading : Reading → ℕ → Bool
+in_reading (pairs ps) t = any (eqb t) ps
+in_reading (orphans p) t = is_terminal_or_honor t || eqb t p
+in_reading (standard p ms) t = eqb t p || any (λ m. leb 1 (uses m t)) ms
 
 -- each tile of the hand is allowed
 abbrev pub HandAllowed : (ℕ → Bool) → (ℕ → ℕ) → Type 0

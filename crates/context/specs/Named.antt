@@ -8,29 +8,29 @@ use Rattle.context.specs.declared.GameContext.{GameContext}
 use Rattle.context.specs.Context.{indicating}
 
 -- how it was won
-abbrev pub byRon : ℕ
-byRon = 0
+abbrev pub by_ron : ℕ
+by_ron = 0
 
-abbrev pub byTsumo : ℕ
-byTsumo = 1
+abbrev pub by_tsumo : ℕ
+by_tsumo = 1
 
 -- the flags of a win
 pub data Flag : Type 0 where
   riichi doubleRiichi ippatsu rinshan chankan lastTile tenhou chiihou : Flag
 
-abbrev flagNumber : Flag → ℕ
-flagNumber riichi = 0
-flagNumber doubleRiichi = 1
-flagNumber ippatsu = 2
-flagNumber rinshan = 3
-flagNumber chankan = 4
-flagNumber lastTile = 5
-flagNumber tenhou = 6
-flagNumber chiihou = 7
+abbrev flag_number : Flag → ℕ
+flag_number riichi = 0
+flag_number doubleRiichi = 1
+flag_number ippatsu = 2
+flag_number rinshan = 3
+flag_number chankan = 4
+flag_number lastTile = 5
+flag_number tenhou = 6
+flag_number chiihou = 7
 
 -- is the flag among these
 abbrev pub flagged : List Flag → Flag → Bool
-flagged fs f = any (λ g. eqb (flagNumber f) (flagNumber g)) fs
+flagged fs f = any (λ g. eqb (flag_number f) (flag_number g)) fs
 
 -- these tiles as indicators, and man 1 in the places behind them
 abbrev pub indicators : List ℕ → Indicators
@@ -62,18 +62,18 @@ abbrev pub showing : List ℕ → List ℕ → GameContext → GameContext
 showing ts us w = indicating (indicators ts) (indicators us) w
 
 -- a win with flags of the seat South in the round East, and of the dealer there
-abbrev pub southWins : ℕ → ℕ → List Flag → GameContext
-southWins winType t fs = win winType t East South fs
+abbrev pub south_wins : ℕ → ℕ → List Flag → GameContext
+south_wins winType t fs = win winType t East South fs
 
-abbrev pub dealerWins : ℕ → ℕ → List Flag → GameContext
-dealerWins winType t fs = win winType t East East fs
+abbrev pub dealer_wins : ℕ → ℕ → List Flag → GameContext
+dealer_wins winType t fs = win winType t East East fs
 
 -- the same without flags, of the seat South
 abbrev pub plain : ℕ → ℕ → GameContext
-plain winType t = southWins winType t []
+plain winType t = south_wins winType t []
 
 abbrev pub ron : ℕ → GameContext
-ron t = plain byRon t
+ron t = plain by_ron t
 
 abbrev pub tsumo : ℕ → GameContext
-tsumo t = plain byTsumo t
+tsumo t = plain by_tsumo t

@@ -1,6 +1,6 @@
 // The win (context.rs of agari): how it was won, the winning tile, the winds, the flags, a setting of the room, and the indicators of dora.
 ghost use Rattle.std.specs.Prelude.{◌≡◌};
-ghost use Rattle.context.specs.Context.{isTsumo, isDealer, isSetting, in_range, areIndicators, indicatorsIn, noneShown, renIndicators, renWin};
+ghost use Rattle.context.specs.Context.{is_tsumo, is_dealer, is_setting, in_range, are_indicators, indicators_in, none_shown, ren_indicators, ren_win};
 
 // Indicators of dora: how many are shown, and the tiles. What stands behind the count is not read.
 #[repr(C)]
@@ -13,7 +13,7 @@ pub struct Indicators {
 impl Indicators {
     // Are there ten at most, and is each that is shown a tile?
     pub fn are_indicators(self) -> bool
-        ensures { result ≡ areIndicators self }
+        ensures { result ≡ are_indicators self }
     {
         let tiles = self.tiles;
         let count = self.count as usize;
@@ -32,7 +32,7 @@ impl Indicators {
 
     // The indicators under a renaming: each of the ten places is renamed; a number above 33 stays.
     pub fn renamed(self, by: tile::Renaming) -> Indicators
-        ensures { result ≡ renIndicators by self }
+        ensures { result ≡ ren_indicators by self }
     {
         let tiles = self.tiles;
         let mut to = [0u8; 10];
@@ -77,21 +77,21 @@ pub struct GameContext {
 impl GameContext {
     // Was it won by self-draw?
     pub fn is_tsumo(self) -> bool
-        ensures { result ≡ isTsumo self }
+        ensures { result ≡ is_tsumo self }
     {
         self.win_type == 1
     }
 
     // Is the winner the dealer: is East the seat wind?
     pub fn is_dealer(self) -> bool
-        ensures { result ≡ isDealer self }
+        ensures { result ≡ is_dealer self }
     {
         self.seat_wind == 27
     }
 
     // Is the setting for the pair of the double wind four or two?
     fn has_setting(self) -> bool
-        ensures { result ≡ isSetting self.double_wind_fu }
+        ensures { result ≡ is_setting self.double_wind_fu }
     {
         (self.double_wind_fu == 4) | (self.double_wind_fu == 2)
     }
@@ -107,14 +107,14 @@ impl GameContext {
 
     // Is no indicator shown, of either sort?
     pub fn shows_none(self) -> bool
-        ensures { result ≡ noneShown self }
+        ensures { result ≡ none_shown self }
     {
         (self.dora_indicators.count == 0) & (self.ura_dora_indicators.count == 0)
     }
 
     // Are there ten indicators at most of either sort, and is each that is shown a tile?
     pub fn has_indicators(self) -> bool
-        ensures { result ≡ indicatorsIn self }
+        ensures { result ≡ indicators_in self }
     {
         if self.shows_none() {
             return true;
@@ -126,7 +126,7 @@ impl GameContext {
 
     // The win under a renaming: the winning tile, both winds and the indicators are renamed.
     pub fn renamed(self, by: tile::Renaming) -> GameContext
-        ensures { result ≡ renWin by self }
+        ensures { result ≡ ren_win by self }
     {
         let tile = tile::Tile(self.winning_tile);
         let tile_to = tile.renamed(by);

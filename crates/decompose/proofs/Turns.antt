@@ -12,13 +12,13 @@ use borrow.Author.Tests.{le-leb, lt-leb}
 use Rattle.lists.specs.Fold.{flat, up_from}
 use Rattle.tile.specs.Tile.{tiles}
 use Rattle.meld.specs.declared.Meld.{Meld}
-use Rattle.hand.specs.Readings.{lessPair, meldLists}
-use Rattle.hand.proofs.Sums.{upFrom-next, upFrom-end}
+use Rattle.hand.specs.Readings.{less_pair, meld_lists}
+use Rattle.hand.proofs.Sums.{up_from_next_holds, up_from_end_holds}
 use Rattle.search.specs.declared.Remaining.{Remaining}
 use Rattle.search.specs.Remaining.{split, left}
-use Rattle.search.specs.Slots.{recordsWith}
-use Rattle.search.proofs.Slots.{sets-append}
-use Rattle.decompose.specs.Pairs.{withPair, foundWith, recordsOver, OnlyAt}
+use Rattle.search.specs.Slots.{records_with}
+use Rattle.search.proofs.Slots.{sets_append}
+use Rattle.decompose.specs.Pairs.{with_pair, found_with, records_over, OnlyAt}
 
 -- ---- what g gives at the tiles from p on, where it gives something only at every third tile from first on, below end
 module _ {B : Type 0} (g : ℕ → List B) where
@@ -26,10 +26,10 @@ module _ {B : Type 0} (g : ℕ → List B) where
   from p = flat g (up_from (34 - p) p)
 
   from_next : (p : ℕ) → p < 34 → from p ≡ g p ++ from (p + 1)
-  from_next p h = ap (flat g) (upFrom-next p 34 h)
+  from_next p h = ap (flat g) (up_from_next_holds p 34 h)
 
   from_end : (p : ℕ) → 34 ≤ p → from p ≡ []
-  from_end p h = ap (flat g) (upFrom-end p 34 h)
+  from_end p h = ap (flat g) (up_from_end_holds p 34 h)
 
   pass : (p : ℕ) → (p < 34 → g p ≡ []) → Dec (p < 34) → from p ≡ from (p + 1)
   pass p e (yes h) = from_next p h ∙ ap (λ (l : List B). l ++ from (p + 1)) (e h)
@@ -58,121 +58,121 @@ module _ {B : Type 0} (g : ℕ → List B) where
 
 module _ (n : ℕ) (c : ℕ → ℕ) where
   -- ---- what is found with the pair p
-  pair-there : (p : ℕ) → 2 ≤ c p → withPair n c p ≡ meldLists n (lessPair c p)
-  unfolding withPair
-  pair-there p h = ap (λ (b : Bool). cond b (meldLists n (lessPair c p)) []) (le-leb 2 (c p) h)
+  pair_there : (p : ℕ) → 2 ≤ c p → with_pair n c p ≡ meld_lists n (less_pair c p)
+  unfolding with_pair
+  pair_there p h = ap (λ (b : Bool). cond b (meld_lists n (less_pair c p)) []) (le-leb 2 (c p) h)
 
-  pair-missing : (p : ℕ) → c p < 2 → withPair n c p ≡ []
-  unfolding withPair
-  pair-missing p h = ap (λ (b : Bool). cond b (meldLists n (lessPair c p)) []) (lt-leb 2 (c p) h)
+  pair_missing : (p : ℕ) → c p < 2 → with_pair n c p ≡ []
+  unfolding with_pair
+  pair_missing p h = ap (λ (b : Bool). cond b (meld_lists n (less_pair c p)) []) (lt-leb 2 (c p) h)
 
   -- what the search finds without the pair
-  module _ (p : ℕ) (two : 2 ≤ c p) (r : Remaining) (less : left (split r) ≡ lessPair c p) where
-    pub found-there : meldLists n (left (split r)) ≡ withPair n c p
-    found-there = ap (meldLists n) less ∙ sym (pair-there p two)
+  module _ (p : ℕ) (two : 2 ≤ c p) (r : Remaining) (less : left (split r) ≡ less_pair c p) where
+    pub found_there : meld_lists n (left (split r)) ≡ with_pair n c p
+    found_there = ap (meld_lists n) less ∙ sym (pair_there p two)
 
   -- ---- what is found with the tiles from p on
   abbrev found : ℕ → List (List Meld)
-  found = from (withPair n c)
+  found = from (with_pair n c)
 
   -- so many are counted before the tile p
   pub record Counted (first total p : ℕ) : Type 0 where
     pub place : p % 3 ≡ first % 3
     pub within : p ≤ 36
     pub few : total ≤ 16 * p
-    pub whole : total + length (found p) ≡ length (foundWith n c tiles)
+    pub whole : total + length (found p) ≡ length (found_with n c tiles)
 
   module _ (first end : ℕ) (only : OnlyAt c (record { first = first; end = end })) where
-    pub count-first : Counted first 0 first
-    unfolding foundWith
-    count-first = record {
+    pub count_first : Counted first 0 first
+    unfolding found_with
+    count_first = record {
       place = refl;
       within = (let h = only.starts in omega arith);
       few = omega arith;
-      whole = let e = ap length (start (withPair n c) first end (only.before n) (only.between n) (only.behind n)) in omega arith;
+      whole = let e = ap length (start (with_pair n c) first end (only.before n) (only.between n) (only.behind n)) in omega arith;
     }
 
     module _ (total p : ℕ) (inv : Counted first total p) (more : p < end) where
-      pub count-on : (res total' : ℕ) → res ≡ length (withPair n c p) → res ≤ 16 → total' ≡ total + res → Counted first total' (p + 3)
-      count-on res total' e few t =
+      pub count_on : (res total' : ℕ) → res ≡ length (with_pair n c p) → res ≤ 16 → total' ≡ total + res → Counted first total' (p + 3)
+      count_on res total' e few t =
           let h = only.ends in
-          let s = simp length-append at (ap length (turn (withPair n c) first end (only.before n) (only.between n) (only.behind n) p inv.place (omega arith))) in
+          let s = simp length-append at (ap length (turn (with_pair n c) first end (only.before n) (only.between n) (only.behind n) p inv.place (omega arith))) in
           record { place = omega arith; within = omega arith; few = omega arith; whole = omega arith }
 
       pub count_past : c p < 2 → (total' : ℕ) → total' ≡ total → Counted first total' (p + 3)
-      count_past h total' t = count-on 0 total' (sym (ap length (pair-missing p h))) (omega arith) (omega arith)
+      count_past h total' t = count_on 0 total' (sym (ap length (pair_missing p h))) (omega arith) (omega arith)
 
-    pub count-last : (total p : ℕ) → Counted first total p → end ≤ p → (total ≡ length (foundWith n c tiles)) × (total ≤ 2176)
-    count-last total p inv h =
-        let e = ap length (stop (withPair n c) first end (only.before n) (only.between n) (only.behind n) p h) in
+    pub count_last : (total p : ℕ) → Counted first total p → end ≤ p → (total ≡ length (found_with n c tiles)) × (total ≤ 2176)
+    count_last total p inv h =
+        let e = ap length (stop (with_pair n c) first end (only.before n) (only.between n) (only.behind n) p h) in
         (omega arith, omega arith)
 
   -- ---- what is written with them
   module _ (slots : List ℕ) where
     abbrev written : ℕ → List ℕ
-    written p = recordsWith p slots (withPair n c p)
+    written p = records_with p slots (with_pair n c p)
 
     abbrev text : ℕ → List ℕ
     text = from written
 
-    nothing_written : (p : ℕ) → withPair n c p ≡ [] → written p ≡ []
-    unfolding recordsWith
-    nothing_written p e = ap (recordsWith p slots) e
+    nothing_written : (p : ℕ) → with_pair n c p ≡ [] → written p ≡ []
+    unfolding records_with
+    nothing_written p e = ap (records_with p slots) e
 
     module _ (out₀ : List ℕ) (at : ℕ) where
       -- the buffer is written up to pos with what is found before the tile p
       pub record Written (first : ℕ) (out : List ℕ) (pos p : ℕ) : Type 0 where
         pub third : p % 3 ≡ first % 3
-        pub place : pos + length (text p) ≡ at + length (recordsOver n c slots tiles)
-        pub rest : sets out pos (text p) ≡ sets out₀ at (recordsOver n c slots tiles)
+        pub place : pos + length (text p) ≡ at + length (records_over n c slots tiles)
+        pub rest : sets out pos (text p) ≡ sets out₀ at (records_over n c slots tiles)
         pub kept : length out ≡ length out₀
 
       module _ (first end : ℕ) (only : OnlyAt c (record { first = first; end = end })) where
-        before-none : (p : ℕ) → p < first → p < 34 → written p ≡ []
-        before-none p h k = nothing_written p (only.before n p h k)
+        before_none : (p : ℕ) → p < first → p < 34 → written p ≡ []
+        before_none p h k = nothing_written p (only.before n p h k)
 
         between_none : (p : ℕ) → (p % 3 ≡ first % 3 → ⊥) → p < 34 → written p ≡ []
         between_none p h k = nothing_written p (only.between n p h k)
 
-        behind-none : (p : ℕ) → end ≤ p → p < 34 → written p ≡ []
-        behind-none p h k = nothing_written p (only.behind n p h k)
+        behind_none : (p : ℕ) → end ≤ p → p < 34 → written p ≡ []
+        behind_none p h k = nothing_written p (only.behind n p h k)
 
-        pub write-first : Written first out₀ at first
-        unfolding recordsOver
-        write-first =
-            let e = start written first end before-none between_none behind-none in
+        pub write_first : Written first out₀ at first
+        unfolding records_over
+        write_first =
+            let e = start written first end before_none between_none behind_none in
             record { third = refl; place = ap (λ (l : List ℕ). at + length l) (sym e); rest = ap (sets out₀ at) (sym e); kept = refl }
 
         module _ (out : List ℕ) (pos p : ℕ) (inv : Written first out pos p) (more : p < end) where
-          module _ (ls : List (List Meld)) (same : ls ≡ withPair n c p) where
-            now-text : text p ≡ recordsWith p slots ls ++ text (p + 3)
-            now-text =
+          module _ (ls : List (List Meld)) (same : ls ≡ with_pair n c p) where
+            now_text : text p ≡ records_with p slots ls ++ text (p + 3)
+            now_text =
                 let h = only.ends in
-                turn written first end before-none between_none behind-none p inv.third (omega arith)
-                ∙ ap (λ (l : List (List Meld)). recordsWith p slots l ++ text (p + 3)) (sym same)
+                turn written first end before_none between_none behind_none p inv.third (omega arith)
+                ∙ ap (λ (l : List (List Meld)). records_with p slots l ++ text (p + 3)) (sym same)
 
-            pub write-room : at + length (recordsOver n c slots tiles) ≤ length out₀ → pos + length (recordsWith p slots ls) ≤ length out
-            write-room room = omega (arith, simp length-append at (ap length now-text))
+            pub write_room : at + length (records_over n c slots tiles) ≤ length out₀ → pos + length (records_with p slots ls) ≤ length out
+            write_room room = omega (arith, simp length-append at (ap length now_text))
 
-            pub write-on : (out' : List ℕ) (pos' : ℕ) → pos' ≡ pos + length (recordsWith p slots ls) → out' ≡ sets out pos (recordsWith p slots ls)
+            pub write_on : (out' : List ℕ) (pos' : ℕ) → pos' ≡ pos + length (records_with p slots ls) → out' ≡ sets out pos (records_with p slots ls)
                 → Written first out' pos' (p + 3)
-            write-on out' pos' i j = record {
+            write_on out' pos' i j = record {
               third = omega arith;
-              place = omega (arith, simp length-append at (ap length now-text));
+              place = omega (arith, simp length-append at (ap length now_text));
               rest =
                   ap₂ (λ (o : List ℕ) (k : ℕ). sets o k (text (p + 3))) j i
-                  ∙ sym (sets-append (recordsWith p slots ls) (text (p + 3)) out pos)
-                  ∙ ap (λ (l : List ℕ). sets out pos l) (sym now-text)
+                  ∙ sym (sets_append (records_with p slots ls) (text (p + 3)) out pos)
+                  ∙ ap (λ (l : List ℕ). sets out pos l) (sym now_text)
                   ∙ inv.rest;
-              kept = ap length j ∙ length-sets out pos (recordsWith p slots ls) ∙ inv.kept;
+              kept = ap length j ∙ length-sets out pos (records_with p slots ls) ∙ inv.kept;
             }
 
-          pub write-past : c p < 2 → (out' : List ℕ) (pos' : ℕ) → pos' ≡ pos → out' ≡ out → Written first out' pos' (p + 3)
-          unfolding recordsWith
-          write-past h out' pos' i j = write-on [] (sym (pair-missing p h)) out' pos' (omega arith) j
+          pub write_past : c p < 2 → (out' : List ℕ) (pos' : ℕ) → pos' ≡ pos → out' ≡ out → Written first out' pos' (p + 3)
+          unfolding records_with
+          write_past h out' pos' i j = write_on [] (sym (pair_missing p h)) out' pos' (omega arith) j
 
-        pub write-last : (out : List ℕ) (pos p : ℕ) → Written first out pos p → end ≤ p
-            → (pos ≡ at + length (recordsOver n c slots tiles)) × (out ≡ sets out₀ at (recordsOver n c slots tiles))
-        write-last out pos p inv h =
-            let e = stop written first end before-none between_none behind-none p h in
+        pub write_last : (out : List ℕ) (pos p : ℕ) → Written first out pos p → end ≤ p
+            → (pos ≡ at + length (records_over n c slots tiles)) × (out ≡ sets out₀ at (records_over n c slots tiles))
+        write_last out pos p inv h =
+            let e = stop written first end before_none between_none behind_none p h in
             (omega (arith, inv.place, ap length e), ap (λ (l : List ℕ). sets out pos l) (sym e) ∙ inv.rest)

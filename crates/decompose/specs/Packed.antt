@@ -5,9 +5,9 @@ use Rattle.search.specs.Remaining.{digit}
 use Rattle.decompose.specs.declared.Packed.{Packed}
 
 -- the counts of n tiles from a on, three bits each, the lowest tile in the lowest bits
-unfoldable pub packFrom : (ℕ → ℕ) → ℕ → ℕ → ℕ
-packFrom c zero a = 0
-packFrom c (suc n) a = packFrom c n (suc a) * 8 + c a
+unfoldable pub pack_from : (ℕ → ℕ) → ℕ → ℕ → ℕ
+pack_from c zero a = 0
+pack_from c (suc n) a = pack_from c n (suc a) * 8 + c a
 
 -- how many of the tile t the words hold
 unfoldable pub in_words : Packed → ℕ → ℕ

@@ -4,11 +4,11 @@ ghost use Rattle.std.specs.Prelude.{◌≡◌, ◌+◌, ◌-◌, ◌*◌, ◌≤
 ghost use Rattle.std.proofs.lemmas.List.Edits.{sets};
 ghost use Rattle.tile.specs.Tile.{tiles};
 ghost use Rattle.hand.specs.Counts.{held, AtMostFour};
-ghost use Rattle.hand.specs.Readings.{lessPair};
-ghost use Rattle.hand.specs.Weights.{weight, byThree};
+ghost use Rattle.hand.specs.Readings.{less_pair};
+ghost use Rattle.hand.specs.Weights.{weight, by_three};
 ghost use Rattle.search.specs.Remaining.{split, left, Fair};
-ghost use Rattle.decompose.specs.Packed.{packFrom, in_words, Fit};
-ghost use Rattle.decompose.specs.Pairs.{foundWith, recordsOver, OnlyAt};
+ghost use Rattle.decompose.specs.Packed.{pack_from, in_words, Fit};
+ghost use Rattle.decompose.specs.Pairs.{found_with, records_over, OnlyAt};
 
 // The counts packed three bits a tile: man and pin, and sou and the honors.
 #[derive(Drop)]
@@ -20,7 +20,7 @@ pub struct Packed {
 // The counts from one tile up to another, packed.
 fn pack_range(counts: &[u8], from: usize, to: usize) -> u64
     requires { (length counts.now ≡ 34) × ((from ≤ to) × ((to ≤ 34) × ((to ≤ from + 18) × AtMostFour counts.now))) }
-    ensures { result ≡ packFrom (held counts.now) (to - from) from }
+    ensures { result ≡ pack_from (held counts.now) (to - from) from }
 {
     let mut word: u64 = 0;
     let mut i = to;
@@ -57,7 +57,7 @@ impl Packed {
     // The tiles left without the pair p.
     fn without_pair(self, p: u32) -> search::Remaining
         requires { (p < 34) × (Fit self × (2 ≤ in_words self p)) }
-        ensures { (left (split result) ≡ lessPair (in_words self) p) × Fair (split result) }
+        ensures { (left (split result) ≡ less_pair (in_words self) p) × Fair (split result) }
     {
         if p < 18 {
             return search::Remaining {
@@ -82,7 +82,7 @@ pub struct PairPlaces {
 // What the tiles' numbers leave by 3, summed over the tiles, of which the last leaves nothing.
 fn sum_numbers(counts: &[u8]) -> u64
     requires { length counts.now ≡ 34 }
-    ensures { (result ≡ weight byThree (held counts.now)) × (result ≤ 765 * 11) }
+    ensures { (result ≡ weight by_three (held counts.now)) × (result ≤ 765 * 11) }
 {
     let mut sum: u64 = 0;
     let mut i = 0;
@@ -116,7 +116,7 @@ pub fn pair_places(counts: &[u8]) -> PairPlaces
 // How many standard readings there are with `needed` melds of the hand itself.
 pub fn count_standard(h: Packed, places: PairPlaces, needed: u32) -> usize
     requires { (needed ≤ 4) × (Fit h × OnlyAt (in_words h) places) }
-    ensures { (result ≡ length (foundWith needed (in_words h) tiles)) × (result ≤ 2176) }
+    ensures { (result ≡ length (found_with needed (in_words h) tiles)) × (result ≤ 2176) }
 {
     let end = places.end;
     let mut total = 0;
@@ -139,8 +139,8 @@ pub fn write_standards(
     out: &mut [u8],
     at: usize,
 ) -> usize
-    requires { (needed ≤ 4) × (Fit h × (OnlyAt (in_words h) places × (at + length (recordsOver needed (in_words h) slots tiles) ≤ length out.old))) }
-    ensures { (result ≡ at + length (recordsOver needed (in_words h) slots tiles)) × (out.new ≡ sets out.old at (recordsOver needed (in_words h) slots tiles)) }
+    requires { (needed ≤ 4) × (Fit h × (OnlyAt (in_words h) places × (at + length (records_over needed (in_words h) slots tiles) ≤ length out.old))) }
+    ensures { (result ≡ at + length (records_over needed (in_words h) slots tiles)) × (out.new ≡ sets out.old at (records_over needed (in_words h) slots tiles)) }
 {
     let end = places.end;
     let mut pos = at;

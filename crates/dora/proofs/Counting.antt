@@ -11,91 +11,91 @@ use Rattle.lists.specs.Fold.{all}
 use Rattle.lists.proofs.Finite.{and_left, and_right}
 use Rattle.context.specs.declared.Indicators.{Indicators}
 use Rattle.context.specs.declared.GameContext.{GameContext}
-use Rattle.context.specs.Context.{shown, areIndicators, indicatorsIn}
+use Rattle.context.specs.Context.{shown, are_indicators, indicators_in}
 use Rattle.dora.specs.declared.DoraCount.{DoraCount}
-use Rattle.dora.specs.Dora.{doraOf, count_of, doraIn, AtMostForty, noDora, totalHan}
-use Rattle.dora.proofs.Rounds.{dora-tile}
+use Rattle.dora.specs.Dora.{dora_of, count_of, dora_in, AtMostForty, no_dora, total_han}
+use Rattle.dora.proofs.Rounds.{dora_tile}
 
 -- ---- ura needs riichi: without it the indicators below add nothing, whatever they are
 module _ (c : ℕ → ℕ) (w : GameContext) where
-  pub ura-needs-riichi : w.is_riichi ≡ false → (doraIn c w).ura ≡ 0
-  unfolding doraIn
-  ura-needs-riichi e = ap (λ (b : Bool). cond b (count_of c (shown w.ura_dora_indicators)) 0) e
+  pub ura_needs_riichi : w.is_riichi ≡ false → (dora_in c w).ura ≡ 0
+  unfolding dora_in
+  ura_needs_riichi e = ap (λ (b : Bool). cond b (count_of c (shown w.ura_dora_indicators)) 0) e
 
   -- and with it they add as those above do, in an open hand too
-  pub ura-with-riichi : w.is_riichi ≡ true → (doraIn c w).ura ≡ count_of c (shown w.ura_dora_indicators)
-  unfolding doraIn
-  ura-with-riichi e = ap (λ (b : Bool). cond b (count_of c (shown w.ura_dora_indicators)) 0) e
+  pub ura_with_riichi : w.is_riichi ≡ true → (dora_in c w).ura ≡ count_of c (shown w.ura_dora_indicators)
+  unfolding dora_in
+  ura_with_riichi e = ap (λ (b : Bool). cond b (count_of c (shown w.ura_dora_indicators)) 0) e
 
   -- what is shown is counted, whatever was declared
-  pub regular-counts : (doraIn c w).regular ≡ count_of c (shown w.dora_indicators)
-  unfolding doraIn
-  regular-counts = refl
+  pub regular_counts : (dora_in c w).regular ≡ count_of c (shown w.dora_indicators)
+  unfolding dora_in
+  regular_counts = refl
 
 -- ---- how many there are: of no tile are there more than four, and ten indicators at most
-few-shown : (i : Indicators) → i.count ≤ 10 → length (shown i) ≤ 10
-few-shown i h = let e = length-take i.count i.tiles in omega arith
+few_shown : (i : Indicators) → i.count ≤ 10 → length (shown i) ≤ 10
+few_shown i h = let e = length-take i.count i.tiles in omega arith
 
-four-each : (c : ℕ → ℕ) → ((t : ℕ) → t < 34 → c t ≤ 4) → (ts : List ℕ) → T (all (λ t. ltb t 34) ts) → count_of c ts ≤ 4 * length ts
-four-each c four [] h = omega arith
-four-each c four (t ∷ ts) h =
-    let one = four (doraOf t) (dora-tile t (ltb→lt t 34 (and_left (ltb t 34) _ h))) in
-    let rest = four-each c four ts (and_right (ltb t 34) (all (λ t. ltb t 34) ts) h) in
+four_each : (c : ℕ → ℕ) → ((t : ℕ) → t < 34 → c t ≤ 4) → (ts : List ℕ) → T (all (λ t. ltb t 34) ts) → count_of c ts ≤ 4 * length ts
+four_each c four [] h = omega arith
+four_each c four (t ∷ ts) h =
+    let one = four (dora_of t) (dora_tile t (ltb→lt t 34 (and_left (ltb t 34) _ h))) in
+    let rest = four_each c four ts (and_right (ltb t 34) (all (λ t. ltb t 34) ts) h) in
     omega arith
 
 -- ten at most, where the indicators pass the check
-pub few-indicators : (i : Indicators) → T (areIndicators i) → i.count ≤ 10
-few-indicators i h = leb→le i.count 10 (and_left (leb i.count 10) (all (λ t. ltb t 34) (shown i)) h)
+pub few_indicators : (i : Indicators) → T (are_indicators i) → i.count ≤ 10
+few_indicators i h = leb→le i.count 10 (and_left (leb i.count 10) (all (λ t. ltb t 34) (shown i)) h)
 
-pub count-le : (c : ℕ → ℕ) → ((t : ℕ) → t < 34 → c t ≤ 4) → (i : Indicators) → T (areIndicators i) → count_of c (shown i) ≤ 40
-count-le c four i h =
-    let most = four-each c four (shown i) (and_right (leb i.count 10) (all (λ t. ltb t 34) (shown i)) h) in
-    let few = few-shown i (few-indicators i h) in
+pub count_le : (c : ℕ → ℕ) → ((t : ℕ) → t < 34 → c t ≤ 4) → (i : Indicators) → T (are_indicators i) → count_of c (shown i) ≤ 40
+count_le c four i h =
+    let most = four_each c four (shown i) (and_right (leb i.count 10) (all (λ t. ltb t 34) (shown i)) h) in
+    let few = few_shown i (few_indicators i h) in
     omega arith
 
-ura-le : (riichi : Bool) (n : ℕ) → n ≤ 40 → cond riichi n 0 ≤ 40
-ura-le true n h = h
-ura-le false n h = omega arith
+ura_le : (riichi : Bool) (n : ℕ) → n ≤ 40 → cond riichi n 0 ≤ 40
+ura_le true n h = h
+ura_le false n h = omega arith
 
-pub dora-le : (c : ℕ → ℕ) → ((t : ℕ) → t < 34 → c t ≤ 4) → (w : GameContext) → T (indicatorsIn w) → AtMostForty (doraIn c w)
-unfolding doraIn
-dora-le c four w h =
+pub dora_le : (c : ℕ → ℕ) → ((t : ℕ) → t < 34 → c t ≤ 4) → (w : GameContext) → T (indicators_in w) → AtMostForty (dora_in c w)
+unfolding dora_in
+dora_le c four w h =
     let d = w.dora_indicators in
     let u = w.ura_dora_indicators in (
-      count-le c four d (and_left (areIndicators d) (areIndicators u) h),
-      ura-le w.is_riichi (count_of c (shown u)) (count-le c four u (and_right (areIndicators d) (areIndicators u) h)),
+      count_le c four d (and_left (are_indicators d) (are_indicators u) h),
+      ura_le w.is_riichi (count_of c (shown u)) (count_le c four u (and_right (are_indicators d) (are_indicators u) h)),
     )
 
 -- ---- no indicator, no dora
-pub none-shown : (c : ℕ → ℕ) (w : GameContext) → shown w.dora_indicators ≡ [] → shown w.ura_dora_indicators ≡ [] → doraIn c w ≡ noDora
-unfolding doraIn
-none-shown c w e f = λ i. the-count (count_of c (e i)) (go w.is_riichi i)
+pub none_shown_holds : (c : ℕ → ℕ) (w : GameContext) → shown w.dora_indicators ≡ [] → shown w.ura_dora_indicators ≡ [] → dora_in c w ≡ no_dora
+unfolding dora_in
+none_shown_holds c w e f = λ i. the_count (count_of c (e i)) (go w.is_riichi i)
   where
-    the-count : ℕ → ℕ → DoraCount
-    the-count n m = record { regular = n; ura = m }
+    the_count : ℕ → ℕ → DoraCount
+    the_count n m = record { regular = n; ura = m }
 
     go : (b : Bool) → cond b (count_of c (shown w.ura_dora_indicators)) 0 ≡ 0
     go true = ap (count_of c) f
     go false = refl
 
 -- ---- the han: a yakuman takes no dora, every other hand takes all
-pub yakuman-takes-none : (d : DoraCount) (han : ℕ) → totalHan d true han ≡ han
-unfolding totalHan
-yakuman-takes-none d han = refl
+pub yakuman_takes_none : (d : DoraCount) (han : ℕ) → total_han d true han ≡ han
+unfolding total_han
+yakuman_takes_none d han = refl
 
-pub others-take-all : (d : DoraCount) (han : ℕ) → totalHan d false han ≡ han + (d.regular + d.ura)
-unfolding totalHan
-others-take-all d han = refl
+pub others_take_all : (d : DoraCount) (han : ℕ) → total_han d false han ≡ han + (d.regular + d.ura)
+unfolding total_han
+others_take_all d han = refl
 
 -- without dora it is the han of the yaku
-pub han-without-dora : (yakuman : Bool) (han : ℕ) → totalHan noDora yakuman han ≡ han
-unfolding totalHan
-han-without-dora true han = refl
-han-without-dora false han = omega arith
+pub han_without_dora : (yakuman : Bool) (han : ℕ) → total_han no_dora yakuman han ≡ han
+unfolding total_han
+han_without_dora true han = refl
+han_without_dora false han = omega arith
 
 -- it is a byte
-pub total-small :
-    (d : DoraCount) → AtMostForty d → (yakuman : Bool) (han : ℕ) → han < 256 → (yakuman ≡ false → han ≤ 175) → totalHan d yakuman han < 256
-unfolding totalHan
-total-small d h true han small plain = small
-total-small d h false han small plain = let k = plain refl in omega arith
+pub total_small :
+    (d : DoraCount) → AtMostForty d → (yakuman : Bool) (han : ℕ) → han < 256 → (yakuman ≡ false → han ≤ 175) → total_han d yakuman han < 256
+unfolding total_han
+total_small d h true han small plain = small
+total_small d h false han small plain = let k = plain refl in omega arith

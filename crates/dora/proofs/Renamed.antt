@@ -6,15 +6,15 @@ use lib.Dec.{T, ltb, ltb→lt}
 use Rattle.lists.specs.Fold.{all}
 use Rattle.lists.proofs.Finite.{and_left, and_right}
 use Rattle.tile.specs.declared.Renaming.{Renaming}
-use Rattle.tile.specs.Renaming.{ren, suitsAlone}
-use Rattle.dora.specs.Dora.{doraOf, count_of}
-use Rattle.dora.proofs.Rounds.{dora-tile, dora-renamed}
+use Rattle.tile.specs.Renaming.{ren, suits_alone}
+use Rattle.dora.specs.Dora.{dora_of, count_of}
+use Rattle.dora.proofs.Rounds.{dora_tile, dora_renamed}
 
 -- c says how many of each tile the hand holds, d how many the renamed one
 module _
-    (ρ : Renaming) (alone : T (suitsAlone ρ)) (c d : ℕ → ℕ) (same : (t : ℕ) → t < 34 → d (ren ρ t) ≡ c t) where
-  pub count-renamed : (ts : List ℕ) → T (all (λ t. ltb t 34) ts) → count_of d (map (ren ρ) ts) ≡ count_of c ts
-  count-renamed [] h = refl
-  count-renamed (t ∷ ts) h =
+    (ρ : Renaming) (alone : T (suits_alone ρ)) (c d : ℕ → ℕ) (same : (t : ℕ) → t < 34 → d (ren ρ t) ≡ c t) where
+  pub count_renamed : (ts : List ℕ) → T (all (λ t. ltb t 34) ts) → count_of d (map (ren ρ) ts) ≡ count_of c ts
+  count_renamed [] h = refl
+  count_renamed (t ∷ ts) h =
       let tile = ltb→lt t 34 (and_left (ltb t 34) _ h) in
-      ap₂ ◌+◌ (ap d (dora-renamed ρ alone t tile) ∙ same (doraOf t) (dora-tile t tile)) (count-renamed ts (and_right (ltb t 34) _ h))
+      ap₂ ◌+◌ (ap d (dora_renamed ρ alone t tile) ∙ same (dora_of t) (dora_tile t tile)) (count_renamed ts (and_right (ltb t 34) _ h))

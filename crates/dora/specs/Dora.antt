@@ -3,7 +3,7 @@
 -- These are definitions.
 use Rattle.std.specs.Prelude.{Bool, cond, List, ℕ, ◌+◌, ◌-◌, ◌*◌, ◌%◌, ◌≤◌}
 use Rattle.lists.specs.Fold.{sum}
-use Rattle.tile.specs.Tile.{isSuited, isWind, isDragon, suitOf}
+use Rattle.tile.specs.Tile.{is_suited, is_wind, is_dragon, suit_of}
 use Rattle.tile.specs.Named.{East, White}
 use Rattle.context.specs.declared.GameContext.{GameContext}
 use Rattle.context.specs.Context.{shown}
@@ -15,17 +15,17 @@ after a n t = a + (t - a + 1) % n
 
 -- the dora of an indicator: the next number of its suit, 1 after 9; the next of East, South, West, North; the next of White, Green, Red.
 -- A number above 33 is no tile and stays
-unfoldable pub doraOf : ℕ → ℕ
-doraOf t =
-    cond (isSuited t) (after (suitOf t * 9) 9 t) (cond (isWind t) (after East 4 t) (cond (isDragon t) (after White 3 t) t))
+unfoldable pub dora_of : ℕ → ℕ
+dora_of t =
+    cond (is_suited t) (after (suit_of t * 9) 9 t) (cond (is_wind t) (after East 4 t) (cond (is_dragon t) (after White 3 t) t))
 
 -- each indicator adds as many as there are of its dora; one that is shown twice adds twice
 abbrev pub count_of : (ℕ → ℕ) → List ℕ → ℕ
-count_of c ts = sum (λ t. c (doraOf t)) ts
+count_of c ts = sum (λ t. c (dora_of t)) ts
 
 -- by sort: those shown, and those below them (ura), which count exactly where riichi was declared
-unfoldable pub doraIn : (ℕ → ℕ) → GameContext → DoraCount
-doraIn c w =
+unfoldable pub dora_in : (ℕ → ℕ) → GameContext → DoraCount
+dora_in c w =
     record {
       regular = count_of c (shown w.dora_indicators);
       ura = cond w.is_riichi (count_of c (shown w.ura_dora_indicators)) 0;
@@ -36,13 +36,13 @@ abbrev pub AtMostForty : DoraCount → Type 0
 AtMostForty d = (d.regular ≤ 40) × (d.ura ≤ 40)
 
 -- no dora
-abbrev pub noDora : DoraCount
-noDora = record { regular = 0; ura = 0 }
+abbrev pub no_dora : DoraCount
+no_dora = record { regular = 0; ura = 0 }
 
 -- both sorts together
-abbrev pub doraTotal : DoraCount → ℕ
-doraTotal d = d.regular + d.ura
+abbrev pub dora_total : DoraCount → ℕ
+dora_total d = d.regular + d.ura
 
 -- the han of the yaku with dora; a yakuman takes none
-unfoldable pub totalHan : DoraCount → Bool → ℕ → ℕ
-totalHan d yakuman han = cond yakuman han (han + doraTotal d)
+unfoldable pub total_han : DoraCount → Bool → ℕ → ℕ
+total_han d yakuman han = cond yakuman han (han + dora_total d)

@@ -1,9 +1,9 @@
 // Dora (context.rs of agari, and total_han_with_dora of its yaku.rs): the tile that an indicator names, how many of these tiles hand and calls
 // hold together, and the han with them. Red fives (aka) and set-aside Norths (nuki) are not counted here: both are 0.
 ghost use Rattle.std.specs.Prelude.{◌≡◌, true, false, ◌≤◌, length};
-ghost use Rattle.context.specs.Context.{shown, indicatorsIn};
+ghost use Rattle.context.specs.Context.{shown, indicators_in};
 ghost use Rattle.hand.specs.Counts.{held, AtMostFour};
-ghost use Rattle.dora.specs.Dora.{doraOf, count_of, doraIn, AtMostForty, doraTotal, totalHan};
+ghost use Rattle.dora.specs.Dora.{dora_of, count_of, dora_in, AtMostForty, dora_total, total_han};
 
 // How many dora are there: by the indicators shown, and by those below them.
 #[derive(Drop)]
@@ -52,7 +52,7 @@ const DORA: [u8; 34] = [
 
 // The tile that an indicator names as dora; a number above 33 stays.
 pub fn indicator_to_dora(indicator: tile::Tile) -> tile::Tile
-    ensures { result.0 ≡ doraOf indicator.0 }
+    ensures { result.0 ≡ dora_of indicator.0 }
 {
     let t = indicator.0;
     if 34 <= t {
@@ -64,7 +64,7 @@ pub fn indicator_to_dora(indicator: tile::Tile) -> tile::Tile
 // How many there are of the tile that an indicator names.
 fn held_by(counts: &[u8], t: u8) -> u8
     requires { length counts.now ≡ 34 }
-    ensures { result ≡ held counts.now (doraOf t) }
+    ensures { result ≡ held counts.now (dora_of t) }
 {
     let dora = indicator_to_dora(tile::Tile(t));
     let at = dora.0 as usize;
@@ -99,8 +99,8 @@ fn count_of(counts: &[u8], i: context::Indicators) -> u8
 
 // How many dora hand and calls hold together, by sort: those below count after a riichi.
 pub fn count_dora_detailed(counts: &[u8], w: context::GameContext) -> DoraCount
-    requires { (length counts.now ≡ 34) × (AtMostFour counts.now × (indicatorsIn w ≡ true)) }
-    ensures { (result ≡ doraIn (held counts.now) w) × AtMostForty result }
+    requires { (length counts.now ≡ 34) × (AtMostFour counts.now × (indicators_in w ≡ true)) }
+    ensures { (result ≡ dora_in (held counts.now) w) × AtMostForty result }
 {
     let regular = count_of(counts, w.dora_indicators);
     if !w.is_riichi {
@@ -119,7 +119,7 @@ impl DoraCount {
     // Both sorts together.
     pub fn total(self) -> u8
         requires { AtMostForty self }
-        ensures { result ≡ doraTotal self }
+        ensures { result ≡ dora_total self }
     {
         self.regular + self.ura
     }
@@ -128,7 +128,7 @@ impl DoraCount {
 // The han of the yaku with dora; a yakuman takes none.
 pub fn total_han_with_dora(d: DoraCount, is_yakuman: bool, han: u8) -> u8
     requires { AtMostForty d × (is_yakuman ≡ false → han ≤ 175) }
-    ensures { result ≡ totalHan d is_yakuman han }
+    ensures { result ≡ total_han d is_yakuman han }
 {
     if is_yakuman {
         return han;

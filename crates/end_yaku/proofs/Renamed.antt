@@ -2,14 +2,14 @@
 -- Assumes nothing.
 use mathlib.Core.Path.{refl}
 use mathlib.Core.Bool.{◌||◌}
-use Rattle.tile.specs.Tile.{isTerminal, isTerminalOrHonor}
-use Rattle.meld.proofs.Renamed.{meld-law}
-use Rattle.meld_yaku.specs.Melds.{setOf}
+use Rattle.tile.specs.Tile.{is_terminal, is_terminal_or_honor}
+use Rattle.meld.proofs.Renamed.{meld_law}
+use Rattle.meld_yaku.specs.Melds.{set_of}
 use Rattle.meld_yaku.proofs.Renamed.{Stays}
-use Rattle.end_yaku.specs.Ends.{endRun}
+use Rattle.end_yaku.specs.Ends.{end_run}
 
-pub outer-meld : Stays (λ m. endRun m || setOf isTerminalOrHonor m)
-outer-meld = meld-law (λ m. endRun m || setOf isTerminalOrHonor m) (λ m. refl) tt
+pub outer_meld : Stays (λ m. end_run m || set_of is_terminal_or_honor m)
+outer_meld = meld_law (λ m. end_run m || set_of is_terminal_or_honor m) (λ m. refl) tt
 
-pub terminal-meld : Stays (λ m. endRun m || setOf isTerminal m)
-terminal-meld = meld-law (λ m. endRun m || setOf isTerminal m) (λ m. refl) tt
+pub terminal_meld : Stays (λ m. end_run m || set_of is_terminal m)
+terminal_meld = meld_law (λ m. end_run m || set_of is_terminal m) (λ m. refl) tt

@@ -2,23 +2,23 @@
 // otherwise answers no at that line.
 ghost use Rattle.std.specs.Prelude.{◌≡◌, not, ◌&&◌, ◌||◌};
 ghost use Rattle.lists.specs.Fold.{any};
-ghost use Rattle.tile.specs.Tile.{isTerminal, isTerminalOrHonor};
-ghost use Rattle.meld.specs.Meld.{isSequence};
+ghost use Rattle.tile.specs.Tile.{is_terminal, is_terminal_or_honor};
+ghost use Rattle.meld.specs.Meld.{is_sequence};
 ghost use Rattle.structure.specs.Structure.{reading_of};
-ghost use Rattle.meld_yaku.specs.Melds.{setOf};
-ghost use Rattle.meld_yaku.specs.Standard.{ofStandard};
-ghost use Rattle.end_yaku.specs.Ends.{endRun, chanta, junchan};
+ghost use Rattle.meld_yaku.specs.Melds.{set_of};
+ghost use Rattle.meld_yaku.specs.Standard.{of_standard};
+ghost use Rattle.end_yaku.specs.Ends.{end_run, chanta, junchan};
 
 // Is it 123 or 789?
 fn is_end_run(m: meld::Meld) -> bool
-    ensures { result ≡ endRun m }
+    ensures { result ≡ end_run m }
 {
     m.is_sequence() & ((m.tile % 9 == 0) | (m.tile % 9 == 6))
 }
 
 // Does it hold a terminal or an honor?
 fn holds_terminal_or_honor(m: meld::Meld) -> bool
-    ensures { result ≡ (endRun m || setOf isTerminalOrHonor m) }
+    ensures { result ≡ (end_run m || set_of is_terminal_or_honor m) }
 {
     let t = tile::Tile(m.tile);
     is_end_run(m) | (m.is_triplet_or_kan() & t.is_terminal_or_honor())
@@ -26,7 +26,7 @@ fn holds_terminal_or_honor(m: meld::Meld) -> bool
 
 // Does it hold a terminal?
 fn holds_terminal(m: meld::Meld) -> bool
-    ensures { result ≡ (endRun m || setOf isTerminal m) }
+    ensures { result ≡ (end_run m || set_of is_terminal m) }
 {
     let t = tile::Tile(m.tile);
     is_end_run(m) | (m.is_triplet_or_kan() & t.is_terminal())
@@ -34,7 +34,7 @@ fn holds_terminal(m: meld::Meld) -> bool
 
 // Is one of the melds a sequence?
 fn any_sequence(ms: [meld::Meld; 4]) -> bool
-    ensures { result ≡ any isSequence ms }
+    ensures { result ≡ any is_sequence ms }
 {
     ms[0].is_sequence() | (ms[1].is_sequence() | (ms[2].is_sequence() | ms[3].is_sequence()))
 }
@@ -60,7 +60,7 @@ fn is_junchan(ms: [meld::Meld; 4], pair: tile::Tile) -> bool
 
 // Chanta: a terminal or honor in each group, and not Junchan.
 pub fn check_chanta(h: structure::Hand) -> bool
-    ensures { result ≡ ofStandard (λ p ms. chanta p ms && not (junchan p ms)) (reading_of h) }
+    ensures { result ≡ of_standard (λ p ms. chanta p ms && not (junchan p ms)) (reading_of h) }
 {
     let s = h.structure;
     let structure::HandStructure::Standard { pair } = s else {
@@ -72,7 +72,7 @@ pub fn check_chanta(h: structure::Hand) -> bool
 
 // Junchan: a terminal in each group.
 pub fn check_junchan(h: structure::Hand) -> bool
-    ensures { result ≡ ofStandard (λ p ms. junchan p ms) (reading_of h) }
+    ensures { result ≡ of_standard (λ p ms. junchan p ms) (reading_of h) }
 {
     let s = h.structure;
     let structure::HandStructure::Standard { pair } = s else {

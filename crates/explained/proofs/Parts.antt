@@ -8,176 +8,176 @@ use native.Mathlib.Omega.{arith}
 use lib.Dec.{T, eqb, eqb→eq, lit<, lit≤}
 use lib.ListN.{length, get_or, length-map}
 use Rattle.lists.specs.Fold.{all, sum, total}
-use Rattle.lists.proofs.Finite.{and_left, and_right, T→true, true→T}
+use Rattle.lists.proofs.Finite.{and_left, and_right, T→true, true→t}
 use Rattle.meld.specs.declared.Meld.{Meld}
-use Rattle.meld.specs.Meld.{isSequence}
+use Rattle.meld.specs.Meld.{is_sequence}
 use Rattle.context.specs.declared.GameContext.{GameContext}
-use Rattle.context.specs.Context.{isTsumo}
+use Rattle.context.specs.Context.{is_tsumo}
 use Rattle.hand.specs.Reading.{Reading, pairs, orphans, standard}
 use Rattle.tile_yaku.specs.declared.TileYaku.{TileYaku}
 use Rattle.structure.proofs.Short.{Short}
 use Rattle.wait.specs.Wait.{weight, pinfu}
 use Rattle.wait.specs.Concealed.{spared}
-use Rattle.fu.specs.Fu.{meldFu, pairFu, waitFu, winFu, roundUpTo10, atLeast30, pinfuFu, standardFu, fu}
-use Rattle.fu.proofs.DoubleWind.{no-pair-fu}
+use Rattle.fu.specs.Fu.{meld_fu, pair_fu, wait_fu, win_fu, round_up_to10, at_least30, pinfu_fu, standard_fu, fu}
+use Rattle.fu.proofs.DoubleWind.{no_pair_fu}
 use Rattle.dora.specs.declared.DoraCount.{DoraCount}
-use Rattle.reading_score.specs.Score.{result, scoreOf}
+use Rattle.reading_score.specs.Score.{result, score_of}
 use Rattle.explained.specs.declared.breakdown.FuBreakdown.{FuBreakdown}
-use Rattle.explained.specs.Breakdown.{menzenRonFu, tsumoFu, pinfuParts, meldsFu, unrounded, countedParts, breakdown, meldFuAt, partsSum}
-use Rattle.explained.proofs.Rounded.{rounding-reaches, rounding-closed, rounding-open}
+use Rattle.explained.specs.Breakdown.{menzen_ron_fu, tsumo_fu, pinfu_parts, melds_fu, unrounded, counted_parts, breakdown, meld_fu_at, parts_sum}
+use Rattle.explained.proofs.Rounded.{rounding_reaches, rounding_closed, rounding_open}
 
 -- ---- the parts add up
-win-parts : (byTsumo opened : Bool) → menzenRonFu byTsumo opened + tsumoFu byTsumo ≡ winFu byTsumo opened
-win-parts true opened = refl
-win-parts false true = refl
-win-parts false false = refl
+win_parts : (by_tsumo opened : Bool) → menzen_ron_fu by_tsumo opened + tsumo_fu by_tsumo ≡ win_fu by_tsumo opened
+win_parts true opened = refl
+win_parts false true = refl
+win_parts false false = refl
 
-pinfu-adds-up : (byTsumo : Bool) → partsSum (pinfuParts byTsumo) ≡ pinfuFu byTsumo
-pinfu-adds-up true = refl
-pinfu-adds-up false = refl
+pinfu_adds_up : (by_tsumo : Bool) → parts_sum (pinfu_parts by_tsumo) ≡ pinfu_fu by_tsumo
+pinfu_adds_up true = refl
+pinfu_adds_up false = refl
 
 module _ (w : GameContext) (opened : Bool) (p : ℕ) (ms : List Meld) where
-  counted-adds-up : partsSum (countedParts w opened p ms) ≡ atLeast30 opened (roundUpTo10 (unrounded w opened p ms))
-  unfolding countedParts
-  counted-adds-up =
-      let won = win-parts (isTsumo w) opened in
-      let up = rounding-reaches opened (unrounded w opened p ms) in
+  counted_adds_up : parts_sum (counted_parts w opened p ms) ≡ at_least30 opened (round_up_to10 (unrounded w opened p ms))
+  unfolding counted_parts
+  counted_adds_up =
+      let won = win_parts (is_tsumo w) opened in
+      let up = rounding_reaches opened (unrounded w opened p ms) in
       omega arith
 
-  standard-adds-up :
+  standard_adds_up :
       (flat : Bool)
-      → partsSum (cond flat (pinfuParts (isTsumo w)) (countedParts w opened p ms))
-      ≡ cond flat (pinfuFu (isTsumo w)) (atLeast30 opened (roundUpTo10 (unrounded w opened p ms)))
-  standard-adds-up true = pinfu-adds-up (isTsumo w)
-  standard-adds-up false = counted-adds-up
+      → parts_sum (cond flat (pinfu_parts (is_tsumo w)) (counted_parts w opened p ms))
+      ≡ cond flat (pinfu_fu (is_tsumo w)) (at_least30 opened (round_up_to10 (unrounded w opened p ms)))
+  standard_adds_up true = pinfu_adds_up (is_tsumo w)
+  standard_adds_up false = counted_adds_up
 
-pub adds-up : (w : GameContext) (opened : Bool) (r : Reading) → partsSum (breakdown w opened r) ≡ fu w opened r
-unfolding breakdown fu standardFu
-adds-up w opened (pairs ps) = refl
-adds-up w opened (orphans p) = refl
-adds-up w opened (standard p ms) = standard-adds-up w opened p ms (pinfu w opened (standard p ms))
+pub adds_up : (w : GameContext) (opened : Bool) (r : Reading) → parts_sum (breakdown w opened r) ≡ fu w opened r
+unfolding breakdown fu standard_fu
+adds_up w opened (pairs ps) = refl
+adds_up w opened (orphans p) = refl
+adds_up w opened (standard p ms) = standard_adds_up w opened p ms (pinfu w opened (standard p ms))
 
 -- so to the fu that is answered of a reading
-pub answered-fu : (w : GameContext) (opened : Bool) (s : TileYaku) (d : DoraCount) (r : Reading) → partsSum (breakdown w opened r) ≡ (scoreOf w opened s d r).fu
-unfolding scoreOf result
-answered-fu w opened s d r = adds-up w opened r
+pub answered_fu : (w : GameContext) (opened : Bool) (s : TileYaku) (d : DoraCount) (r : Reading) → parts_sum (breakdown w opened r) ≡ (score_of w opened s d r).fu
+unfolding score_of result
+answered_fu w opened s d r = adds_up w opened r
 
 -- ---- what is left out of a pinfu's parts is nothing
-runs_none : (w : GameContext) (kept : Bool) (ms : List Meld) → T (all isSequence ms) → sum (meldFu w kept) ms ≡ 0
+runs_none : (w : GameContext) (kept : Bool) (ms : List Meld) → T (all is_sequence ms) → sum (meld_fu w kept) ms ≡ 0
 runs_none w kept [] t = refl
 runs_none w kept (m ∷ ms) t =
-    let rest = runs_none w kept ms (and_right (isSequence m) (all isSequence ms) t) in
-    rw (T→true (isSequence m) (and_left (isSequence m) (all isSequence ms) t)) (omega arith)
+    let rest = runs_none w kept ms (and_right (is_sequence m) (all is_sequence ms) t) in
+    rw (T→true (is_sequence m) (and_left (is_sequence m) (all is_sequence ms) t)) (omega arith)
 
-closed-ron : (byTsumo opened : Bool) → T (not opened) → cond byTsumo 0 10 ≡ menzenRonFu byTsumo opened
-closed-ron true opened t = refl
-closed-ron false true t = absurd t
-closed-ron false false t = refl
+closed_ron : (by_tsumo opened : Bool) → T (not opened) → cond by_tsumo 0 10 ≡ menzen_ron_fu by_tsumo opened
+closed_ron true opened t = refl
+closed_ron false true t = absurd t
+closed_ron false false t = refl
 
 module _ (w : GameContext) (opened : Bool) (p : ℕ) (ms : List Meld) (h : pinfu w opened (standard p ms) ≡ true) where
-  is-closed : T (not opened)
+  is_closed : T (not opened)
   unfolding pinfu
-  is-closed = and_left (not opened) _ (true→T _ h)
+  is_closed = and_left (not opened) _ (true→t _ h)
 
-  no-melds-fu : 0 ≡ meldsFu w ms
+  no_melds_fu : 0 ≡ melds_fu w ms
   unfolding pinfu
-  no-melds-fu = sym (runs_none w (spared w ms) ms (and_left (all isSequence ms) _ (and_right (not opened) _ (true→T _ h))))
+  no_melds_fu = sym (runs_none w (spared w ms) ms (and_left (all is_sequence ms) _ (and_right (not opened) _ (true→t _ h))))
 
-  pair-without-fu : 0 ≡ pairFu w p
+  pair_without_fu : 0 ≡ pair_fu w p
   unfolding pinfu
-  pair-without-fu =
-      sym (no-pair-fu w p
-      (eqb→eq (weight w p) 0 (and_left (eqb (weight w p) 0) _ (and_right (all isSequence ms) _ (and_right (not opened) _ (true→T _ h))))))
+  pair_without_fu =
+      sym (no_pair_fu w p
+      (eqb→eq (weight w p) 0 (and_left (eqb (weight w p) 0) _ (and_right (all is_sequence ms) _ (and_right (not opened) _ (true→t _ h))))))
 
 -- ---- each part of a pair and four melds
 module _ (w : GameContext) (opened : Bool) (p : ℕ) (ms : List Meld) where
   abbrev parts : Bool → FuBreakdown
-  parts flat = cond flat (pinfuParts (isTsumo w)) (countedParts w opened p ms)
+  parts flat = cond flat (pinfu_parts (is_tsumo w)) (counted_parts w opened p ms)
 
-  pub base-part : (breakdown w opened (standard p ms)).base ≡ 20
-  unfolding breakdown countedParts
-  base-part = go (pinfu w opened (standard p ms))
+  pub base_part : (breakdown w opened (standard p ms)).base ≡ 20
+  unfolding breakdown counted_parts
+  base_part = go (pinfu w opened (standard p ms))
     where
       go : (flat : Bool) → (parts flat).base ≡ 20
       go true = refl
       go false = refl
 
-  pub menzen-ron-part : (breakdown w opened (standard p ms)).menzen_ron ≡ menzenRonFu (isTsumo w) opened
-  unfolding breakdown countedParts
-  menzen-ron-part = go (pinfu w opened (standard p ms)) refl
+  pub menzen_ron_part : (breakdown w opened (standard p ms)).menzen_ron ≡ menzen_ron_fu (is_tsumo w) opened
+  unfolding breakdown counted_parts
+  menzen_ron_part = go (pinfu w opened (standard p ms)) refl
     where
-      go : (flat : Bool) → pinfu w opened (standard p ms) ≡ flat → (parts flat).menzen_ron ≡ menzenRonFu (isTsumo w) opened
-      go true e = closed-ron (isTsumo w) opened (is-closed w opened p ms e)
+      go : (flat : Bool) → pinfu w opened (standard p ms) ≡ flat → (parts flat).menzen_ron ≡ menzen_ron_fu (is_tsumo w) opened
+      go true e = closed_ron (is_tsumo w) opened (is_closed w opened p ms e)
       go false e = refl
 
-  pub melds-part : (breakdown w opened (standard p ms)).melds ≡ meldsFu w ms
-  unfolding breakdown countedParts
-  melds-part = go (pinfu w opened (standard p ms)) refl
+  pub melds_part : (breakdown w opened (standard p ms)).melds ≡ melds_fu w ms
+  unfolding breakdown counted_parts
+  melds_part = go (pinfu w opened (standard p ms)) refl
     where
-      go : (flat : Bool) → pinfu w opened (standard p ms) ≡ flat → (parts flat).melds ≡ meldsFu w ms
-      go true e = no-melds-fu w opened p ms e
+      go : (flat : Bool) → pinfu w opened (standard p ms) ≡ flat → (parts flat).melds ≡ melds_fu w ms
+      go true e = no_melds_fu w opened p ms e
       go false e = refl
 
-  pub pair-part : (breakdown w opened (standard p ms)).pair ≡ pairFu w p
-  unfolding breakdown countedParts
-  pair-part = go (pinfu w opened (standard p ms)) refl
+  pub pair_part : (breakdown w opened (standard p ms)).pair ≡ pair_fu w p
+  unfolding breakdown counted_parts
+  pair_part = go (pinfu w opened (standard p ms)) refl
     where
-      go : (flat : Bool) → pinfu w opened (standard p ms) ≡ flat → (parts flat).pair ≡ pairFu w p
-      go true e = pair-without-fu w opened p ms e
+      go : (flat : Bool) → pinfu w opened (standard p ms) ≡ flat → (parts flat).pair ≡ pair_fu w p
+      go true e = pair_without_fu w opened p ms e
       go false e = refl
 
   -- 2 for a tsumo and 2 for a close wait, but none for either in a pinfu
-  pub tsumo-part : (breakdown w opened (standard p ms)).tsumo ≡ cond (pinfu w opened (standard p ms)) 0 (tsumoFu (isTsumo w))
-  unfolding breakdown countedParts
-  tsumo-part = go (pinfu w opened (standard p ms))
+  pub tsumo_part : (breakdown w opened (standard p ms)).tsumo ≡ cond (pinfu w opened (standard p ms)) 0 (tsumo_fu (is_tsumo w))
+  unfolding breakdown counted_parts
+  tsumo_part = go (pinfu w opened (standard p ms))
     where
-      go : (flat : Bool) → (parts flat).tsumo ≡ cond flat 0 (tsumoFu (isTsumo w))
+      go : (flat : Bool) → (parts flat).tsumo ≡ cond flat 0 (tsumo_fu (is_tsumo w))
       go true = refl
       go false = refl
 
-  pub wait-part : (breakdown w opened (standard p ms)).wait ≡ cond (pinfu w opened (standard p ms)) 0 (waitFu w p ms)
-  unfolding breakdown countedParts
-  wait-part = go (pinfu w opened (standard p ms))
+  pub wait_part : (breakdown w opened (standard p ms)).wait ≡ cond (pinfu w opened (standard p ms)) 0 (wait_fu w p ms)
+  unfolding breakdown counted_parts
+  wait_part = go (pinfu w opened (standard p ms))
     where
-      go : (flat : Bool) → (parts flat).wait ≡ cond flat 0 (waitFu w p ms)
+      go : (flat : Bool) → (parts flat).wait ≡ cond flat 0 (wait_fu w p ms)
       go true = refl
       go false = refl
 
 -- ---- the melds' part is the sum of the fu of the melds at the places 0 to 3
-four-places : (l : List ℕ) → length l ≤ 4 → total l ≡ get_or l 0 0 + (get_or l 1 0 + (get_or l 2 0 + (get_or l 3 0 + 0)))
-four-places [] h = refl
-four-places (a ∷ []) h = refl
-four-places (a ∷ b ∷ []) h = refl
-four-places (a ∷ b ∷ c ∷ []) h = refl
-four-places (a ∷ b ∷ c ∷ d ∷ []) h = refl
-four-places (a ∷ b ∷ c ∷ d ∷ e ∷ l) h = absurd (omega arith)
+four_places : (l : List ℕ) → length l ≤ 4 → total l ≡ get_or l 0 0 + (get_or l 1 0 + (get_or l 2 0 + (get_or l 3 0 + 0)))
+four_places [] h = refl
+four_places (a ∷ []) h = refl
+four_places (a ∷ b ∷ []) h = refl
+four_places (a ∷ b ∷ c ∷ []) h = refl
+four_places (a ∷ b ∷ c ∷ d ∷ []) h = refl
+four_places (a ∷ b ∷ c ∷ d ∷ e ∷ l) h = absurd (omega arith)
 
-pub melds-by-place :
+pub melds_by_place :
     (w : GameContext) (opened : Bool) (r : Reading) → Short r
-    → (breakdown w opened r).melds ≡ sum (λ i. meldFuAt w i r) (0 ∷ 1 ∷ 2 ∷ 3 ∷ [])
-unfolding breakdown meldFuAt
-melds-by-place w opened (pairs ps) h = refl
-melds-by-place w opened (orphans p) h = refl
-melds-by-place w opened (standard p ms) h =
-    melds-part w opened p ms ∙ four-places (map (meldFu w (spared w ms)) ms) (rw length-map h)
+    → (breakdown w opened r).melds ≡ sum (λ i. meld_fu_at w i r) (0 ∷ 1 ∷ 2 ∷ 3 ∷ [])
+unfolding breakdown meld_fu_at
+melds_by_place w opened (pairs ps) h = refl
+melds_by_place w opened (orphans p) h = refl
+melds_by_place w opened (standard p ms) h =
+    melds_part w opened p ms ∙ four_places (map (meld_fu w (spared w ms)) ms) (rw length-map h)
 
 -- ---- rounding adds less than 10 to a closed hand, and at most 10 to an open one
-pub closed-rounding : (w : GameContext) (r : Reading) → (breakdown w false r).rounding < 10
-unfolding breakdown countedParts
-closed-rounding w (pairs ps) = lit< tt
-closed-rounding w (orphans p) = lit< tt
-closed-rounding w (standard p ms) = go (pinfu w false (standard p ms))
+pub closed_rounding : (w : GameContext) (r : Reading) → (breakdown w false r).rounding < 10
+unfolding breakdown counted_parts
+closed_rounding w (pairs ps) = lit< tt
+closed_rounding w (orphans p) = lit< tt
+closed_rounding w (standard p ms) = go (pinfu w false (standard p ms))
   where
     go : (flat : Bool) → (parts w false p ms flat).rounding < 10
     go true = lit< tt
-    go false = rounding-closed (unrounded w false p ms)
+    go false = rounding_closed (unrounded w false p ms)
 
-pub open-rounding : (w : GameContext) (r : Reading) → (breakdown w true r).rounding ≤ 10
-unfolding breakdown countedParts
-open-rounding w (pairs ps) = lit≤ tt
-open-rounding w (orphans p) = lit≤ tt
-open-rounding w (standard p ms) = go (pinfu w true (standard p ms))
+pub open_rounding : (w : GameContext) (r : Reading) → (breakdown w true r).rounding ≤ 10
+unfolding breakdown counted_parts
+open_rounding w (pairs ps) = lit≤ tt
+open_rounding w (orphans p) = lit≤ tt
+open_rounding w (standard p ms) = go (pinfu w true (standard p ms))
   where
     go : (flat : Bool) → (parts w true p ms flat).rounding ≤ 10
     go true = lit≤ tt
-    go false = rounding-open (unrounded w true p ms) (omega arith)
+    go false = rounding_open (unrounded w true p ms) (omega arith)

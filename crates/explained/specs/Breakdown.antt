@@ -1,75 +1,75 @@
 -- The parts of the fu of a reading. w is the win, `opened` whether something was called from another player. These are definitions; the laws
--- `adds-up` and `answered-fu` say that they add up to the fu of the reading.
+-- `adds_up` and `answered_fu` say that they add up to the fu of the reading.
 use Rattle.std.specs.Prelude.{Bool, ◌||◌, cond, List, map, ℕ, ◌+◌, ◌-◌, get_or}
 use Rattle.lists.specs.Fold.{sum}
 use Rattle.meld.specs.declared.Meld.{Meld}
 use Rattle.context.specs.declared.GameContext.{GameContext}
-use Rattle.context.specs.Context.{isTsumo}
+use Rattle.context.specs.Context.{is_tsumo}
 use Rattle.hand.specs.Reading.{Reading, pairs, orphans, standard}
 use Rattle.wait.specs.Wait.{pinfu}
 use Rattle.wait.specs.Concealed.{spared}
-use Rattle.fu.specs.Fu.{meldFu, pairFu, waitFu, baseFu, roundUpTo10, atLeast30}
+use Rattle.fu.specs.Fu.{meld_fu, pair_fu, wait_fu, base_fu, round_up_to10, at_least30}
 use Rattle.explained.specs.declared.breakdown.FuBreakdown.{FuBreakdown}
 
 -- a base and nothing else
-abbrev pub onlyBase : ℕ → FuBreakdown
-onlyBase n = record { base = n; menzen_ron = 0; tsumo = 0; melds = 0; pair = 0; wait = 0; rounding = 0 }
+abbrev pub only_base : ℕ → FuBreakdown
+only_base n = record { base = n; menzen_ron = 0; tsumo = 0; melds = 0; pair = 0; wait = 0; rounding = 0 }
 
 -- pinfu: 20, and 10 by ron, as the hand is closed; nothing for a tsumo
-abbrev pub pinfuParts : Bool → FuBreakdown
-pinfuParts byTsumo =
-    record { base = 20; menzen_ron = cond byTsumo 0 10; tsumo = 0; melds = 0; pair = 0; wait = 0; rounding = 0 }
+abbrev pub pinfu_parts : Bool → FuBreakdown
+pinfu_parts by_tsumo =
+    record { base = 20; menzen_ron = cond by_tsumo 0 10; tsumo = 0; melds = 0; pair = 0; wait = 0; rounding = 0 }
 
 -- 10 for a closed ron
-abbrev pub menzenRonFu : Bool → Bool → ℕ
-menzenRonFu byTsumo opened = cond (byTsumo || opened) 0 10
+abbrev pub menzen_ron_fu : Bool → Bool → ℕ
+menzen_ron_fu by_tsumo opened = cond (by_tsumo || opened) 0 10
 
 -- 2 for a tsumo
-abbrev pub tsumoFu : Bool → ℕ
-tsumoFu byTsumo = cond byTsumo 2 0
+abbrev pub tsumo_fu : Bool → ℕ
+tsumo_fu by_tsumo = cond by_tsumo 2 0
 
 -- the fu of the four melds
-abbrev pub meldsFu : GameContext → List Meld → ℕ
-meldsFu w ms = sum (meldFu w (spared w ms)) ms
+abbrev pub melds_fu : GameContext → List Meld → ℕ
+melds_fu w ms = sum (meld_fu w (spared w ms)) ms
 
 -- the sum before rounding
 abbrev pub unrounded : GameContext → Bool → ℕ → List Meld → ℕ
-unrounded w opened p ms = baseFu w opened + meldsFu w ms + pairFu w p + waitFu w p ms
+unrounded w opened p ms = base_fu w opened + melds_fu w ms + pair_fu w p + wait_fu w p ms
 
 -- what is added to n: up to the next ten, in an open hand up to 30 at least
-abbrev pub roundingFu : Bool → ℕ → ℕ
-roundingFu opened n = atLeast30 opened (roundUpTo10 n) - n
+abbrev pub rounding_fu : Bool → ℕ → ℕ
+rounding_fu opened n = at_least30 opened (round_up_to10 n) - n
 
 -- a pair and four melds that are no pinfu
-unfoldable pub countedParts : GameContext → Bool → ℕ → List Meld → FuBreakdown
-countedParts w opened p ms =
+unfoldable pub counted_parts : GameContext → Bool → ℕ → List Meld → FuBreakdown
+counted_parts w opened p ms =
     record {
       base = 20;
-      menzen_ron = menzenRonFu (isTsumo w) opened;
-      tsumo = tsumoFu (isTsumo w);
-      melds = meldsFu w ms;
-      pair = pairFu w p;
-      wait = waitFu w p ms;
-      rounding = roundingFu opened (unrounded w opened p ms);
+      menzen_ron = menzen_ron_fu (is_tsumo w) opened;
+      tsumo = tsumo_fu (is_tsumo w);
+      melds = melds_fu w ms;
+      pair = pair_fu w p;
+      wait = wait_fu w p ms;
+      rounding = rounding_fu opened (unrounded w opened p ms);
     }
 
 -- seven pairs have 25, thirteen orphans 30
 unfoldable pub breakdown : GameContext → Bool → Reading → FuBreakdown
-breakdown w opened (pairs ps) = onlyBase 25
-breakdown w opened (orphans p) = onlyBase 30
+breakdown w opened (pairs ps) = only_base 25
+breakdown w opened (orphans p) = only_base 30
 breakdown w opened (standard p ms) =
-    cond (pinfu w opened (standard p ms)) (pinfuParts (isTsumo w)) (countedParts w opened p ms)
+    cond (pinfu w opened (standard p ms)) (pinfu_parts (is_tsumo w)) (counted_parts w opened p ms)
 
 -- the fu of the meld at a place of the list; 0 past its end
-abbrev pub fuAt : GameContext → List Meld → ℕ → ℕ
-fuAt w ms i = get_or (map (meldFu w (spared w ms)) ms) i 0
+abbrev pub fu_at : GameContext → List Meld → ℕ → ℕ
+fu_at w ms i = get_or (map (meld_fu w (spared w ms)) ms) i 0
 
 -- the fu of the meld at a place of the reading; 0 where none stands
-unfoldable pub meldFuAt : GameContext → ℕ → Reading → ℕ
-meldFuAt w i (pairs ps) = 0
-meldFuAt w i (orphans p) = 0
-meldFuAt w i (standard p ms) = fuAt w ms i
+unfoldable pub meld_fu_at : GameContext → ℕ → Reading → ℕ
+meld_fu_at w i (pairs ps) = 0
+meld_fu_at w i (orphans p) = 0
+meld_fu_at w i (standard p ms) = fu_at w ms i
 
 -- the sum of the parts
-abbrev pub partsSum : FuBreakdown → ℕ
-partsSum b = b.base + b.menzen_ron + b.tsumo + b.melds + b.pair + b.wait + b.rounding
+abbrev pub parts_sum : FuBreakdown → ℕ
+parts_sum b = b.base + b.menzen_ron + b.tsumo + b.melds + b.pair + b.wait + b.rounding

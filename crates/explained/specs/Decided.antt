@@ -2,9 +2,9 @@
 -- differ. Without a yaku a reading is never chosen, so the laws speak of two scores with a yaku. These are definitions.
 use Rattle.std.specs.Prelude.{Bool, not, cond, ℕ, eqb}
 use Rattle.std.specs.Bool.{beq}
-use Rattle.scoring.specs.Payment.{totalAt}
+use Rattle.scoring.specs.Payment.{total_at}
 use Rattle.reading_score.specs.declared.ScoringResult.{ScoringResult}
-use Rattle.reading_score.specs.Preferred.{Preferred, by_total, by-yakuman, by-han, by-fu}
+use Rattle.reading_score.specs.Preferred.{Preferred, by_total, by_yakuman, by_han, by_fu}
 use Rattle.explained.specs.declared.decided.Decided.{Decided}
 use Rattle.explained.specs.declared.decided.Decided.TheVariants.{Total, Yakuman, Han, Fu, Order}
 
@@ -13,17 +13,17 @@ abbrev pub first_of : Bool → Bool → Bool → Bool → Decided
 first_of total yakuman han fu = cond total Total (cond yakuman Yakuman (cond han Han (cond fu Fu Order)))
 
 -- at a table of so many players: a greater total, a yakuman, more han, more fu
-unfoldable pub decidedBy : ℕ → ScoringResult → ScoringResult → Decided
-decidedBy players x y =
+unfoldable pub decided_by : ℕ → ScoringResult → ScoringResult → Decided
+decided_by players x y =
     first_of
-    (not (eqb (totalAt players x.payment) (totalAt players y.payment)))
+    (not (eqb (total_at players x.payment) (total_at players y.payment)))
     (not (beq x.is_yakuman y.is_yakuman))
     (not (eqb x.han y.han))
     (not (eqb x.fu y.fu))
 
 -- the rule by which y is preferred to x
-abbrev pub ruleOf : {players : ℕ} {x y : ScoringResult} → Preferred players x y → Decided
-ruleOf (by_total l) = Total
-ruleOf (by-yakuman e f g) = Yakuman
-ruleOf (by-han e f l) = Han
-ruleOf (by-fu e f g l) = Fu
+abbrev pub rule_of : {players : ℕ} {x y : ScoringResult} → Preferred players x y → Decided
+rule_of (by_total l) = Total
+rule_of (by_yakuman e f g) = Yakuman
+rule_of (by_han e f l) = Han
+rule_of (by_fu e f g l) = Fu

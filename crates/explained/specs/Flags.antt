@@ -1,10 +1,10 @@
--- Why a flag of the win counts nothing; crates/yaku/specs/Tally.antt says when each counts, and the law `flag-tally` joins the two. The flags
+-- Why a flag of the win counts nothing; crates/yaku/specs/Tally.antt says when each counts, and the law `flag_tally` joins the two. The flags
 -- by number: 0 riichi, 1 double riichi, 2 ippatsu, 3 rinshan, 4 chankan, 5 last tile, 6 tenhou, 7 chiihou. w is the win, `opened` whether
 -- something was called from another player. These are definitions.
 use Rattle.std.specs.Prelude.{Bool, true, false, not, cond, List, [], ◌∷◌, ℕ, leb, get_or}
 use Rattle.lists.specs.Fold.{sum}
 use Rattle.context.specs.declared.GameContext.{GameContext}
-use Rattle.context.specs.Context.{isDealer, isTsumo}
+use Rattle.context.specs.Context.{is_dealer, is_tsumo}
 use Rattle.yaku.specs.declared.names.Yaku.{Yaku}
 use Rattle.yaku.specs.declared.names.Yaku.TheVariants.{Riichi, DoubleRiichi, Ippatsu, RinshanKaihou, Chankan, HaiteiRaoyue, HouteiRaoyui, Tenhou, Chiihou}
 use Rattle.yaku.specs.Names.{tallied}
@@ -38,15 +38,15 @@ abbrev pub unreplaced : Bool → Uncounted
 unreplaced replacement = cond replacement Replacement Counts
 
 -- a win on the first draw is by tsumo, with a closed hand
-abbrev pub firstDraw : Bool → Bool → Uncounted → Uncounted
-firstDraw byTsumo opened rest = cond (not byTsumo) ByRon (cond opened Open rest)
+abbrev pub first_draw : Bool → Bool → Uncounted → Uncounted
+first_draw by_tsumo opened rest = cond (not by_tsumo) ByRon (cond opened Open rest)
 
 -- the dealer's win on the first draw is tenhou, another player's chiihou
-abbrev pub tenhouDealer : Bool → Uncounted
-tenhouDealer dealer = cond (not dealer) NotDealer Counts
+abbrev pub tenhou_dealer : Bool → Uncounted
+tenhou_dealer dealer = cond (not dealer) NotDealer Counts
 
-abbrev pub chiihouDealer : Bool → Uncounted
-chiihouDealer dealer = cond dealer Dealer Counts
+abbrev pub chiihou_dealer : Bool → Uncounted
+chiihou_dealer dealer = cond dealer Dealer Counts
 
 -- the first reason against each flag, if it is set
 abbrev pub reasons : GameContext → Bool → List Uncounted
@@ -54,11 +54,11 @@ reasons w opened =
     declared opened w.is_riichi Counts
     ∷ declared opened w.is_riichi Counts
     ∷ declared opened w.is_riichi (unreplaced (rinshan w))
-    ∷ cond (not (isTsumo w)) ByRon Counts
-    ∷ cond (isTsumo w) ByTsumo Counts
+    ∷ cond (not (is_tsumo w)) ByRon Counts
+    ∷ cond (is_tsumo w) ByTsumo Counts
     ∷ unreplaced (rinshan w)
-    ∷ firstDraw (isTsumo w) opened (tenhouDealer (isDealer w))
-    ∷ firstDraw (isTsumo w) opened (chiihouDealer (isDealer w))
+    ∷ first_draw (is_tsumo w) opened (tenhou_dealer (is_dealer w))
+    ∷ first_draw (is_tsumo w) opened (chiihou_dealer (is_dealer w))
     ∷ []
 
 -- that against the flag with this number
@@ -66,36 +66,36 @@ unfoldable pub reason : GameContext → Bool → ℕ → Uncounted
 reason w opened f = get_or (reasons w opened) f NotSet
 
 -- why the flag counts nothing
-unfoldable pub whyUncounted : GameContext → Bool → ℕ → Uncounted
-whyUncounted w opened f = cond (not (is_set w f)) NotSet (reason w opened f)
+unfoldable pub why_uncounted : GameContext → Bool → ℕ → Uncounted
+why_uncounted w opened f = cond (not (is_set w f)) NotSet (reason w opened f)
 
 -- does it count, unless a yakuman leaves it out
-abbrev pub isCounted : Uncounted → Bool
-isCounted Counts = true
-isCounted NotSet = false
-isCounted Open = false
-isCounted NoRiichi = false
-isCounted ByRon = false
-isCounted ByTsumo = false
-isCounted Replacement = false
-isCounted NotDealer = false
-isCounted Dealer = false
+abbrev pub is_counted : Uncounted → Bool
+is_counted Counts = true
+is_counted NotSet = false
+is_counted Open = false
+is_counted NoRiichi = false
+is_counted ByRon = false
+is_counted ByTsumo = false
+is_counted Replacement = false
+is_counted NotDealer = false
+is_counted Dealer = false
 
 -- is it true of the win
-abbrev pub isTrue : GameContext → Bool → ℕ → Uncounted → Bool
-isTrue w opened f Counts = is_set w f
-isTrue w opened f NotSet = not (is_set w f)
-isTrue w opened f Open = opened
-isTrue w opened f NoRiichi = not w.is_riichi
-isTrue w opened f ByRon = not (isTsumo w)
-isTrue w opened f ByTsumo = isTsumo w
-isTrue w opened f Replacement = rinshan w
-isTrue w opened f NotDealer = not (isDealer w)
-isTrue w opened f Dealer = isDealer w
+abbrev pub is_true : GameContext → Bool → ℕ → Uncounted → Bool
+is_true w opened f Counts = is_set w f
+is_true w opened f NotSet = not (is_set w f)
+is_true w opened f Open = opened
+is_true w opened f NoRiichi = not w.is_riichi
+is_true w opened f ByRon = not (is_tsumo w)
+is_true w opened f ByTsumo = is_tsumo w
+is_true w opened f Replacement = rinshan w
+is_true w opened f NotDealer = not (is_dealer w)
+is_true w opened f Dealer = is_dealer w
 
 -- the yaku that each flag gives
-abbrev pub flagYaku : List (List Yaku)
-flagYaku =
+abbrev pub flag_yaku : List (List Yaku)
+flag_yaku =
     (Riichi ∷ DoubleRiichi ∷ [])
     ∷ (DoubleRiichi ∷ [])
     ∷ (Ippatsu ∷ [])
@@ -107,9 +107,9 @@ flagYaku =
     ∷ []
 
 -- tenhou and chiihou are yakuman, which no other leaves out
-abbrev pub isYakumanFlag : ℕ → Bool
-isYakumanFlag f = leb 6 f
+abbrev pub is_yakuman_flag : ℕ → Bool
+is_yakuman_flag f = leb 6 f
 
 -- how often those of the flag with this number count by the tallies ts
 abbrev pub tally_of : ℕ → List ℕ → ℕ
-tally_of f ts = sum (λ y. tallied y ts) (get_or flagYaku f [])
+tally_of f ts = sum (λ y. tallied y ts) (get_or flag_yaku f [])

@@ -1,8 +1,8 @@
 // The parts of the fu of a reading (FuBreakdown of agari's scoring.rs, with what rounding adds in place of the sum before it).
 ghost use Rattle.std.specs.Prelude.{◌≡◌};
-ghost use Rattle.context.specs.Context.{isTsumo};
+ghost use Rattle.context.specs.Context.{is_tsumo};
 ghost use Rattle.structure.specs.Structure.{reading_of};
-ghost use Rattle.explained.specs.Breakdown.{onlyBase, pinfuParts, countedParts, breakdown, fuAt, meldFuAt};
+ghost use Rattle.explained.specs.Breakdown.{only_base, pinfu_parts, counted_parts, breakdown, fu_at, meld_fu_at};
 
 // The parts; they add up to the fu of the reading.
 #[derive(Drop)]
@@ -18,7 +18,7 @@ pub struct FuBreakdown {
 
 // A base and nothing else.
 fn only_base(n: u8) -> FuBreakdown
-    ensures { result ≡ onlyBase n }
+    ensures { result ≡ only_base n }
 {
     FuBreakdown {
         base: n,
@@ -33,7 +33,7 @@ fn only_base(n: u8) -> FuBreakdown
 
 // The parts of a pinfu: 20, and 10 by ron.
 fn pinfu_parts(w: context::GameContext) -> FuBreakdown
-    ensures { result ≡ pinfuParts (isTsumo w) }
+    ensures { result ≡ pinfu_parts (is_tsumo w) }
 {
     FuBreakdown {
         base: 20,
@@ -53,7 +53,7 @@ fn counted_parts(
     w: context::GameContext,
     opened: bool,
 ) -> FuBreakdown
-    ensures { result ≡ countedParts w opened pair ms }
+    ensures { result ≡ counted_parts w opened pair ms }
 {
     let tsumo = w.is_tsumo();
     let kept = wait::winning_tile_in_closed_sequence(ms, w);
@@ -90,7 +90,7 @@ pub fn fu_breakdown(h: structure::Hand, w: context::GameContext, opened: bool) -
 
 // The fu of one of four melds, by its place.
 fn fu_at(ms: [meld::Meld; 4], w: context::GameContext, i: usize) -> u8
-    ensures { result ≡ fuAt w ms i }
+    ensures { result ≡ fu_at w ms i }
 {
     if 4 <= i {
         return 0;
@@ -101,7 +101,7 @@ fn fu_at(ms: [meld::Meld; 4], w: context::GameContext, i: usize) -> u8
 
 // The fu of a meld of a reading, by its place, 0 to 3; 0 for any other place, and in readings without melds.
 pub fn meld_fu(h: structure::Hand, w: context::GameContext, i: usize) -> u8
-    ensures { result ≡ meldFuAt w i (reading_of h) }
+    ensures { result ≡ meld_fu_at w i (reading_of h) }
 {
     let s = h.structure;
     let structure::HandStructure::Standard { pair: _ } = s else {

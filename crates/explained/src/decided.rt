@@ -1,7 +1,7 @@
 // What decided between the scores of two readings. Without a yaku a reading is never chosen, whatever its score.
 ghost use Rattle.std.specs.Prelude.{◌≡◌};
 ghost use Rattle.rules.specs.Rules.{game};
-ghost use Rattle.explained.specs.Decided.{first_of, decidedBy};
+ghost use Rattle.explained.specs.Decided.{first_of, decided_by};
 
 // The rule by which one is preferred; `Order` where none tells them apart, so that the first listed is chosen.
 #[derive(Drop)]
@@ -38,7 +38,7 @@ pub fn decided_by(
     y: reading_score::ScoringResult,
     v: rules::Variant,
 ) -> Decided
-    ensures { result ≡ decidedBy (game v).players x y }
+    ensures { result ≡ decided_by (game v).players x y }
 {
     let xs = x.payment;
     let ys = y.payment;

@@ -1,8 +1,8 @@
 // Why a flag of the win counts nothing. The flags by number, in the order of GameContext: 0 riichi, 1 double riichi, 2 ippatsu, 3 rinshan,
 // 4 chankan, 5 last tile, 6 tenhou, 7 chiihou.
 ghost use Rattle.std.specs.Prelude.{◌≡◌, cond};
-ghost use Rattle.context.specs.Context.{isTsumo};
-ghost use Rattle.explained.specs.Flags.{declared, firstDraw, is_set, reason, whyUncounted};
+ghost use Rattle.context.specs.Context.{is_tsumo};
+ghost use Rattle.explained.specs.Flags.{declared, first_draw, is_set, reason, why_uncounted};
 
 // It counts (unless a yakuman leaves it out), it is not set, or the first reason why it does not count.
 #[derive(Drop)]
@@ -38,7 +38,7 @@ fn declared(w: context::GameContext, opened: bool, rest: Uncounted) -> Uncounted
 
 // A win on the first draw is by tsumo, with a closed hand.
 fn first_draw(w: context::GameContext, opened: bool, rest: Uncounted) -> Uncounted
-    ensures { result ≡ firstDraw (isTsumo w) opened rest }
+    ensures { result ≡ first_draw (is_tsumo w) opened rest }
 {
     unless(
         !w.is_tsumo(),
@@ -97,7 +97,7 @@ fn reason(w: context::GameContext, opened: bool, flag: usize) -> Uncounted
 
 // Why the flag with this number counts nothing.
 pub fn why_uncounted(w: context::GameContext, opened: bool, flag: usize) -> Uncounted
-    ensures { result ≡ whyUncounted w opened flag }
+    ensures { result ≡ why_uncounted w opened flag }
 {
     unless(!is_set(w, flag), Uncounted::NotSet, reason(w, opened, flag))
 }

@@ -2,9 +2,9 @@
 ghost use Rattle.std.specs.Prelude.{◌≡◌, cond, ◌&&◌, ◌||◌, ◌+◌, ◌*◌, ◌/◌, ◌≤◌, max, eqb};
 ghost use Rattle.lists.specs.Fold.{any, sum};
 ghost use Rattle.structure.specs.Structure.{reading_of};
-ghost use Rattle.wait.specs.Wait.{closedRun, edge, middle};
+ghost use Rattle.wait.specs.Wait.{closed_run, edge, middle};
 ghost use Rattle.wait.specs.Concealed.{spared};
-ghost use Rattle.fu.specs.Fu.{meldFu, pairFu, waitFu, baseFu, roundUpTo10, atLeast30, fu};
+ghost use Rattle.fu.specs.Fu.{meld_fu, pair_fu, wait_fu, base_fu, round_up_to10, at_least30, fu};
 
 // One number or another.
 pub fn pick(b: bool, yes: u8, no: u8) -> u8
@@ -15,7 +15,7 @@ pub fn pick(b: bool, yes: u8, no: u8) -> u8
 
 // The fu of a meld; `kept` where a closed sequence holds the winning tile.
 pub fn meld_fu_with_context(m: meld::Meld, w: context::GameContext, kept: bool) -> u8
-    ensures { (result ≡ meldFu w kept m) × (result ≤ 32) }
+    ensures { (result ≡ meld_fu w kept m) × (result ≤ 32) }
 {
     if m.is_sequence() {
         return 0;
@@ -27,7 +27,7 @@ pub fn meld_fu_with_context(m: meld::Meld, w: context::GameContext, kept: bool) 
 
 // The fu of four melds.
 pub fn melds_fu(ms: [meld::Meld; 4], w: context::GameContext, kept: bool) -> u8
-    ensures { (result ≡ sum (meldFu w kept) ms) × (result ≤ 128) }
+    ensures { (result ≡ sum (meld_fu w kept) ms) × (result ≤ 128) }
 {
     meld_fu_with_context(ms[0], w, kept)
         + (meld_fu_with_context(ms[1], w, kept)
@@ -36,7 +36,7 @@ pub fn melds_fu(ms: [meld::Meld; 4], w: context::GameContext, kept: bool) -> u8
 
 // The fu of a pair: 2 for each time that it counts, but for a wind that is both round and seat wind what the room's setting says.
 pub fn pair_fu(pair: u8, w: context::GameContext) -> u8
-    ensures { (result ≡ pairFu w pair) × (result ≤ 4) }
+    ensures { (result ≡ pair_fu w pair) × (result ≤ 4) }
 {
     if (pair == w.round_wind) & (pair == w.seat_wind) {
         return pick(w.double_wind_fu == 2, 2, 4);
@@ -50,7 +50,7 @@ pub fn pair_fu(pair: u8, w: context::GameContext) -> u8
 
 // Can the tile have completed one of the melds at an edge?
 fn any_penchan(ms: [meld::Meld; 4], t: u8) -> bool
-    ensures { result ≡ any (closedRun edge t) ms }
+    ensures { result ≡ any (closed_run edge t) ms }
 {
     wait::is_penchan(ms[0], t)
         | (wait::is_penchan(ms[1], t) | (wait::is_penchan(ms[2], t) | wait::is_penchan(ms[3], t)))
@@ -58,7 +58,7 @@ fn any_penchan(ms: [meld::Meld; 4], t: u8) -> bool
 
 // Can it have completed one of them in the middle?
 fn any_kanchan(ms: [meld::Meld; 4], t: u8) -> bool
-    ensures { result ≡ any (closedRun middle t) ms }
+    ensures { result ≡ any (closed_run middle t) ms }
 {
     wait::is_kanchan(ms[0], t)
         | (wait::is_kanchan(ms[1], t) | (wait::is_kanchan(ms[2], t) | wait::is_kanchan(ms[3], t)))
@@ -66,7 +66,7 @@ fn any_kanchan(ms: [meld::Meld; 4], t: u8) -> bool
 
 // The fu of the wait: 2 on the pair, on an edge or in the middle.
 pub fn wait_fu(ms: [meld::Meld; 4], pair: u8, w: context::GameContext) -> u8
-    ensures { (result ≡ waitFu w pair ms) × (result ≤ 2) }
+    ensures { (result ≡ wait_fu w pair ms) × (result ≤ 2) }
 {
     let t = w.winning_tile;
     pick(
@@ -78,7 +78,7 @@ pub fn wait_fu(ms: [meld::Meld; 4], pair: u8, w: context::GameContext) -> u8
 
 // The fu that every hand has: 20, and 2 for a tsumo or 10 for a closed ron.
 fn base_fu(w: context::GameContext, opened: bool) -> u8
-    ensures { (result ≡ baseFu w opened) × (result ≤ 30) }
+    ensures { (result ≡ base_fu w opened) × (result ≤ 30) }
 {
     20 + pick(w.is_tsumo(), 2, pick(opened, 0, 10))
 }
@@ -93,7 +93,7 @@ fn at_least_30(n: u8) -> u8
 // Fu rounded up to 10; an open hand has at least 30.
 pub fn rounded_fu(n: u8, opened: bool) -> u8
     requires { n ≤ 164 }
-    ensures { result ≡ atLeast30 opened (roundUpTo10 n) }
+    ensures { result ≡ at_least30 opened (round_up_to10 n) }
 {
     let up = (n + 9) / 10 * 10;
     if opened {
@@ -104,7 +104,7 @@ pub fn rounded_fu(n: u8, opened: bool) -> u8
 
 // The fu of a pair and four melds that are no pinfu, before rounding.
 pub fn raw_fu(ms: [meld::Meld; 4], pair: u8, w: context::GameContext, opened: bool) -> u8
-    ensures { (result ≡ baseFu w opened + sum (meldFu w (spared w ms)) ms + pairFu w pair + waitFu w pair ms) × (result ≤ 164) }
+    ensures { (result ≡ base_fu w opened + sum (meld_fu w (spared w ms)) ms + pair_fu w pair + wait_fu w pair ms) × (result ≤ 164) }
 {
     let kept = wait::winning_tile_in_closed_sequence(ms, w);
     let melds = melds_fu(ms, w, kept);

@@ -13,16 +13,16 @@ use lib.Dec.{T, eqb, ltb, leb, eqb→eq, leb→le, le→leb, ltb→lt, T_not}
 use lib.ListN.{length, length-append, length-map}
 use borrow.Author.Tests.{le-leb, lt-leb, lt-ltb, le-ltb, eq-eqb, ne_eqb, ltb-true, ltb-false}
 use Rattle.lists.specs.Fold.{all, flat, one, up_from}
-use Rattle.lists.proofs.Finite.{at, and_left, and_right, and_both, T→true, ¬T→false, T-eq, allBelow-intro}
-use Rattle.lists.proofs.Members.{all-intro, flat-mem}
-use Rattle.lists.proofs.Ranges.{upFrom-split, in-upFrom}
-use Rattle.lists.proofs.Arranged.{pick-mem}
-use Rattle.tile.specs.Tile.{isStart, tiles}
+use Rattle.lists.proofs.Finite.{at, and_left, and_right, and_both, T→true, ¬T→false, T-eq, all_below_intro_holds}
+use Rattle.lists.proofs.Members.{all_intro, flat_mem}
+use Rattle.lists.proofs.Ranges.{up_from_split_holds, in_up_from_holds}
+use Rattle.lists.proofs.Arranged.{pick_mem}
+use Rattle.tile.specs.Tile.{is_start, tiles}
 use Rattle.meld.specs.declared.Meld.{Meld}
-use Rattle.meld.specs.Meld.{handMelds, handMeldsAt, isHandMeld, meld, runUses, uses}
-use Rattle.meld.proofs.Melds.{is-handMeld}
-use Rattle.hand.specs.Readings.{find, fits, is_empty, meldLists, minus}
-use Rattle.hand.proofs.Search.{exact-empty, find-sound, findFirst}
+use Rattle.meld.specs.Meld.{hand_melds, hand_melds_at, is_hand_meld, meld, run_uses, uses}
+use Rattle.meld.proofs.Melds.{is_hand_meld_holds}
+use Rattle.hand.specs.Readings.{find, fits, is_empty, meld_lists, minus}
+use Rattle.hand.proofs.Search.{exact_empty, find_sound, find_first}
 
 -- u is the lowest tile that is left
 pub record LowestAt (c : ℕ → ℕ) (u : ℕ) : Type 0 where
@@ -38,25 +38,25 @@ Clear c u = (v : ℕ) → v < u → c v ≡ 0
 abbrev led : Bool → Meld → List (List Meld) → List (List Meld)
 led b m ls = cond b (map (λ l. m ∷ l) ls) []
 
-led-off : (b : Bool) (m : Meld) (ls : List (List Meld)) → b ≡ false → led b m ls ≡ []
-led-off b m ls e = ap (λ (a : Bool). led a m ls) e
+led_off : (b : Bool) (m : Meld) (ls : List (List Meld)) → b ≡ false → led b m ls ≡ []
+led_off b m ls e = ap (λ (a : Bool). led a m ls) e
 
-led-none : (b : Bool) (m : Meld) (ls : List (List Meld)) → ls ≡ [] → led b m ls ≡ []
-led-none true m ls e = ap (map (λ l. m ∷ l)) e
-led-none false m ls e = refl
+led_none : (b : Bool) (m : Meld) (ls : List (List Meld)) → ls ≡ [] → led b m ls ≡ []
+led_none true m ls e = ap (map (λ l. m ∷ l)) e
+led_none false m ls e = refl
 
 -- ---- how many of a tile a sequence and a triplet hold
-pub run_in : (u t : ℕ) → u ≤ t → t < u + 3 → runUses u t ≡ 1
+pub run_in : (u t : ℕ) → u ≤ t → t < u + 3 → run_uses u t ≡ 1
 run_in u t h k = ap₂ (λ (a b : Bool). one (a && b)) (le-leb u t h) (lt-ltb t (u + 3) k)
 
-pub run-before : (u t : ℕ) → t < u → runUses u t ≡ 0
-run-before u t h = ap (λ (a : Bool). one (a && ltb t (u + 3))) (lt-leb u t h)
+pub run_before : (u t : ℕ) → t < u → run_uses u t ≡ 0
+run_before u t h = ap (λ (a : Bool). one (a && ltb t (u + 3))) (lt-leb u t h)
 
-pub run-after : (u t : ℕ) → u + 3 ≤ t → runUses u t ≡ 0
-run-after u t h = ap₂ (λ (a b : Bool). one (a && b)) (le-leb u t (omega arith)) (le-ltb t (u + 3) h)
+pub run_after : (u t : ℕ) → u + 3 ≤ t → run_uses u t ≡ 0
+run_after u t h = ap₂ (λ (a b : Bool). one (a && b)) (le-leb u t (omega arith)) (le-ltb t (u + 3) h)
 
-pub set-in : (u : ℕ) → uses (meld u 2) u ≡ 3
-set-in u = ap (λ (b : Bool). cond b 3 0) (eq-eqb u u refl)
+pub set_in : (u : ℕ) → uses (meld u 2) u ≡ 3
+set_in u = ap (λ (b : Bool). cond b 3 0) (eq-eqb u u refl)
 
 pub set_out : (u t : ℕ) → (t ≡ u → ⊥) → uses (meld u 2) t ≡ 0
 set_out u t f = ap (λ (b : Bool). cond b 3 0) (ne_eqb t u f)
@@ -67,23 +67,23 @@ flat_append g [] m = refl
 flat_append g (a ∷ l) m = ap (λ (r : List _). g a ++ r) (flat_append g l m) ∙ sym (append_assoc (g a) (flat g l) (flat g m))
 
 abbrev before : ℕ → List Meld
-before u = flat handMeldsAt (up_from u 0)
+before u = flat hand_melds_at (up_from u 0)
 
 abbrev after : ℕ → List Meld
-after u = flat handMeldsAt (up_from (33 - u) (suc u))
+after u = flat hand_melds_at (up_from (33 - u) (suc u))
 
-tiles-split : (u : ℕ) → u < 34 → tiles ≡ up_from u 0 ++ (u ∷ up_from (33 - u) (suc u))
-tiles-split u h =
+tiles_split : (u : ℕ) → u < 34 → tiles ≡ up_from u 0 ++ (u ∷ up_from (33 - u) (suc u))
+tiles_split u h =
     let e : 34 ≡ u + suc (33 - u) = omega arith in
     let f : u + 0 ≡ u = omega arith in
-    ap (λ (n : ℕ). up_from n 0) e ∙ upFrom-split u (suc (33 - u)) 0 ∙ ap (λ (n : ℕ). up_from u 0 ++ up_from (suc (33 - u)) n) f
+    ap (λ (n : ℕ). up_from n 0) e ∙ up_from_split_holds u (suc (33 - u)) 0 ∙ ap (λ (n : ℕ). up_from u 0 ++ up_from (suc (33 - u)) n) f
 
-split : (u : ℕ) → u < 34 → handMelds ≡ before u ++ (handMeldsAt u ++ after u)
-split u h = ap (flat handMeldsAt) (tiles-split u h) ∙ flat_append handMeldsAt (up_from u 0) (u ∷ up_from (33 - u) (suc u))
+split : (u : ℕ) → u < 34 → hand_melds ≡ before u ++ (hand_melds_at u ++ after u)
+split u h = ap (flat hand_melds_at) (tiles_split u h) ∙ flat_append hand_melds_at (up_from u 0) (u ∷ up_from (33 - u) (suc u))
 
 -- a sequence or a triplet
-in-at : (t : ℕ) {m : Meld} → Memᴰ m (handMeldsAt t) → (m ≡ meld t 0) ⊎ (m ≡ meld t 2)
-in-at t {m} = go (isStart t)
+in_at : (t : ℕ) {m : Meld} → Memᴰ m (hand_melds_at t) → (m ≡ meld t 0) ⊎ (m ≡ meld t 2)
+in_at t {m} = go (is_start t)
   where
     last : Memᴰ m (meld t 2 ∷ []) → m ≡ meld t 2
     last i = ⊎_elim (λ e. e) (λ j. absurd (Memᴰ.not-nil j)) (Memᴰ.cases_cons i)
@@ -93,30 +93,30 @@ in-at t {m} = go (isStart t)
     go false i = inr (last i)
 
 -- it holds its own tile, and none below
-own-tile : (t : ℕ) (m : Meld) → (m ≡ meld t 0) ⊎ (m ≡ meld t 2) → 1 ≤ uses m t
-own-tile t m (inl e) = subst (λ (x : Meld). 1 ≤ uses x t) (sym e) (let h = run_in t t (omega arith) (omega arith) in omega arith)
-own-tile t m (inr e) = subst (λ (x : Meld). 1 ≤ uses x t) (sym e) (let h = set-in t in omega arith)
+own_tile : (t : ℕ) (m : Meld) → (m ≡ meld t 0) ⊎ (m ≡ meld t 2) → 1 ≤ uses m t
+own_tile t m (inl e) = subst (λ (x : Meld). 1 ≤ uses x t) (sym e) (let h = run_in t t (omega arith) (omega arith) in omega arith)
+own_tile t m (inr e) = subst (λ (x : Meld). 1 ≤ uses x t) (sym e) (let h = set_in t in omega arith)
 
 none_below : (t u : ℕ) (m : Meld) → u < t → (m ≡ meld t 0) ⊎ (m ≡ meld t 2) → uses m u ≡ 0
-none_below t u m h (inl e) = ap (λ (x : Meld). uses x u) e ∙ run-before t u h
+none_below t u m h (inl e) = ap (λ (x : Meld). uses x u) e ∙ run_before t u h
 none_below t u m h (inr e) = ap (λ (x : Meld). uses x u) e ∙ set_out t u (λ k. omega arith)
 
 after_none : (u : ℕ) (m : Meld) → Memᴰ m (after u) → uses m u ≡ 0
 after_none u m i =
-    let r = flat-mem handMeldsAt (up_from (33 - u) (suc u)) i in
-    none_below r.0 u m (in-upFrom (33 - u) (suc u) r.0 r.1).0 (in-at r.0 r.2)
+    let r = flat_mem hand_melds_at (up_from (33 - u) (suc u)) i in
+    none_below r.0 u m (in_up_from_holds (33 - u) (suc u) r.0 r.1).0 (in_at r.0 r.2)
 
 -- ---- a meld of which a tile is missing does not fit
 pub unfit : (m : Meld) (c : ℕ → ℕ) (v : ℕ) → v < 34 → c v < uses m v → fits m c ≡ false
 unfit m c v h k =
     ¬T→false (fits m c) (λ t. let g = leb→le (uses m v) (c v) (at 34 (λ t. leb (uses m t) (c t)) t v h) in omega arith)
 
-before-unfit : (c : ℕ → ℕ) (u : ℕ) → u ≤ 34 → Clear c u → (m : Meld) → Memᴰ m (before u) → fits m c ≡ false
-before-unfit c u h z m i =
-    let r = flat-mem handMeldsAt (up_from u 0) i in
-    let k : r.0 < u = (let b = (in-upFrom u 0 r.0 r.1).1 in omega arith) in
+before_unfit : (c : ℕ → ℕ) (u : ℕ) → u ≤ 34 → Clear c u → (m : Meld) → Memᴰ m (before u) → fits m c ≡ false
+before_unfit c u h z m i =
+    let r = flat_mem hand_melds_at (up_from u 0) i in
+    let k : r.0 < u = (let b = (in_up_from_holds u 0 r.0 r.1).1 in omega arith) in
     let e = z r.0 k in
-    let g = own-tile r.0 m (in-at r.0 r.2) in
+    let g = own_tile r.0 m (in_at r.0 r.2) in
     unfit m c r.0 (omega arith) (omega arith)
 
 -- ---- leading melds that do not fit change nothing
@@ -124,14 +124,14 @@ pass : (n : ℕ) (c : ℕ → ℕ) (ms rest : List Meld) → ((m : Meld) → Mem
 pass zero c ms rest f = refl
 pass (suc n) c [] rest f = refl
 pass (suc n) c (m ∷ ms) rest f =
-    ap₂ ◌++◌ (led-off (fits m c) m (find n (minus c m) (m ∷ (ms ++ rest))) (f m (Memᴰ.head refl))) (pass (suc n) c ms rest (λ x i. f x (Memᴰ.tail i)))
+    ap₂ ◌++◌ (led_off (fits m c) m (find n (minus c m) (m ∷ (ms ++ rest))) (f m (Memᴰ.head refl))) (pass (suc n) c ms rest (λ x i. f x (Memᴰ.tail i)))
 
-none-fit : (n : ℕ) (c : ℕ → ℕ) (ms : List Meld) → ((m : Meld) → Memᴰ m ms → fits m c ≡ false) → find (suc n) c ms ≡ []
-none-fit n c ms f = ap (find (suc n) c) (sym (append-nil ms)) ∙ pass (suc n) c ms [] f
+none_fit : (n : ℕ) (c : ℕ → ℕ) (ms : List Meld) → ((m : Meld) → Memᴰ m ms → fits m c ≡ false) → find (suc n) c ms ≡ []
+none_fit n c ms f = ap (find (suc n) c) (sym (append-nil ms)) ∙ pass (suc n) c ms [] f
 
 -- ---- where a tile is left that none of the melds can take, there is no list
-not-empty : (c : ℕ → ℕ) (u : ℕ) → u < 34 → 1 ≤ c u → is_empty c ≡ false
-not-empty c u h k =
+not_empty : (c : ℕ → ℕ) (u : ℕ) → u < 34 → 1 ≤ c u → is_empty c ≡ false
+not_empty c u h k =
     ¬T→false (is_empty c) (λ t. let e = eqb→eq (c u) 0 (at 34 (λ t. eqb (c t) 0) t u h) in omega arith)
 
 -- the meld m cannot take the tile u
@@ -139,39 +139,39 @@ abbrev Leaves : (ℕ → ℕ) → ℕ → Meld → Type 0
 Leaves c u m = (uses m u ≡ 0) ⊎ (c u < uses m u)
 
 module _ (n u : ℕ) (tile : u < 34) (rec : (c : ℕ → ℕ) (ms : List Meld) → 1 ≤ c u → ((m : Meld) → Memᴰ m ms → Leaves c u m) → find n c ms ≡ []) where
-  stuck-step : (c : ℕ → ℕ) (m : Meld) (ms : List Meld) → 1 ≤ c u → ((x : Meld) → Memᴰ x (m ∷ ms) → Leaves c u x) → Leaves c u m
-      → findFirst n c m (m ∷ ms) ≡ []
-  stuck-step c m ms k f (inl e) =
+  stuck_step : (c : ℕ → ℕ) (m : Meld) (ms : List Meld) → 1 ≤ c u → ((x : Meld) → Memᴰ x (m ∷ ms) → Leaves c u x) → Leaves c u m
+      → find_first n c m (m ∷ ms) ≡ []
+  stuck_step c m ms k f (inl e) =
       let same : minus c m u ≡ c u = omega arith in
-      led-none (fits m c) m (find n (minus c m) (m ∷ ms))
+      led_none (fits m c) m (find n (minus c m) (m ∷ ms))
       (rec (minus c m) (m ∷ ms) (omega arith) (λ x i. subst (λ (a : ℕ). (uses x u ≡ 0) ⊎ (a < uses x u)) (sym same) (f x i)))
-  stuck-step c m ms k f (inr g) = led-off (fits m c) m (find n (minus c m) (m ∷ ms)) (unfit m c u tile g)
+  stuck_step c m ms k f (inr g) = led_off (fits m c) m (find n (minus c m) (m ∷ ms)) (unfit m c u tile g)
 
-  stuck-over : (c : ℕ → ℕ) (ms : List Meld) → 1 ≤ c u → ((m : Meld) → Memᴰ m ms → Leaves c u m) → find (suc n) c ms ≡ []
-  stuck-over c [] k f = refl
-  stuck-over c (m ∷ ms) k f =
-      ap₂ ◌++◌ (stuck-step c m ms k f (f m (Memᴰ.head refl))) (stuck-over c ms k (λ x i. f x (Memᴰ.tail i)))
+  stuck_over : (c : ℕ → ℕ) (ms : List Meld) → 1 ≤ c u → ((m : Meld) → Memᴰ m ms → Leaves c u m) → find (suc n) c ms ≡ []
+  stuck_over c [] k f = refl
+  stuck_over c (m ∷ ms) k f =
+      ap₂ ◌++◌ (stuck_step c m ms k f (f m (Memᴰ.head refl))) (stuck_over c ms k (λ x i. f x (Memᴰ.tail i)))
 
 stuck : (n u : ℕ) → u < 34 → (c : ℕ → ℕ) (ms : List Meld) → 1 ≤ c u → ((m : Meld) → Memᴰ m ms → Leaves c u m) → find n c ms ≡ []
-stuck zero u h c ms k f = ap (λ (b : Bool). cond b ([] ∷ []) []) (not-empty c u h k)
-stuck (suc n) u h c ms k f = stuck-over n u h (stuck n u h) c ms k f
+stuck zero u h c ms k f = ap (λ (b : Bool). cond b ([] ∷ []) []) (not_empty c u h k)
+stuck (suc n) u h c ms k f = stuck_over n u h (stuck n u h) c ms k f
 
 -- ---- the search from the lowest tile on
-from-tile : (n : ℕ) (c : ℕ → ℕ) (u : ℕ) → u < 34 → Clear c u → meldLists n c ≡ find n c (handMeldsAt u ++ after u)
-unfolding meldLists
-from-tile n c u h z = ap (find n c) (split u h) ∙ pass n c (before u) (handMeldsAt u ++ after u) (before-unfit c u (omega arith) z)
+from_tile : (n : ℕ) (c : ℕ → ℕ) (u : ℕ) → u < 34 → Clear c u → meld_lists n c ≡ find n c (hand_melds_at u ++ after u)
+unfolding meld_lists
+from_tile n c u h z = ap (find n c) (split u h) ∙ pass n c (before u) (hand_melds_at u ++ after u) (before_unfit c u (omega arith) z)
 
-minus-clear : (c : ℕ → ℕ) (m : Meld) (u : ℕ) → Clear c u → Clear (minus c m) u
-minus-clear c m u z v h = let e = z v h in omega arith
+minus_clear : (c : ℕ → ℕ) (m : Meld) (u : ℕ) → Clear c u → Clear (minus c m) u
+minus_clear c m u z v h = let e = z v h in omega arith
 
 -- where none of u is left either, from its triplet on
-from-triplet : (n : ℕ) (c : ℕ → ℕ) (u : ℕ) → u < 34 → c u ≡ 0 → Clear c u → meldLists n c ≡ find n c (meld u 2 ∷ after u)
-from-triplet n c u h e z = from-tile n c u h z ∙ go (isStart u)
+from_triplet : (n : ℕ) (c : ℕ → ℕ) (u : ℕ) → u < 34 → c u ≡ 0 → Clear c u → meld_lists n c ≡ find n c (meld u 2 ∷ after u)
+from_triplet n c u h e z = from_tile n c u h z ∙ go (is_start u)
   where
     absent : (m : Meld) → Memᴰ m (meld u 0 ∷ []) → fits m c ≡ false
     absent m i =
         ⊎_elim
-        (λ q. let k = own-tile u m (inl q) in unfit m c u h (omega arith))
+        (λ q. let k = own_tile u m (inl q) in unfit m c u h (omega arith))
         (λ j. absurd (Memᴰ.not-nil j)) (Memᴰ.cases_cons i)
 
     go : (b : Bool) → find n c (cond b (meld u 0 ∷ meld u 2 ∷ []) (meld u 2 ∷ []) ++ after u) ≡ find n c (meld u 2 ∷ after u)
@@ -180,18 +180,18 @@ from-triplet n c u h e z = from-tile n c u h z ∙ go (isStart u)
 
 -- ---- the triplet of the lowest tile
 module _ (n : ℕ) (c : ℕ → ℕ) (u : ℕ) (low : LowestAt c u) where
-  triplet-fits : 3 ≤ c u → fits (meld u 2) c ≡ true
-  triplet-fits h =
-      T→true (fits (meld u 2) c) (allBelow-intro 34 (λ t. leb (uses (meld u 2) t) (c t)) (λ t k. go t (ℕ_discrete t u)))
+  triplet_fits : 3 ≤ c u → fits (meld u 2) c ≡ true
+  triplet_fits h =
+      T→true (fits (meld u 2) c) (all_below_intro_holds 34 (λ t. leb (uses (meld u 2) t) (c t)) (λ t k. go t (ℕ_discrete t u)))
     where
       go : (t : ℕ) → Dec (t ≡ u) → T (leb (uses (meld u 2) t) (c t))
       go t (yes e) =
           subst (λ (v : ℕ). T (leb (uses (meld u 2) v) (c v))) (sym e)
-          (let k = set-in u in le→leb (uses (meld u 2) u) (c u) (omega arith))
+          (let k = set_in u in le→leb (uses (meld u 2) u) (c u) (omega arith))
       go t (no f) = let k = set_out u t f in le→leb (uses (meld u 2) t) (c t) (omega arith)
 
   left : minus c (meld u 2) u ≡ c u - 3
-  left = let k = set-in u in omega arith
+  left = let k = set_in u in omega arith
 
   -- one of u is left over, and no later meld takes it
   left_over : c u ≡ 4 → find n (minus c (meld u 2)) (meld u 2 ∷ after u) ≡ []
@@ -201,12 +201,12 @@ module _ (n : ℕ) (c : ℕ → ℕ) (u : ℕ) (low : LowestAt c u) where
       stuck n u low.tile (minus c (meld u 2)) (meld u 2 ∷ after u) (omega arith)
       (λ m i.
       ⊎_elim
-      (λ q. inr (let s : uses m u ≡ 3 = ap (λ (x : Meld). uses x u) q ∙ set-in u in omega arith))
+      (λ q. inr (let s : uses m u ≡ 3 = ap (λ (x : Meld). uses x u) q ∙ set_in u in omega arith))
       (λ j. inl (after_none u m j)) (Memᴰ.cases_cons i))
 
   -- it is taken where exactly three are left
-  triplet-only : c u ≤ 4 → findFirst n c (meld u 2) (meld u 2 ∷ after u) ≡ led (eqb (c u) 3) (meld u 2) (meldLists n (minus c (meld u 2)))
-  triplet-only h = go (ℕ_discrete (c u) 3) (ℕ_discrete (c u) 4)
+  triplet_only : c u ≤ 4 → find_first n c (meld u 2) (meld u 2 ∷ after u) ≡ led (eqb (c u) 3) (meld u 2) (meld_lists n (minus c (meld u 2)))
+  triplet_only h = go (ℕ_discrete (c u) 3) (ℕ_discrete (c u) 4)
     where
       m : Meld
       m = meld u 2
@@ -215,67 +215,67 @@ module _ (n : ℕ) (c : ℕ → ℕ) (u : ℕ) (low : LowestAt c u) where
       found = find n (minus c m) (m ∷ after u)
 
       wanted : List (List Meld)
-      wanted = meldLists n (minus c m)
+      wanted = meld_lists n (minus c m)
 
       go : Dec (c u ≡ 3) → Dec (c u ≡ 4) → led (fits m c) m found ≡ led (eqb (c u) 3) m wanted
       go (yes e) d =
           let k = left in
           ap₂ (λ (b : Bool) (ls : List (List Meld)). led b m ls)
-          (triplet-fits (omega arith) ∙ sym (eq-eqb (c u) 3 e))
-          (sym (from-triplet n (minus c m) u low.tile (omega arith) (minus-clear c m u low.below)))
-      go (no f) (yes e) = led-none (fits m c) m found (left_over e) ∙ sym (led-off (eqb (c u) 3) m wanted (ne_eqb (c u) 3 f))
+          (triplet_fits (omega arith) ∙ sym (eq-eqb (c u) 3 e))
+          (sym (from_triplet n (minus c m) u low.tile (omega arith) (minus_clear c m u low.below)))
+      go (no f) (yes e) = led_none (fits m c) m found (left_over e) ∙ sym (led_off (eqb (c u) 3) m wanted (ne_eqb (c u) 3 f))
       go (no f) (no g) =
-          let k = set-in u in
-          led-off (fits m c) m found (unfit m c u low.tile (omega arith)) ∙ sym (led-off (eqb (c u) 3) m wanted (ne_eqb (c u) 3 f))
+          let k = set_in u in
+          led_off (fits m c) m found (unfit m c u low.tile (omega arith)) ∙ sym (led_off (eqb (c u) 3) m wanted (ne_eqb (c u) 3 f))
 
   none_after : find (suc n) c (after u) ≡ []
   none_after = stuck (suc n) u low.tile c (after u) low.there (λ m i. inl (after_none u m i))
 
 -- ---- at the lowest tile left: the sequence from it, or the triplet where exactly three are left
-pub by-lowest : (n : ℕ) (c : ℕ → ℕ) (u : ℕ) → LowestAt c u → c u ≤ 4
-    → meldLists (suc n) c ≡ cond (isStart u && fits (meld u 0) c) (map (λ l. meld u 0 ∷ l) (meldLists n (minus c (meld u 0)))) []
-    ++ cond (eqb (c u) 3) (map (λ l. meld u 2 ∷ l) (meldLists n (minus c (meld u 2)))) []
-by-lowest n c u low h = from-tile (suc n) c u low.tile low.below ∙ go (isStart u) refl
+pub by_lowest : (n : ℕ) (c : ℕ → ℕ) (u : ℕ) → LowestAt c u → c u ≤ 4
+    → meld_lists (suc n) c ≡ cond (is_start u && fits (meld u 0) c) (map (λ l. meld u 0 ∷ l) (meld_lists n (minus c (meld u 0)))) []
+    ++ cond (eqb (c u) 3) (map (λ l. meld u 2 ∷ l) (meld_lists n (minus c (meld u 2)))) []
+by_lowest n c u low h = from_tile (suc n) c u low.tile low.below ∙ go (is_start u) refl
   where
     run : List (List Meld)
-    run = meldLists n (minus c (meld u 0))
+    run = meld_lists n (minus c (meld u 0))
 
     triplet : List (List Meld)
-    triplet = led (eqb (c u) 3) (meld u 2) (meldLists n (minus c (meld u 2)))
+    triplet = led (eqb (c u) 3) (meld u 2) (meld_lists n (minus c (meld u 2)))
 
     rest : find (suc n) c (meld u 2 ∷ after u) ≡ triplet
-    rest = ap₂ ◌++◌ (triplet-only n c u low h) (none_after n c u low) ∙ append-nil triplet
+    rest = ap₂ ◌++◌ (triplet_only n c u low h) (none_after n c u low) ∙ append-nil triplet
 
-    go : (b : Bool) → isStart u ≡ b
+    go : (b : Bool) → is_start u ≡ b
         → find (suc n) c (cond b (meld u 0 ∷ meld u 2 ∷ []) (meld u 2 ∷ []) ++ after u) ≡ led (b && fits (meld u 0) c) (meld u 0) run ++ triplet
     go true e =
         ap₂ (λ (l r : List (List Meld)). led (fits (meld u 0) c) (meld u 0) l ++ r)
         (ap (λ (b : Bool). find n (minus c (meld u 0)) (cond b (meld u 0 ∷ meld u 2 ∷ []) (meld u 2 ∷ []) ++ after u)) (sym e)
-        ∙ sym (from-tile n (minus c (meld u 0)) u low.tile (minus-clear c (meld u 0) u low.below)))
+        ∙ sym (from_tile n (minus c (meld u 0)) u low.tile (minus_clear c (meld u 0) u low.below)))
         rest
     go false e = rest
 
 -- ---- the sequence's tiles are there
-pub fits-sequence : (c : ℕ → ℕ) (u : ℕ) → T (isStart u) → fits (meld u 0) c ≡ (leb 1 (c u) && (leb 1 (c (u + 1)) && leb 1 (c (u + 2))))
-fits-sequence c u s =
+pub fits_sequence : (c : ℕ → ℕ) (u : ℕ) → T (is_start u) → fits (meld u 0) c ≡ (leb 1 (c u) && (leb 1 (c (u + 1)) && leb 1 (c (u + 2))))
+fits_sequence c u s =
     T-eq (fits (meld u 0) c) (leb 1 (c u) && (leb 1 (c (u + 1)) && leb 1 (c (u + 2))))
     (λ f.
-    and_both (leb 1 (c u)) _ (one-there f u (omega arith) (omega arith))
-    (and_both (leb 1 (c (u + 1))) _ (one-there f (u + 1) (omega arith) (omega arith)) (one-there f (u + 2) (omega arith) (omega arith))))
-    (λ k. allBelow-intro 34 (λ t. leb (uses (meld u 0) t) (c t)) (λ t h. all_there k t))
+    and_both (leb 1 (c u)) _ (one_there f u (omega arith) (omega arith))
+    (and_both (leb 1 (c (u + 1))) _ (one_there f (u + 1) (omega arith) (omega arith)) (one_there f (u + 2) (omega arith) (omega arith))))
+    (λ k. all_below_intro_holds 34 (λ t. leb (uses (meld u 0) t) (c t)) (λ t h. all_there k t))
   where
     suited : u < 27
     suited = ltb→lt u 27 (and_left (ltb u 27) _ s)
 
-    one-there : T (fits (meld u 0) c) → (t : ℕ) → u ≤ t → t < u + 3 → T (leb 1 (c t))
-    one-there f t h k =
+    one_there : T (fits (meld u 0) c) → (t : ℕ) → u ≤ t → t < u + 3 → T (leb 1 (c t))
+    one_there f t h k =
         let g = suited in
         subst (λ (a : ℕ). T (leb a (c t))) (run_in u t h k) (at 34 (λ t. leb (uses (meld u 0) t) (c t)) f t (omega arith))
 
     here : (t v : ℕ) → t ≡ v → u ≤ v → v < u + 3 → T (leb 1 (c v)) → T (leb (uses (meld u 0) t) (c t))
     here t v e h k p = subst (λ (a : ℕ). T (leb (uses (meld u 0) a) (c a))) (sym e) (subst (λ (a : ℕ). T (leb a (c v))) (sym (run_in u v h k)) p)
 
-    away : (t : ℕ) → runUses u t ≡ 0 → T (leb (uses (meld u 0) t) (c t))
+    away : (t : ℕ) → run_uses u t ≡ 0 → T (leb (uses (meld u 0) t) (c t))
     away t e = le→leb (uses (meld u 0) t) (c t) (omega arith)
 
     all_there : T (leb 1 (c u) && (leb 1 (c (u + 1)) && leb 1 (c (u + 2)))) → (t : ℕ) → T (leb (uses (meld u 0) t) (c t))
@@ -287,27 +287,27 @@ fits-sequence c u s =
         go (no f) (no g) (yes e) = here t (u + 2) e (omega arith) (omega arith) (and_right (leb 1 (c (u + 1))) _ (and_right (leb 1 (c u)) _ k))
         go (no f) (no g) (no h) = away t (out (ltb t u) refl)
           where
-            out : (b : Bool) → ltb t u ≡ b → runUses u t ≡ 0
-            out true e = run-before u t (omega (arith, ltb-true))
-            out false e = run-after u t (omega (arith, ltb-false))
+            out : (b : Bool) → ltb t u ≡ b → run_uses u t ≡ 0
+            out true e = run_before u t (omega (arith, ltb-true))
+            out false e = run_after u t (omega (arith, ltb-false))
 
 -- ---- nothing left
-pub none_left : (c : ℕ → ℕ) → T (is_empty c) → meldLists zero c ≡ [] ∷ []
-unfolding meldLists
+pub none_left : (c : ℕ → ℕ) → T (is_empty c) → meld_lists zero c ≡ [] ∷ []
+unfolding meld_lists
 none_left c t = ap (λ (b : Bool). cond b ([] ∷ []) []) (T→true (is_empty c) t)
 
-pub some_left : (c : ℕ → ℕ) → T (not (is_empty c)) → meldLists zero c ≡ []
-unfolding meldLists
+pub some_left : (c : ℕ → ℕ) → T (not (is_empty c)) → meld_lists zero c ≡ []
+unfolding meld_lists
 some_left c t = ap (λ (b : Bool). cond b ([] ∷ []) []) (¬T→false (is_empty c) (T_not (is_empty c) t))
 
-pub none-left-needed : (n : ℕ) (c : ℕ → ℕ) → T (is_empty c) → meldLists (suc n) c ≡ []
-unfolding meldLists
-none-left-needed n c t = none-fit n c handMelds (before-unfit c 34 (omega arith) (λ v h. eqb→eq (c v) 0 (at 34 (λ t. eqb (c t) 0) t v h)))
+pub none_left_needed : (n : ℕ) (c : ℕ → ℕ) → T (is_empty c) → meld_lists (suc n) c ≡ []
+unfolding meld_lists
+none_left_needed n c t = none_fit n c hand_melds (before_unfit c 34 (omega arith) (λ v h. eqb→eq (c v) 0 (at 34 (λ t. eqb (c t) 0) t v h)))
 
 -- ---- either nothing is left, or there is a lowest tile
-lowest-below : (c : ℕ → ℕ) (k : ℕ) → k ≤ 34 → Clear c k ⊎ ((u : ℕ) × LowestAt c u)
-lowest-below c zero h = inl (λ v g. absurd (omega arith))
-lowest-below c (suc k) h = ⊎_elim (λ z. go z (ℕ_discrete (c k) 0)) (λ r. inr r) (lowest-below c k (omega arith))
+lowest_below : (c : ℕ → ℕ) (k : ℕ) → k ≤ 34 → Clear c k ⊎ ((u : ℕ) × LowestAt c u)
+lowest_below c zero h = inl (λ v g. absurd (omega arith))
+lowest_below c (suc k) h = ⊎_elim (λ z. go z (ℕ_discrete (c k) 0)) (λ r. inr r) (lowest_below c k (omega arith))
   where
     next : Clear c k → c k ≡ 0 → (v : ℕ) → v < suc k → Dec (v ≡ k) → c v ≡ 0
     next z e v g (yes q) = ap c q ∙ e
@@ -317,36 +317,36 @@ lowest-below c (suc k) h = ⊎_elim (λ z. go z (ℕ_discrete (c k) 0)) (λ r. i
     go z (yes e) = inl (λ v g. next z e v g (ℕ_discrete v k))
     go z (no f) = inr (k, record { tile = h; there = omega arith; below = z })
 
-pub lowest-or-empty : (c : ℕ → ℕ) → T (is_empty c) ⊎ ((u : ℕ) × LowestAt c u)
-lowest-or-empty c = ⊎_elim (λ z. inl (exact-empty c z)) (λ r. inr r) (lowest-below c 34 (omega arith))
+pub lowest_or_empty : (c : ℕ → ℕ) → T (is_empty c) ⊎ ((u : ℕ) × LowestAt c u)
+lowest_or_empty c = ⊎_elim (λ z. inl (exact_empty c z)) (λ r. inr r) (lowest_below c 34 (omega arith))
 
 -- ---- at most two ways at each meld
-cond-length : {A : Type 0} (b : Bool) (l : List A) (k : ℕ) → length l ≤ k → length (cond b l []) ≤ k
-cond-length true l k h = h
-cond-length false l k h = omega arith
+cond_length : {A : Type 0} (b : Bool) (l : List A) (k : ℕ) → length l ≤ k → length (cond b l []) ≤ k
+cond_length true l k h = h
+cond_length false l k h = omega arith
 
-led-length : (b : Bool) (m : Meld) (ls : List (List Meld)) (k : ℕ) → length ls ≤ k → length (led b m ls) ≤ k
-led-length b m ls k h = cond-length b (map (λ l. m ∷ l) ls) k (let e = length-map ls (λ l. m ∷ l) in omega arith)
+led_length : (b : Bool) (m : Meld) (ls : List (List Meld)) (k : ℕ) → length ls ≤ k → length (led b m ls) ≤ k
+led_length b m ls k h = cond_length b (map (λ l. m ∷ l) ls) k (let e = length-map ls (λ l. m ∷ l) in omega arith)
 
-at_most_one : (c : ℕ → ℕ) → length (meldLists zero c) ≤ 1
-unfolding meldLists
-at_most_one c = cond-length (is_empty c) ([] ∷ []) 1 (omega arith)
+at_most_one : (c : ℕ → ℕ) → length (meld_lists zero c) ≤ 1
+unfolding meld_lists
+at_most_one c = cond_length (is_empty c) ([] ∷ []) 1 (omega arith)
 
 two_ways :
-    (n : ℕ) (c : ℕ → ℕ) (k : ℕ) → ((u : ℕ) → u < 34 → c u ≤ 4) → ((m : Meld) → length (meldLists n (minus c m)) ≤ k)
-    → length (meldLists (suc n) c) ≤ k + k
-two_ways n c k f less = ⊎_elim nothing (λ r. ways r.0 r.1) (lowest-or-empty c)
+    (n : ℕ) (c : ℕ → ℕ) (k : ℕ) → ((u : ℕ) → u < 34 → c u ≤ 4) → ((m : Meld) → length (meld_lists n (minus c m)) ≤ k)
+    → length (meld_lists (suc n) c) ≤ k + k
+two_ways n c k f less = ⊎_elim nothing (λ r. ways r.0 r.1) (lowest_or_empty c)
   where
-    nothing : T (is_empty c) → length (meldLists (suc n) c) ≤ k + k
-    nothing t = let e = ap length (none-left-needed n c t) in omega arith
+    nothing : T (is_empty c) → length (meld_lists (suc n) c) ≤ k + k
+    nothing t = let e = ap length (none_left_needed n c t) in omega arith
 
-    ways : (u : ℕ) → LowestAt c u → length (meldLists (suc n) c) ≤ k + k
+    ways : (u : ℕ) → LowestAt c u → length (meld_lists (suc n) c) ≤ k + k
     ways u low =
-        let a = led-length (isStart u && fits (meld u 0) c) (meld u 0) (meldLists n (minus c (meld u 0))) k (less (meld u 0)) in
-        let b = led-length (eqb (c u) 3) (meld u 2) (meldLists n (minus c (meld u 2))) k (less (meld u 2)) in
-        omega (arith, simp length-append at (ap length (by-lowest n c u low (f u low.tile))))
+        let a = led_length (is_start u && fits (meld u 0) c) (meld u 0) (meld_lists n (minus c (meld u 0))) k (less (meld u 0)) in
+        let b = led_length (eqb (c u) 3) (meld u 2) (meld_lists n (minus c (meld u 2))) k (less (meld u 2)) in
+        omega (arith, simp length-append at (ap length (by_lowest n c u low (f u low.tile))))
 
-pub few : (n : ℕ) (c : ℕ → ℕ) → ((u : ℕ) → u < 34 → c u ≤ 4) → length (meldLists n c) ≤ 2 ^ n
+pub few : (n : ℕ) (c : ℕ → ℕ) → ((u : ℕ) → u < 34 → c u ≤ 4) → length (meld_lists n c) ≤ 2 ^ n
 few zero c f = at_most_one c
 few (suc n) c f =
     let h = two_ways n c (2 ^ n) f (λ m. few n (minus c m) (λ t g. let k = f t g in omega arith)) in
@@ -354,10 +354,10 @@ few (suc n) c f =
     omega arith
 
 -- ---- every list has n closed melds
-pub lists_length : (n : ℕ) (c : ℕ → ℕ) (l : List Meld) → Memᴰ l (meldLists n c) → length l ≡ n
-unfolding meldLists
-lists_length n c l i = (find-sound n c handMelds l i).long
+pub lists_length : (n : ℕ) (c : ℕ → ℕ) (l : List Meld) → Memᴰ l (meld_lists n c) → length l ≡ n
+unfolding meld_lists
+lists_length n c l i = (find_sound n c hand_melds l i).long
 
-pub lists-melds : (n : ℕ) (c : ℕ → ℕ) (l : List Meld) → Memᴰ l (meldLists n c) → T (all isHandMeld l)
-unfolding meldLists
-lists-melds n c l i = all-intro isHandMeld l (λ m j. is-handMeld m (pick-mem (find-sound n c handMelds l i).picked j))
+pub lists_melds : (n : ℕ) (c : ℕ → ℕ) (l : List Meld) → Memᴰ l (meld_lists n c) → T (all is_hand_meld l)
+unfolding meld_lists
+lists_melds n c l i = all_intro is_hand_meld l (λ m j. is_hand_meld_holds m (pick_mem (find_sound n c hand_melds l i).picked j))

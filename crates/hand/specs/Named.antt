@@ -4,9 +4,9 @@ use Rattle.lists.specs.Fold.{count}
 use Rattle.tile.specs.Tile.{tiles}
 
 -- how many of the tile t there are
-abbrev pub ofTiles : List ℕ → ℕ → ℕ
-ofTiles ts t = count (eqb t) ts
+abbrev pub of_tiles : List ℕ → ℕ → ℕ
+of_tiles ts t = count (eqb t) ts
 
 -- the 34 counts
 abbrev pub hand : List ℕ → List ℕ
-hand ts = map (ofTiles ts) tiles
+hand ts = map (of_tiles ts) tiles

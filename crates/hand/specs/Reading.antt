@@ -4,9 +4,9 @@
 use Rattle.std.specs.Prelude.{◌≡◌, cond, List, [], ◌++◌, ℕ, ◌+◌, ◌*◌, ◌<◌, T, eqb, ltb, length}
 use Rattle.lists.specs.Fold.{all, count, one, sum}
 use Rattle.lists.specs.Order.{Pairwise}
-use Rattle.tile.specs.Tile.{isTerminalOrHonor}
+use Rattle.tile.specs.Tile.{is_terminal_or_honor}
 use Rattle.meld.specs.declared.Meld.{Meld}
-use Rattle.meld.specs.Meld.{isHandMeld, sorted, uses}
+use Rattle.meld.specs.Meld.{is_hand_meld, sorted, uses}
 
 -- seven pairs, by their tiles; thirteen orphans, by the tile that is doubled; a pair, by its tile, and four melds
 pub data Reading : Type 0 where
@@ -25,13 +25,13 @@ pub record AdmitsPairs (c : ℕ → ℕ) (k : List Meld) (ps : List ℕ) : Type 
 -- each terminal and honor, one of them doubled, and nothing called
 pub record AdmitsOrphans (c : ℕ → ℕ) (k : List Meld) (p : ℕ) : Type 0 where
   pub uncalled : k ≡ []
-  pub orphan : T (isTerminalOrHonor p)
-  pub exact : (t : ℕ) → t < 34 → c t ≡ one (isTerminalOrHonor t) + one (eqb t p)
+  pub orphan : T (is_terminal_or_honor p)
+  pub exact : (t : ℕ) → t < 34 → c t ≡ one (is_terminal_or_honor t) + one (eqb t p)
 
 -- a pair and closed sequences and triplets that use up the counts exactly, four melds together with the calls
 pub record AdmitsStandard (c : ℕ → ℕ) (k : List Meld) (p : ℕ) (ms : List Meld) : Type 0 where
   pub hand : List Meld
-  pub closed : T (all isHandMeld hand)
+  pub closed : T (all is_hand_meld hand)
   pub four : length k + length hand ≡ 4
   pub pair : p < 34
   pub exact : (t : ℕ) → t < 34 → c t ≡ cond (eqb t p) 2 0 + sum (λ m. uses m t) hand

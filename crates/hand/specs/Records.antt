@@ -7,13 +7,13 @@ use Rattle.meld.specs.declared.Meld.{Meld}
 use Rattle.hand.specs.Reading.{Reading, pairs, orphans, standard}
 
 -- two bytes, little-endian
-abbrev pub twoBytes : ℕ → List ℕ
-twoBytes n = n % 256 ∷ n / 256 ∷ []
+abbrev pub two_bytes : ℕ → List ℕ
+two_bytes n = n % 256 ∷ n / 256 ∷ []
 
 -- a meld's tile, kind and source
-abbrev pub meldBytes : List Meld → List ℕ
-meldBytes [] = []
-meldBytes (m ∷ ms) = m.tile ∷ m.kind ∷ m.source ∷ meldBytes ms
+abbrev pub meld_bytes : List Meld → List ℕ
+meld_bytes [] = []
+meld_bytes (m ∷ ms) = m.tile ∷ m.kind ∷ m.source ∷ meld_bytes ms
 
 -- the kind of a reading, and the bytes after it
 abbrev pub kind_of : Reading → ℕ
@@ -24,23 +24,23 @@ kind_of (standard p ms) = 3
 abbrev pub body_of : Reading → List ℕ
 body_of (pairs ps) = ps
 body_of (orphans p) = p ∷ []
-body_of (standard p ms) = p ∷ meldBytes ms
+body_of (standard p ms) = p ∷ meld_bytes ms
 
 -- a record: the length of the whole, the kind, the body
-unfoldable pub recordOf : Reading → List ℕ
-recordOf r = twoBytes (length (body_of r) + 4) ++ (twoBytes (kind_of r) ++ body_of r)
+unfoldable pub record_of : Reading → List ℕ
+record_of r = two_bytes (length (body_of r) + 4) ++ (two_bytes (kind_of r) ++ body_of r)
 
--- how many bytes the record of a standard reading has (the law `standard-bytes`), and how many the records of a hand never exceed (the law `room` of
+-- how many bytes the record of a standard reading has (the law `standard_bytes_holds`), and how many the records of a hand never exceed (the law `room` of
 -- the crate promises): at most 7 pairs with 16 sets of melds each, and seven pairs, whose record has 11
-abbrev pub standardBytes : ℕ
-standardBytes = 17
+abbrev pub standard_bytes : ℕ
+standard_bytes = 17
 
-abbrev pub alwaysEnough : ℕ
-alwaysEnough = 1915
+abbrev pub always_enough : ℕ
+always_enough = 1915
 
 -- the records of readings, one after the other
 abbrev pub records : List Reading → List ℕ
-records rs = flat recordOf rs
+records rs = flat record_of rs
 
 -- records ascend by kind, then by the bytes after it
 abbrev pub Before : Reading → Reading → Type 0

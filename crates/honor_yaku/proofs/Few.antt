@@ -9,9 +9,9 @@ use native.Mathlib.Omega.{arith}
 use lib.Dec.{T, eqb, leb, eqb→eq, lit≤}
 use Rattle.lists.specs.Fold.{any, count}
 use Rattle.lists.proofs.Finite.{and_left, and_right, and_both}
-use Rattle.tile.specs.Tile.{isDragon, isHonor, isWind}
+use Rattle.tile.specs.Tile.{is_dragon, is_honor, is_wind}
 use Rattle.meld.specs.declared.Meld.{Meld}
-use Rattle.meld.specs.Meld.{isTripletOrKan}
+use Rattle.meld.specs.Meld.{is_triplet_or_kan}
 use Rattle.context.specs.declared.GameContext.{GameContext}
 use Rattle.hand.specs.Reading.{Reading}
 use Rattle.structure.specs.declared.Hand.{Hand}
@@ -19,62 +19,62 @@ use Rattle.structure.specs.declared.HandStructure.{HandStructure}
 use Rattle.structure.specs.declared.HandStructure.TheVariants.{Standard, Chiitoitsu, Kokushi}
 use Rattle.structure.specs.Structure.{read, reading_of}
 use Rattle.wait.specs.Wait.{weight}
-use Rattle.meld_yaku.specs.Melds.{setOf}
-use Rattle.meld_yaku.proofs.Few.{count-fewer, any_none, too_few}
+use Rattle.meld_yaku.specs.Melds.{set_of}
+use Rattle.meld_yaku.proofs.Few.{count_fewer, any_none, too_few}
 use Rattle.honor_yaku.specs.declared.Yakuhai.{Yakuhai}
-use Rattle.honor_yaku.specs.Honors.{yakuhai, yakuhaiOf, dragons, winds, daisangen, shousuushii, daisuushii}
+use Rattle.honor_yaku.specs.Honors.{yakuhai, yakuhai_of, dragons, winds, daisangen, shousuushii, daisuushii}
 
 -- ---- no triplet or kan of an honor
-honor-set : (t : ℕ) → T (isHonor t) → (m : Meld) → T (setOf (eqb t) m) → T (setOf isHonor m)
-honor-set t h m i =
-    and_both (isTripletOrKan m) (isHonor m.tile) (and_left (isTripletOrKan m) (eqb t m.tile) i)
-    (subst (λ (u : ℕ). T (isHonor u)) (eqb→eq t m.tile (and_right (isTripletOrKan m) (eqb t m.tile) i)) h)
+honor_set : (t : ℕ) → T (is_honor t) → (m : Meld) → T (set_of (eqb t) m) → T (set_of is_honor m)
+honor_set t h m i =
+    and_both (is_triplet_or_kan m) (is_honor m.tile) (and_left (is_triplet_or_kan m) (eqb t m.tile) i)
+    (subst (λ (u : ℕ). T (is_honor u)) (eqb→eq t m.tile (and_right (is_triplet_or_kan m) (eqb t m.tile) i)) h)
 
-module _ (w : GameContext) (ms : List Meld) (none : any (setOf isHonor) ms ≡ false) where
-  no-yakuhai : (t : ℕ) → T (isHonor t) → yakuhai w ms t ≡ 0
+module _ (w : GameContext) (ms : List Meld) (none : any (set_of is_honor) ms ≡ false) where
+  no_yakuhai_holds : (t : ℕ) → T (is_honor t) → yakuhai w ms t ≡ 0
   unfolding yakuhai
-  no-yakuhai t h =
-      let few = count-fewer (setOf (eqb t)) (setOf isHonor) (honor-set t h) ms in
-      let zero = any_none (setOf isHonor) ms none in
-      let e : count (setOf (eqb t)) ms ≡ 0 = omega arith in
+  no_yakuhai_holds t h =
+      let few = count_fewer (set_of (eqb t)) (set_of is_honor) (honor_set t h) ms in
+      let zero = any_none (set_of is_honor) ms none in
+      let e : count (set_of (eqb t)) ms ≡ 0 = omega arith in
       ap (λ (n : ℕ). n * weight w t) e ∙ zero-mul (weight w t)
 
-  no-tally : (ps : List ℕ) (s : HandStructure) (t : ℕ) → T (isHonor t) → yakuhaiOf w (read s ms ps) t ≡ 0
-  no-tally ps (Standard p) t h = no-yakuhai t h
-  no-tally ps Chiitoitsu t h = refl
-  no-tally ps (Kokushi p) t h = refl
+  no_tally : (ps : List ℕ) (s : HandStructure) (t : ℕ) → T (is_honor t) → yakuhai_of w (read s ms ps) t ≡ 0
+  no_tally ps (Standard p) t h = no_yakuhai_holds t h
+  no_tally ps Chiitoitsu t h = refl
+  no_tally ps (Kokushi p) t h = refl
 
 -- the tallies of the seven honors, for any reading
-abbrev yakuhaiAll : GameContext → Reading → Yakuhai
-yakuhaiAll w r =
+abbrev yakuhai_all : GameContext → Reading → Yakuhai
+yakuhai_all w r =
     record {
-      east = yakuhaiOf w r 27;
-      south = yakuhaiOf w r 28;
-      west = yakuhaiOf w r 29;
-      north = yakuhaiOf w r 30;
-      white = yakuhaiOf w r 31;
-      green = yakuhaiOf w r 32;
-      red = yakuhaiOf w r 33;
+      east = yakuhai_of w r 27;
+      south = yakuhai_of w r 28;
+      west = yakuhai_of w r 29;
+      north = yakuhai_of w r 30;
+      white = yakuhai_of w r 31;
+      green = yakuhai_of w r 32;
+      red = yakuhai_of w r 33;
     }
 
-abbrev noYakuhai : Yakuhai
-noYakuhai = record { east = 0; south = 0; west = 0; north = 0; white = 0; green = 0; red = 0 }
+abbrev no_yakuhai : Yakuhai
+no_yakuhai = record { east = 0; south = 0; west = 0; north = 0; white = 0; green = 0; red = 0 }
 
-pub no-tallies : (w : GameContext) (h : Hand) → any (setOf isHonor) h.melds ≡ false → noYakuhai ≡ yakuhaiAll w (reading_of h)
-no-tallies w h none =
-    let tally = no-tally w h.melds none h.pairs h.structure in
+pub no_tallies : (w : GameContext) (h : Hand) → any (set_of is_honor) h.melds ≡ false → no_yakuhai ≡ yakuhai_all w (reading_of h)
+no_tallies w h none =
+    let tally = no_tally w h.melds none h.pairs h.structure in
     cc (tally 27 tt, tally 28 tt, tally 29 tt, tally 30 tt, tally 31 tt, tally 32 tt, tally 33 tt)
 
 -- ---- fewer than three triplets and kans
-module _ (ms : List Meld) (few : leb 3 (count isTripletOrKan ms) ≡ false) where
-  pub no-daisangen : daisangen ms ≡ false
+module _ (ms : List Meld) (few : leb 3 (count is_triplet_or_kan ms) ≡ false) where
+  pub no_daisangen : daisangen ms ≡ false
   unfolding daisangen dragons
-  no-daisangen = too_few ms few (setOf isDragon) (λ m. and_left (isTripletOrKan m) _) 3 (lit≤ tt)
+  no_daisangen = too_few ms few (set_of is_dragon) (λ m. and_left (is_triplet_or_kan m) _) 3 (lit≤ tt)
 
-  pub no-shousuushii : (p : ℕ) → shousuushii p ms ≡ false
+  pub no_shousuushii : (p : ℕ) → shousuushii p ms ≡ false
   unfolding shousuushii winds
-  no-shousuushii p = ap (λ (b : Bool). b && (isWind p && not (any (setOf (eqb p)) ms))) (too_few ms few (setOf isWind) (λ m. and_left (isTripletOrKan m) _) 3 (lit≤ tt))
+  no_shousuushii p = ap (λ (b : Bool). b && (is_wind p && not (any (set_of (eqb p)) ms))) (too_few ms few (set_of is_wind) (λ m. and_left (is_triplet_or_kan m) _) 3 (lit≤ tt))
 
-  pub no-daisuushii : daisuushii ms ≡ false
+  pub no_daisuushii : daisuushii ms ≡ false
   unfolding daisuushii winds
-  no-daisuushii = too_few ms few (setOf isWind) (λ m. and_left (isTripletOrKan m) _) 4 (lit≤ tt)
+  no_daisuushii = too_few ms few (set_of is_wind) (λ m. and_left (is_triplet_or_kan m) _) 4 (lit≤ tt)

@@ -5,19 +5,19 @@ use Prim.Native.Nat.{ℕ}
 use native.Mathlib.Omega.{arith}
 use lib.Dec.{T, eqb, eqb→eq}
 use Rattle.lists.proofs.Finite.{and_left, and_right}
-use Rattle.tile.specs.Tile.{isDragon}
+use Rattle.tile.specs.Tile.{is_dragon}
 use Rattle.meld.specs.declared.Meld.{Meld}
 use Rattle.honor_yaku.specs.Honors.{dragons, winds, shousangen, daisangen, shousuushii, daisuushii}
 
 -- a number is not two numbers
-not-both : (n a b : ℕ) → T (eqb n a) → T (eqb n b) → a ≡ b
-not-both n a b h i = let e = eqb→eq n a h in let f = eqb→eq n b i in omega arith
+not_both : (n a b : ℕ) → T (eqb n a) → T (eqb n b) → a ≡ b
+not_both n a b h i = let e = eqb→eq n a h in let f = eqb→eq n b i in omega arith
 
 -- ---- the small and the big yaku of dragons exclude each other, and those of winds
-pub small-or-big-dragons : (p : ℕ) (ms : List Meld) → T (shousangen p ms) → T (daisangen ms) → ⊥
+pub small_or_big_dragons : (p : ℕ) (ms : List Meld) → T (shousangen p ms) → T (daisangen ms) → ⊥
 unfolding shousangen daisangen
-small-or-big-dragons p ms s b = let e = not-both (dragons ms) 2 3 (and_right (isDragon p) _ s) b in omega arith
+small_or_big_dragons p ms s b = let e = not_both (dragons ms) 2 3 (and_right (is_dragon p) _ s) b in omega arith
 
-pub small-or-big-winds : (p : ℕ) (ms : List Meld) → T (shousuushii p ms) → T (daisuushii ms) → ⊥
+pub small_or_big_winds : (p : ℕ) (ms : List Meld) → T (shousuushii p ms) → T (daisuushii ms) → ⊥
 unfolding shousuushii daisuushii
-small-or-big-winds p ms s b = let e = not-both (winds ms) 3 4 (and_left (eqb (winds ms) 3) _ s) b in omega arith
+small_or_big_winds p ms s b = let e = not_both (winds ms) 3 4 (and_left (eqb (winds ms) 3) _ s) b in omega arith

@@ -1,18 +1,18 @@
 // Yaku of winds and dragons (yaku.rs of agari). Each check takes its case apart and otherwise answers no at that line.
 ghost use Rattle.std.specs.Prelude.{◌≡◌, ◌≤◌, eqb};
 ghost use Rattle.lists.specs.Fold.{any, count};
-ghost use Rattle.tile.specs.Tile.{isDragon, isHonor, isWind};
+ghost use Rattle.tile.specs.Tile.{is_dragon, is_honor, is_wind};
 ghost use Rattle.structure.specs.Structure.{reading_of};
-ghost use Rattle.meld_yaku.specs.Melds.{setOf};
-ghost use Rattle.meld_yaku.specs.Standard.{ofStandard};
-ghost use Rattle.honor_yaku.specs.Honors.{yakuhaiOf, dragons, winds, shousangen, daisangen, shousuushii, daisuushii};
+ghost use Rattle.meld_yaku.specs.Melds.{set_of};
+ghost use Rattle.meld_yaku.specs.Standard.{of_standard};
+ghost use Rattle.honor_yaku.specs.Honors.{yakuhai_of, dragons, winds, shousangen, daisangen, shousuushii, daisuushii};
 
 use meld_yaku::{has_set, is_set_of};
 use wait::how_many;
 
 // Is it a triplet or kan of a dragon?
 fn is_dragon_set(m: meld::Meld) -> bool
-    ensures { result ≡ setOf isDragon m }
+    ensures { result ≡ set_of is_dragon m }
 {
     let t = tile::Tile(m.tile);
     m.is_triplet_or_kan() & t.is_dragon()
@@ -20,7 +20,7 @@ fn is_dragon_set(m: meld::Meld) -> bool
 
 // Is it a triplet or kan of a wind?
 fn is_wind_set(m: meld::Meld) -> bool
-    ensures { result ≡ setOf isWind m }
+    ensures { result ≡ set_of is_wind m }
 {
     let t = tile::Tile(m.tile);
     m.is_triplet_or_kan() & t.is_wind()
@@ -28,7 +28,7 @@ fn is_wind_set(m: meld::Meld) -> bool
 
 // Is it a triplet or kan of an honor?
 fn is_honor_set(m: meld::Meld) -> bool
-    ensures { result ≡ setOf isHonor m }
+    ensures { result ≡ set_of is_honor m }
 {
     let t = tile::Tile(m.tile);
     m.is_triplet_or_kan() & t.is_honor()
@@ -36,7 +36,7 @@ fn is_honor_set(m: meld::Meld) -> bool
 
 // How many triplets and kans of the tile there are.
 fn count_sets(ms: [meld::Meld; 4], t: u8) -> u8
-    ensures { (result ≡ count (setOf (eqb t)) ms) × (result ≤ 4) }
+    ensures { (result ≡ count (set_of (eqb t)) ms) × (result ≤ 4) }
 {
     how_many(
         is_set_of(ms[0], t),
@@ -72,7 +72,7 @@ fn count_winds(ms: [meld::Meld; 4]) -> u8
 
 // The tally of an honor: its triplets and kans, each as often as the honor counts.
 pub fn check_yakuhai(h: structure::Hand, w: context::GameContext, t: u8) -> u8
-    ensures { (result ≡ yakuhaiOf w (reading_of h) t) × (result ≤ 12) }
+    ensures { (result ≡ yakuhai_of w (reading_of h) t) × (result ≤ 12) }
 {
     let s = h.structure;
     let structure::HandStructure::Standard { pair: _ } = s else {
@@ -84,7 +84,7 @@ pub fn check_yakuhai(h: structure::Hand, w: context::GameContext, t: u8) -> u8
 
 // Is one of the melds a triplet or kan of an honor?
 fn has_honor_set(ms: [meld::Meld; 4]) -> bool
-    ensures { result ≡ any (setOf isHonor) ms }
+    ensures { result ≡ any (set_of is_honor) ms }
 {
     is_honor_set(ms[0]) | (is_honor_set(ms[1]) | (is_honor_set(ms[2]) | is_honor_set(ms[3])))
 }
@@ -104,13 +104,13 @@ pub struct Yakuhai {
 // The tallies of the seven honors: all 0 at once where no meld is a triplet or kan of an honor.
 pub fn check_all_yakuhai(h: structure::Hand, w: context::GameContext) -> Yakuhai
     ensures { result ≡ record {
-      east = yakuhaiOf w (reading_of h) 27;
-      south = yakuhaiOf w (reading_of h) 28;
-      west = yakuhaiOf w (reading_of h) 29;
-      north = yakuhaiOf w (reading_of h) 30;
-      white = yakuhaiOf w (reading_of h) 31;
-      green = yakuhaiOf w (reading_of h) 32;
-      red = yakuhaiOf w (reading_of h) 33;
+      east = yakuhai_of w (reading_of h) 27;
+      south = yakuhai_of w (reading_of h) 28;
+      west = yakuhai_of w (reading_of h) 29;
+      north = yakuhai_of w (reading_of h) 30;
+      white = yakuhai_of w (reading_of h) 31;
+      green = yakuhai_of w (reading_of h) 32;
+      red = yakuhai_of w (reading_of h) 33;
     } }
 {
     let ms = h.melds;
@@ -138,7 +138,7 @@ pub fn check_all_yakuhai(h: structure::Hand, w: context::GameContext) -> Yakuhai
 
 // Shousangen: two dragon sets and a pair of the third.
 pub fn check_shousangen(h: structure::Hand) -> bool
-    ensures { result ≡ ofStandard (λ p ms. shousangen p ms) (reading_of h) }
+    ensures { result ≡ of_standard (λ p ms. shousangen p ms) (reading_of h) }
 {
     let s = h.structure;
     let structure::HandStructure::Standard { pair } = s else {
@@ -150,7 +150,7 @@ pub fn check_shousangen(h: structure::Hand) -> bool
 
 // Daisangen: three dragon sets.
 pub fn check_daisangen(h: structure::Hand) -> bool
-    ensures { result ≡ ofStandard (λ p ms. daisangen ms) (reading_of h) }
+    ensures { result ≡ of_standard (λ p ms. daisangen ms) (reading_of h) }
 {
     let s = h.structure;
     let structure::HandStructure::Standard { pair: _ } = s else {
@@ -162,7 +162,7 @@ pub fn check_daisangen(h: structure::Hand) -> bool
 
 // Shousuushii: three wind sets and a pair of the fourth.
 pub fn check_shousuushii(h: structure::Hand) -> bool
-    ensures { result ≡ ofStandard (λ p ms. shousuushii p ms) (reading_of h) }
+    ensures { result ≡ of_standard (λ p ms. shousuushii p ms) (reading_of h) }
 {
     let s = h.structure;
     let structure::HandStructure::Standard { pair } = s else {
@@ -174,7 +174,7 @@ pub fn check_shousuushii(h: structure::Hand) -> bool
 
 // Daisuushii: four wind sets.
 pub fn check_daisuushii(h: structure::Hand) -> bool
-    ensures { result ≡ ofStandard (λ p ms. daisuushii ms) (reading_of h) }
+    ensures { result ≡ of_standard (λ p ms. daisuushii ms) (reading_of h) }
 {
     let s = h.structure;
     let structure::HandStructure::Standard { pair: _ } = s else {

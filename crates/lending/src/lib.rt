@@ -2,7 +2,7 @@
 ghost use Rattle.std.specs.Prelude.{◌≡◌, ◌≤◌, length, take};
 ghost use Rattle.unit.specs.Listing.{listing, written};
 ghost use Rattle.lent.specs.Lent.{calls_of};
-ghost use Rattle.answers.specs.Answers.{listingAnswer};
+ghost use Rattle.answers.specs.Answers.{listing_answer};
 ghost use Rattle.lending.specs.Asked.{asked};
 
 // Lists the readings of a hand into the lent buffer; its calls are the first n of five melds.
@@ -13,7 +13,7 @@ pub fn list(
     out: &mut [u8],
 ) -> answers::ListingAnswer
     requires { n ≤ 5 }
-    ensures answer { result ≡ listingAnswer (listing counts.now (calls_of (take n melds)) (length out.old)) }
+    ensures answer { result ≡ listing_answer (listing counts.now (calls_of (take n melds)) (length out.old)) }
     ensures buffer { out.new ≡ written counts.now (calls_of (take n melds)) out.old }
 {
     ziwhakemo::ziwhakemo_list_readings(counts, &melds[..n], out)

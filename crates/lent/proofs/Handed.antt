@@ -1,6 +1,6 @@
 -- What the walks of functions over lent calls share. Such a function takes counts, calls and what else it needs (the rest), has `gather` take the calls out, and hands all on, the calls by value, to another function.
---     to-gather    what `gather`'s triple binds outside, at a slice of melds
---     gather-asked what `gather` asks is had of a slice of melds, of any lifetime, and its token
+--     to_gather    what `gather`'s triple binds outside, at a slice of melds
+--     gather_asked what `gather` asks is had of a slice of melds, of any lifetime, and its token
 --     gathers      the call of `gather`: the machine value that it returns is that of the calls, written out
 --     parts        what is had at entry is what `gather` asks, and the rest.        asked     the rest, with the calls by value, is what is handed on.        ended     what is had at exit
 -- Tokens are those beside the tokens of counts and calls. Assumes nothing.
@@ -48,15 +48,15 @@ module _ {M : Type 1} {𝓤 : Ura M} (𝓛 : Logic 𝓤) (mem : Memory → SProp
   Gather = triple_of 𝓛 g.signature (g.spec 𝓛 mem run)
 
   module _ (κ : Lft) (q : Share) (s : Bor (List Meld)) where
-    abbrev pub to-gather : Gather.Ghost
-    to-gather = (((κ, tt), (q, tt), tt, (s, tt), (shr_slice_vals s, tt)), tt)
+    abbrev pub to_gather : Gather.Ghost
+    to_gather = (((κ, tt), (q, tt), tt, (s, tt), (shr_slice_vals s, tt)), tt)
 
     abbrev pub Token : SProp 𝓤
     Token = sep 𝓤 (A.lft κ q) (emp 𝓤)
 
 module _ {M : Type 1} {𝓤 : Ura M} (𝓛 : Logic 𝓤) (mem : Memory → SProp 𝓤) (run : Routine → Fun 𝓤) where
-  pub gather-asked : (ℓ : Lifetime) (κ : Lft) (q : Share) (s : Bor (List Meld)) → ent 𝓤 (⋆ 𝓛 (‵ ((ShrSlice ℓ κ T.the_row).own_val s (shr_slice_vals s)) ∷ ‵ (flft κ q) ∷ [])) ((Gather 𝓛 mem run).pre (to-gather 𝓛 mem run κ q s))
-  gather-asked ℓ κ q s =
+  pub gather_asked : (ℓ : Lifetime) (κ : Lft) (q : Share) (s : Bor (List Meld)) → ent 𝓤 (⋆ 𝓛 (‵ ((ShrSlice ℓ κ T.the_row).own_val s (shr_slice_vals s)) ∷ ‵ (flft κ q) ∷ [])) ((Gather 𝓛 mem run).pre (to_gather 𝓛 mem run κ q s))
+  gather_asked ℓ κ q s =
       qed 𝓛 (‵ ((ShrSlice ℓ κ T.the_row).own_val s (shr_slice_vals s)) ∷ ‵ (flft κ q) ∷ []) ∵
       nothing ! $ move ! (1 ∷ 0 ∷ []) $ fjoin ! $ nothing ! $ move ! (2 ∷ 0 ∷ []) $ join ! $ join ! $ nothing ! $ move ! (1 ∷ 0 ∷ []) $ join ! $ done !
 
@@ -64,16 +64,16 @@ module _ {M : Type 1} {𝓤 : Ura M} (𝓛 : Logic 𝓤) (mem : Memory → SProp
   open 𝓛 use {H, A}
 
   pub gathers : {C : Table 𝓤 H} {Λ : Loops 𝓤 H} → FmC 𝓤 H 𝓛.laws C → Triple 𝓤 (C #g) (Gather 𝓛 mem run) → {E : Env 𝓤 H} {Q : Post 𝓤 H} {Γ : List (Item 𝓤)} {xs : List Operand} {d : Place} {rest : Body}
-      → Opds (Go {0}) 𝓛 (raw ((Gather 𝓛 mem run).pre (to-gather 𝓛 mem run κ q s)) ∷ Γ) E xs (shr_slice_vals s)
+      → Opds (Go {0}) 𝓛 (raw ((Gather 𝓛 mem run).pre (to_gather 𝓛 mem run κ q s)) ∷ Γ) E xs (shr_slice_vals s)
       → (Good s → Sq 𝓛 (raw (Token 𝓛 mem run κ q s) ∷ Γ) (lands C Λ E d (only (low s)) rest Q))
-      → Sq 𝓛 (raw ((Gather 𝓛 mem run).pre (to-gather 𝓛 mem run κ q s)) ∷ Γ) (runs C Λ E (seq (call #g xs d) rest) Q)
+      → Sq 𝓛 (raw ((Gather 𝓛 mem run).pre (to_gather 𝓛 mem run κ q s)) ∷ Γ) (runs C Λ E (seq (call #g xs d) rest) Q)
   gathers fm known os next =
-      gets 𝓛 fm g.ended (g.clauses 𝓛 mem run) known (to-gather 𝓛 mem run κ q s) (calls_of s.now) (λ r ws. id⊢ 𝓤 _) (LL.vals S.the_type S'.the_laws) (LL.tells S.the_type S'.the_laws) os next
+      gets 𝓛 fm g.ended (g.clauses 𝓛 mem run) known (to_gather 𝓛 mem run κ q s) (calls_of s.now) (λ r ws. id⊢ 𝓤 _) (LL.vals S.the_type S'.the_laws) (LL.tells S.the_type S'.the_laws) os next
 
   module _ (κ₀ : Lft) (q₀ : Share) (Tokens : SProp 𝓤) where
     pub parts : (Counts Rest : Fml)
         → ent 𝓤 (⋆ 𝓛 (raw (sep 𝓤 (A.lft κ₀ q₀) (sep 𝓤 (A.lft κ q) Tokens)) ∷ ‵ (fsep Counts (fsep ((ShrSlice (named 1) κ T.the_row).own_val s (shr_slice_vals s)) Rest)) ∷ []))
-        (⋆ 𝓛 (raw ((Gather 𝓛 mem run).pre (to-gather 𝓛 mem run κ q s)) ∷ raw (sep 𝓤 (A.lft κ₀ q₀) Tokens) ∷ ‵ (fsep Counts Rest) ∷ []))
+        (⋆ 𝓛 (raw ((Gather 𝓛 mem run).pre (to_gather 𝓛 mem run κ q s)) ∷ raw (sep 𝓤 (A.lft κ₀ q₀) Tokens) ∷ ‵ (fsep Counts Rest) ∷ []))
     parts Counts Rest =
         qed 𝓛 ((‵ (flft κ₀ q₀) ⊛ ‵ (flft κ q) ⊛ raw Tokens) ∷ ‵ (fsep Counts (fsep ((ShrSlice (named 1) κ T.the_row).own_val s (shr_slice_vals s)) Rest)) ∷ []) ∵
         move ! (1 ∷ []) $ fsplit ! $ move ! (1 ∷ []) $ fsplit ! $ nothing ! $ move ! (1 ∷ 0 ∷ []) $ fjoin ! $

@@ -4,12 +4,12 @@ use Rattle.meld.specs.declared.Meld.{Meld}
 use Rattle.checks.specs.declared.Calls.{Calls}
 
 -- what stands where no meld is
-abbrev pub noMeld : Meld
-noMeld = record { tile = 0; kind = 0; source = 0 }
+abbrev pub no_meld : Meld
+no_meld = record { tile = 0; kind = 0; source = 0 }
 
--- the meld at a place, or noMeld past the end
+-- the meld at a place, or no_meld past the end
 abbrev pub call_at : List Meld → ℕ → Meld
-call_at ms i = get_or ms i noMeld
+call_at ms i = get_or ms i no_meld
 
 -- how many melds there are, and the first four
 abbrev pub calls_of : List Meld → Calls

@@ -23,7 +23,7 @@ pub four : {A : Type 0} (l : List A) (d : A) → length l ≡ 4 → l ≡ get_or
 four l d h = elements d 4 l h
 
 -- ---- what is read past the end
-pub same-default : {A : Type 0} (l : List A) (i : ℕ) (d e : A) → i < length l → get_or l i d ≡ get_or l i e
-same-default [] i d e h = absurd (omega arith)
-same-default (x ∷ l) zero d e h = refl
-same-default (x ∷ l) (suc i) d e h = same-default l i d e (omega arith)
+pub same_default : {A : Type 0} (l : List A) (i : ℕ) (d e : A) → i < length l → get_or l i d ≡ get_or l i e
+same_default [] i d e h = absurd (omega arith)
+same_default (x ∷ l) zero d e h = refl
+same_default (x ∷ l) (suc i) d e h = same_default l i d e (omega arith)

@@ -17,22 +17,22 @@ pub and_right : (a b : Bool) → T (a && b) → T b
 and_right true b t = t
 and_right false b t = absurd t
 
-at-step : (p : ℕ → Bool) (n k : ℕ) → T (p n) → (k < n → T (p k)) → k < suc n → Dec (k ≡ n) → T (p k)
-at-step p n k t r h (yes e) = subst (λ (m : ℕ). T (p m)) (sym e) t
-at-step p n k t r h (no e) = r (omega arith)
+at_step : (p : ℕ → Bool) (n k : ℕ) → T (p n) → (k < n → T (p k)) → k < suc n → Dec (k ≡ n) → T (p k)
+at_step p n k t r h (yes e) = subst (λ (m : ℕ). T (p m)) (sym e) t
+at_step p n k t r h (no e) = r (omega arith)
 
 pub at : (n : ℕ) (p : ℕ → Bool) → T (all_below n p) → (k : ℕ) → k < n → T (p k)
 at zero p t k h = absurd (not-suc-le-zero h)
 at (suc n) p t k h =
-    at-step p n k (and_left (p n) (all_below n p) t) (at n p (and_right (p n) (all_below n p) t) k) h (ℕ_discrete k n)
+    at_step p n k (and_left (p n) (all_below n p) t) (at n p (and_right (p n) (all_below n p) t) k) h (ℕ_discrete k n)
 
 -- a fact of each of the numbers below 4
-pub below-four : (P : ℕ → Type 0) → P 0 → P 1 → P 2 → P 3 → (n : ℕ) → n < 4 → P n
-below-four P p₀ p₁ p₂ p₃ zero h = p₀
-below-four P p₀ p₁ p₂ p₃ (suc zero) h = p₁
-below-four P p₀ p₁ p₂ p₃ (suc (suc zero)) h = p₂
-below-four P p₀ p₁ p₂ p₃ (suc (suc (suc zero))) h = p₃
-below-four P p₀ p₁ p₂ p₃ (suc (suc (suc (suc n)))) h = absurd (omega arith)
+pub below_four : (P : ℕ → Type 0) → P 0 → P 1 → P 2 → P 3 → (n : ℕ) → n < 4 → P n
+below_four P p₀ p₁ p₂ p₃ zero h = p₀
+below_four P p₀ p₁ p₂ p₃ (suc zero) h = p₁
+below_four P p₀ p₁ p₂ p₃ (suc (suc zero)) h = p₂
+below_four P p₀ p₁ p₂ p₃ (suc (suc (suc zero))) h = p₃
+below_four P p₀ p₁ p₂ p₃ (suc (suc (suc (suc n)))) h = absurd (omega arith)
 
 pub beq→eq : (a b : Bool) → T (beq a b) → a ≡ b
 beq→eq true true t = refl
@@ -44,8 +44,8 @@ pub T→true : (b : Bool) → T b → b ≡ true
 T→true true t = refl
 T→true false t = absurd t
 
-pub true→T : (b : Bool) → b ≡ true → T b
-true→T b e = subst T (sym e) tt
+pub true→t : (b : Bool) → b ≡ true → T b
+true→t b e = subst T (sym e) tt
 
 pub ¬T→false : (b : Bool) → (T b → ⊥) → b ≡ false
 ¬T→false true f = absurd (f tt)
@@ -75,30 +75,30 @@ or_right true b t = tt
 or_right false b t = t
 
 -- a test under a condition that holds
-pub or-skip : (a b : Bool) → T a → T (not a || b) → T b
-or-skip true b h t = t
-or-skip false b h t = absurd h
+pub or_skip : (a b : Bool) → T a → T (not a || b) → T b
+or_skip true b h t = t
+or_skip false b h t = absurd h
 
 -- a part asked only where the condition holds
-pub and-cong : (b : Bool) {x y : Bool} → (T b → x ≡ y) → (b && x) ≡ (b && y)
-and-cong true f = f tt
-and-cong false f = refl
+pub and_cong : (b : Bool) {x y : Bool} → (T b → x ≡ y) → (b && x) ≡ (b && y)
+and_cong true f = f tt
+and_cong false f = refl
 
 -- a test that passes at each number below n
-pub allBelow-intro : (n : ℕ) (p : ℕ → Bool) → ((k : ℕ) → k < n → T (p k)) → T (all_below n p)
-allBelow-intro zero p h = tt
-allBelow-intro (suc n) p h = and_both (p n) (all_below n p) (h n (omega arith)) (allBelow-intro n p (λ k i. h k (omega arith)))
+pub all_below_intro_holds : (n : ℕ) (p : ℕ → Bool) → ((k : ℕ) → k < n → T (p k)) → T (all_below n p)
+all_below_intro_holds zero p h = tt
+all_below_intro_holds (suc n) p h = and_both (p n) (all_below n p) (h n (omega arith)) (all_below_intro_holds n p (λ k i. h k (omega arith)))
 
 -- numbers that a test chooses
-pub one-le : (b : Bool) → one b ≤ 1
-one-le true = omega arith
-one-le false = omega arith
+pub one_le : (b : Bool) → one b ≤ 1
+one_le true = omega arith
+one_le false = omega arith
 
-pub cond-le : (b : Bool) (x y n : ℕ) → x ≤ n → y ≤ n → cond b x y ≤ n
-cond-le true x y n h k = h
-cond-le false x y n h k = k
+pub cond_le : (b : Bool) (x y n : ℕ) → x ≤ n → y ≤ n → cond b x y ≤ n
+cond_le true x y n h k = h
+cond_le false x y n h k = k
 
 -- there is one, or there is none
-pub leb-one : (n : ℕ) → leb 1 n ≡ not (eqb n 0)
-leb-one zero = refl
-leb-one (suc n) = leb-suc-suc 0 n ∙ leb-zero n ∙ sym (ap not (eqb-suc-zero n))
+pub leb_one : (n : ℕ) → leb 1 n ≡ not (eqb n 0)
+leb_one zero = refl
+leb_one (suc n) = leb-suc-suc 0 n ∙ leb-zero n ∙ sym (ap not (eqb-suc-zero n))

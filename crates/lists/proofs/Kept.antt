@@ -10,47 +10,47 @@ use lib.Dec.{T}
 use Rattle.lists.specs.Fold.{keep}
 use Rattle.lists.specs.Order.{Pick, done, skip, pick, Nodup, Pairwise}
 use Rattle.lists.proofs.Finite.{¬T→false}
-use Rattle.lists.proofs.Members.{flat-mem, flat_in, in-cond, in-true, in-single, nodup-flat, cond-nodup, nodup-single}
-use Rattle.lists.proofs.Relations.{pairwise-flat, pairwise-single, cond-pairwise}
+use Rattle.lists.proofs.Members.{flat_mem, flat_in, in_cond, in_true, in_single, nodup_flat, cond_nodup, nodup_single}
+use Rattle.lists.proofs.Relations.{pairwise_flat, pairwise_single, cond_pairwise}
 
 module _ {A : Type 0} (p : A → Bool) where
-  pub in-keep : {l : List A} {a : A} → Memᴰ a l → T (p a) → Memᴰ a (keep p l)
-  in-keep {a = a} i t = flat_in (λ a. cond (p a) (a ∷ []) []) i (in-true (p a) (a ∷ []) t (Memᴰ.head refl))
+  pub in_keep : {l : List A} {a : A} → Memᴰ a l → T (p a) → Memᴰ a (keep p l)
+  in_keep {a = a} i t = flat_in (λ a. cond (p a) (a ∷ []) []) i (in_true (p a) (a ∷ []) t (Memᴰ.head refl))
 
   pub kept : (l : List A) {a : A} → Memᴰ a (keep p l) → Memᴰ a l × T (p a)
   kept l {a} i =
-      let r = flat-mem (λ a. cond (p a) (a ∷ []) []) l i in
-      let e = in-single (p r.0) r.2 in
-      (subst (λ (b : A). Memᴰ b l) (sym e) r.1, subst (λ (b : A). T (p b)) (sym e) (in-cond (p r.0) (r.0 ∷ []) r.2).0)
+      let r = flat_mem (λ a. cond (p a) (a ∷ []) []) l i in
+      let e = in_single (p r.0) r.2 in
+      (subst (λ (b : A). Memᴰ b l) (sym e) r.1, subst (λ (b : A). T (p b)) (sym e) (in_cond (p r.0) (r.0 ∷ []) r.2).0)
 
-  pub keep-nodup : (l : List A) → Nodup l → Nodup (keep p l)
-  keep-nodup l n =
-      nodup-flat (λ a. cond (p a) (a ∷ []) []) l n (λ a i. cond-nodup (p a) (a ∷ []) (nodup-single a))
-      (λ a b x i j. sym (in-single (p a) i) ∙ in-single (p b) j)
+  pub keep_nodup : (l : List A) → Nodup l → Nodup (keep p l)
+  keep_nodup l n =
+      nodup_flat (λ a. cond (p a) (a ∷ []) []) l n (λ a i. cond_nodup (p a) (a ∷ []) (nodup_single a))
+      (λ a b x i j. sym (in_single (p a) i) ∙ in_single (p b) j)
 
-  pub keep-none : (l : List A) → ((a : A) → Memᴰ a l → T (p a) → ⊥) → keep p l ≡ []
-  keep-none [] f = refl
-  keep-none (a ∷ l) f =
+  pub keep_none : (l : List A) → ((a : A) → Memᴰ a l → T (p a) → ⊥) → keep p l ≡ []
+  keep_none [] f = refl
+  keep_none (a ∷ l) f =
       ap (λ (b : Bool). cond b (a ∷ []) [] ++ keep p l) (¬T→false (p a) (f a (Memᴰ.head refl)))
-      ∙ keep-none l (λ b i. f b (Memᴰ.tail i))
+      ∙ keep_none l (λ b i. f b (Memᴰ.tail i))
 
   -- it is ascending and out of the list
-  pub keep-pick : (l : List A) → Pick l (keep p l)
-  keep-pick [] = done
-  keep-pick (a ∷ l) = go (p a) (keep-pick l)
+  pub keep_pick : (l : List A) → Pick l (keep p l)
+  keep_pick [] = done
+  keep_pick (a ∷ l) = go (p a) (keep_pick l)
     where
       go : (b : Bool) → Pick l (keep p l) → Pick (a ∷ l) (cond b (a ∷ []) [] ++ keep p l)
       go true d = pick refl (skip d)
       go false d = skip d
 
-pub keep-ascends : (p : ℕ → Bool) (l : List ℕ) → Pairwise ◌<◌ l → Pairwise ◌<◌ (keep p l)
-keep-ascends p l c =
-    pairwise-flat ◌<◌ ◌<◌ (λ t. cond (p t) (t ∷ []) []) l c (λ t. cond-pairwise ◌<◌ (p t) (t ∷ []) (pairwise-single ◌<◌ t))
-    (λ a b x y h i j. let e = in-single (p a) i in let f = in-single (p b) j in omega arith)
+pub keep_ascends : (p : ℕ → Bool) (l : List ℕ) → Pairwise ◌<◌ l → Pairwise ◌<◌ (keep p l)
+keep_ascends p l c =
+    pairwise_flat ◌<◌ ◌<◌ (λ t. cond (p t) (t ∷ []) []) l c (λ t. cond_pairwise ◌<◌ (p t) (t ∷ []) (pairwise_single ◌<◌ t))
+    (λ a b x y h i j. let e = in_single (p a) i in let f = in_single (p b) j in omega arith)
 
-pub ascending-nodup : (l : List ℕ) → Pairwise ◌<◌ l → Nodup l
-ascending-nodup [] c = tt
-ascending-nodup (x ∷ l) c = (λ i. let h = c.0 x i in absurd (omega arith), ascending-nodup l c.1)
+pub ascending_nodup : (l : List ℕ) → Pairwise ◌<◌ l → Nodup l
+ascending_nodup [] c = tt
+ascending_nodup (x ∷ l) c = (λ i. let h = c.0 x i in absurd (omega arith), ascending_nodup l c.1)
 
 -- two ascending lists with the same members have the same head
 same_head : (x y : ℕ) (a b : List ℕ) → Pairwise ◌<◌ (x ∷ a) → Pairwise ◌<◌ (y ∷ b) → Memᴰ x (y ∷ b) → Memᴰ y (x ∷ a) → x ≡ y
@@ -65,12 +65,12 @@ same_head x y a b c d i j = go (Memᴰ.cases_cons i) (Memᴰ.cases_cons j)
 in_tail : (x y : ℕ) (a b : List ℕ) → Pairwise ◌<◌ (x ∷ a) → x ≡ y → (z : ℕ) → Memᴰ z a → Memᴰ z (y ∷ b) → Memᴰ z b
 in_tail x y a b c e z i j = ⊎_elim (λ f. let h = c.0 z i in absurd (omega arith)) (λ k. k) (Memᴰ.cases_cons j)
 
-pub ascending-eq :
+pub ascending_eq :
     (a b : List ℕ) → Pairwise ◌<◌ a → Pairwise ◌<◌ b → ((x : ℕ) → Memᴰ x a → Memᴰ x b) → ((x : ℕ) → Memᴰ x b → Memᴰ x a) → a ≡ b
-ascending-eq [] [] c d f g = refl
-ascending-eq [] (y ∷ b) c d f g = absurd (Memᴰ.not-nil (g y (Memᴰ.head refl)))
-ascending-eq (x ∷ a) [] c d f g = absurd (Memᴰ.not-nil (f x (Memᴰ.head refl)))
-ascending-eq (x ∷ a) (y ∷ b) c d f g =
+ascending_eq [] [] c d f g = refl
+ascending_eq [] (y ∷ b) c d f g = absurd (Memᴰ.not-nil (g y (Memᴰ.head refl)))
+ascending_eq (x ∷ a) [] c d f g = absurd (Memᴰ.not-nil (f x (Memᴰ.head refl)))
+ascending_eq (x ∷ a) (y ∷ b) c d f g =
     let e = same_head x y a b c d (f x (Memᴰ.head refl)) (g y (Memᴰ.head refl)) in
     ap₂ ◌∷◌ e
-    (ascending-eq a b c.1 d.1 (λ z i. in_tail x y a b c e z i (f z (Memᴰ.tail i))) (λ z i. in_tail y x b a d (sym e) z i (g z (Memᴰ.tail i))))
+    (ascending_eq a b c.1 d.1 (λ z i. in_tail x y a b c e z i (f z (Memᴰ.tail i))) (λ z i. in_tail y x b a d (sym e) z i (g z (Memᴰ.tail i))))

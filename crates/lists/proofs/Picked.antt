@@ -6,10 +6,10 @@ use lib.Dec.{T}
 use Rattle.lists.specs.Order.{Pick, done, skip, pick}
 
 -- a function at each element of both
-pub pick-mapped : {A B : Type 0} (f : A → B) {ms l : List A} → Pick ms l → Pick (map f ms) (map f l)
-pick-mapped f done = done
-pick-mapped f (skip d) = skip (pick-mapped f d)
-pick-mapped f (pick q d) = pick (ap f q) (pick-mapped f d)
+pub pick_mapped : {A B : Type 0} (f : A → B) {ms l : List A} → Pick ms l → Pick (map f ms) (map f l)
+pick_mapped f done = done
+pick_mapped f (skip d) = skip (pick_mapped f d)
+pick_mapped f (pick q d) = pick (ap f q) (pick_mapped f d)
 
 -- out of a list that is itself out of ns
 module _ {A : Type 0} where
@@ -18,10 +18,10 @@ module _ {A : Type 0} where
   under q r (skip {l = l} e) = r l e
   under q r (pick p e) = pick (p ∙ q) (under q r e)
 
-  pub pick-through : {ns ms l : List A} → Pick ns ms → Pick ms l → Pick ns l
-  pick-through done done = done
-  pick-through (skip d) e = skip (pick-through d e)
-  pick-through (pick q d) e = under q (λ l e. pick-through d e) e
+  pub pick_through : {ns ms l : List A} → Pick ns ms → Pick ms l → Pick ns l
+  pick_through done done = done
+  pick_through (skip d) e = skip (pick_through d e)
+  pick_through (pick q d) e = under q (λ l e. pick_through d e) e
 
 -- ---- a test, by equality of elements
 module _ {A : Type 0} (eq : A → A → Bool) where
@@ -36,9 +36,9 @@ module _ {A : Type 0} (eq : A → A → Bool) where
   picks (m ∷ ms) l = picks ms (past m l)
 
   module _ (sound : (a b : A) → T (eq a b) → a ≡ b) where
-    past-pick : (m : A) (ms l : List A) → Pick (m ∷ ms) (past m l) → Pick (m ∷ ms) l
-    past-pick m ms [] d = d
-    past-pick m ms (x ∷ l) d = go (eq x m) (sound x m) (past-pick m ms l) d
+    past_pick : (m : A) (ms l : List A) → Pick (m ∷ ms) (past m l) → Pick (m ∷ ms) l
+    past_pick m ms [] d = d
+    past_pick m ms (x ∷ l) d = go (eq x m) (sound x m) (past_pick m ms l) d
       where
         go :
             (b : Bool) → (T b → x ≡ m) → (Pick (m ∷ ms) (past m l) → Pick (m ∷ ms) l)
@@ -46,7 +46,7 @@ module _ {A : Type 0} (eq : A → A → Bool) where
         go true s r d = pick (s tt) (r d)
         go false s r d = d
 
-    pub picks-pick : (ms l : List A) → T (picks ms l) → Pick ms l
-    picks-pick [] [] t = done
-    picks-pick [] (x ∷ l) t = absurd t
-    picks-pick (m ∷ ms) l t = past-pick m ms l (skip (picks-pick ms (past m l) t))
+    pub picks_pick : (ms l : List A) → T (picks ms l) → Pick ms l
+    picks_pick [] [] t = done
+    picks_pick [] (x ∷ l) t = absurd t
+    picks_pick (m ∷ ms) l t = past_pick m ms l (skip (picks_pick ms (past m l) t))

@@ -10,7 +10,7 @@ use lib.Dec.{T, ltb, ltb→lt}
 use Rattle.lists.specs.Fold.{flat}
 use Rattle.lists.specs.Order.{Nodup, Pairwise}
 use Rattle.lists.proofs.Finite.{and_left, and_right}
-use Rattle.lists.proofs.Members.{flat-mem}
+use Rattle.lists.proofs.Members.{flat_mem}
 
 module _ {A : Type 0} (R : A → A → Type 0) where
   pub pairwise_append : (l m : List A) → Pairwise R l → Pairwise R m → ((x y : A) → Memᴰ x l → Memᴰ y m → R x y) → Pairwise R (l ++ m)
@@ -27,17 +27,17 @@ module _ {A B : Type 0} (R : A → A → Type 0) (S : B → B → Type 0) (f : A
     pairwise_map l c.1 (λ a b i j. h a b (Memᴰ.tail i) (Memᴰ.tail j)),
   )
 
-pub cond-pairwise : {A : Type 0} (R : A → A → Type 0) (b : Bool) (l : List A) → Pairwise R l → Pairwise R (cond b l [])
-cond-pairwise R true l c = c
-cond-pairwise R false l c = tt
+pub cond_pairwise : {A : Type 0} (R : A → A → Type 0) (b : Bool) (l : List A) → Pairwise R l → Pairwise R (cond b l [])
+cond_pairwise R true l c = c
+cond_pairwise R false l c = tt
 
-pub pairwise-flat :
+pub pairwise_flat :
     {A B : Type 0} (R : A → A → Type 0) (S : B → B → Type 0) (g : A → List B) (l : List A) → Pairwise R l → ((a : A) → Pairwise S (g a))
     → ((a b : A) (x y : B) → R a b → Memᴰ x (g a) → Memᴰ y (g b) → S x y) → Pairwise S (flat g l)
-pairwise-flat R S g [] c f h = tt
-pairwise-flat R S g (a ∷ l) c f h =
-    pairwise_append S (g a) (flat g l) (f a) (pairwise-flat R S g l c.1 f h)
-    (λ x y i j. let r = flat-mem g l j in h a r.0 x y (c.0 r.0 r.1) i r.2)
+pairwise_flat R S g [] c f h = tt
+pairwise_flat R S g (a ∷ l) c f h =
+    pairwise_append S (g a) (flat g l) (f a) (pairwise_flat R S g l c.1 f h)
+    (λ x y i j. let r = flat_mem g l j in h a r.0 x y (c.0 r.0 r.1) i r.2)
 
 -- a test that f rises along the list, from each element to the next
 module _ {A : Type 0} (f : A → ℕ) where
@@ -55,16 +55,16 @@ module _ {A : Type 0} (f : A → ℕ) where
       let h = ltb→lt (f a) (f c) t in
       ⊎_elim (λ e. subst (λ x. f a < f x) (sym e) h) (λ j. lt_trans h (r.0 b j)) (Memᴰ.cases_cons i)
 
-  pub rising-pairwise : (l : List A) → T (rising l) → Pairwise (λ a b. f a < f b) l
-  rising-pairwise [] t = tt
-  rising-pairwise (a ∷ l) t =
-      let r = rising-pairwise l (and_right (below a l) _ t) in
+  pub rising_pairwise : (l : List A) → T (rising l) → Pairwise (λ a b. f a < f b) l
+  rising_pairwise [] t = tt
+  rising_pairwise (a ∷ l) t =
+      let r = rising_pairwise l (and_right (below a l) _ t) in
       (below_all a l (and_left (below a l) _ t) r, r)
 
   -- where f rises no element stands twice
-  pub ascending-nodup : (l : List A) → Pairwise (λ a b. f a < f b) l → Nodup l
-  ascending-nodup [] r = tt
-  ascending-nodup (a ∷ l) r = (λ i. lt_irrefl (f a) (r.0 a i), ascending-nodup l r.1)
+  pub ascending_nodup : (l : List A) → Pairwise (λ a b. f a < f b) l → Nodup l
+  ascending_nodup [] r = tt
+  ascending_nodup (a ∷ l) r = (λ i. lt_irrefl (f a) (r.0 a i), ascending_nodup l r.1)
 
-pub pairwise-single : {A : Type 0} (R : A → A → Type 0) (a : A) → Pairwise R (a ∷ [])
-pairwise-single R a = (λ y i. absurd (Memᴰ.not-nil i), tt)
+pub pairwise_single : {A : Type 0} (R : A → A → Type 0) (a : A) → Pairwise R (a ∷ [])
+pairwise_single R a = (λ y i. absurd (Memᴰ.not-nil i), tt)

@@ -6,7 +6,7 @@ use Prim.Native.Nat.{ℕ, ◌+◌}
 use native.Mathlib.Nat.{zero-add}
 use native.Mathlib.Omega.{arith}
 use lib.Dec.{T}
-use Rattle.lists.specs.Fold.{any, sum, afterLast}
+use Rattle.lists.specs.Fold.{any, sum, after_last}
 
 neither : (a b : Bool) → (a || b) ≡ false → (a ≡ false) × (b ≡ false)
 neither true b e = absurd (subst (λ x. T x) e tt)
@@ -14,11 +14,11 @@ neither false b e = (refl, e)
 
 -- where no element passes the test
 module _ {A : Type 0} (p : A → Bool) where
-  after_none : (l : List A) → any p l ≡ false → afterLast p l ≡ l
+  after_none : (l : List A) → any p l ≡ false → after_last p l ≡ l
   after_none [] e = refl
   after_none (a ∷ l) e = rw ((neither (p a) (any p l) e).1, (neither (p a) (any p l) e).0)
 
-pub after_never : {A : Type 0} (l : List A) → afterLast (λ a. false) l ≡ l
+pub after_never : {A : Type 0} (l : List A) → after_last (λ a. false) l ≡ l
 after_never l = after_none (λ a. false) l (none l)
   where
     none : {A : Type 0} (l : List A) → any {A = A} (λ a. false) l ≡ false
@@ -29,10 +29,10 @@ after_never l = after_none (λ a. false) l (none l)
 module _ {A : Type 0} (p : A → Bool) (f : A → ℕ) where
   -- the number after a list, from n
   abbrev pub since : ℕ → List A → ℕ
-  since n l = cond (any p l) 0 n + sum f (afterLast p l)
+  since n l = cond (any p l) 0 n + sum f (after_last p l)
 
-  pub since-next : (n : ℕ) (a : A) (l : List A) → since (cond (p a) 0 (n + f a)) l ≡ since n (a ∷ l)
-  since-next n a l = by_cases (any p l) (p a) refl refl
+  pub since_next : (n : ℕ) (a : A) (l : List A) → since (cond (p a) 0 (n + f a)) l ≡ since n (a ∷ l)
+  since_next n a l = by_cases (any p l) (p a) refl refl
     where
       by_cases : (s t : Bool) → any p l ≡ s → p a ≡ t → since (cond (p a) 0 (n + f a)) l ≡ since n (a ∷ l)
       by_cases true true es et = rw (es, et)
@@ -41,8 +41,8 @@ module _ {A : Type 0} (p : A → Bool) (f : A → ℕ) where
       by_cases false false es et = rw (after_none p l es, es, et) (omega arith)
 
   -- from 0
-  pub since-zero : (l : List A) → since 0 l ≡ sum f (afterLast p l)
-  since-zero l = go (any p l) (sum f (afterLast p l))
+  pub since_zero : (l : List A) → since 0 l ≡ sum f (after_last p l)
+  since_zero l = go (any p l) (sum f (after_last p l))
     where
       go : (b : Bool) (n : ℕ) → cond b 0 0 + n ≡ n
       go true n = zero-add n

@@ -9,23 +9,23 @@ use lib.Seq.{drop-cons, sets, sets-eq}
 
 module _ (d s : List ℕ) where
   -- what stands in s from i on is stored from p on
-  pub sets-next : (p i : ℕ) → i < length s → sets d p (drop i s) ≡ sets (set d p (get_or s i 0)) (p + 1) (drop (i + 1) s)
-  sets-next p i h =
+  pub sets_next : (p i : ℕ) → i < length s → sets d p (drop i s) ≡ sets (set d p (get_or s i 0)) (p + 1) (drop (i + 1) s)
+  sets_next p i h =
       ap (sets d p) (drop-cons s i 0 h)
       ∙ ap (λ (k : ℕ). sets (set d p (get_or s i 0)) k (drop (suc i) s)) (sym (add-one p))
       ∙ ap (λ (k : ℕ). sets (set d p (get_or s i 0)) (p + 1) (drop k s)) (sym (add-one i))
 
   -- where nothing is stored yet, the whole of s is left
-  pub sets-start : (at i : ℕ) → i ≡ 0 → sets d (at + i) (drop i s) ≡ sets d at s
-  sets-start at i h =
+  pub sets_start : (at i : ℕ) → i ≡ 0 → sets d (at + i) (drop i s) ≡ sets d at s
+  sets_start at i h =
       let e : at + i ≡ at = omega (arith, h) in
       ap₂ (λ (k j : ℕ). sets d k (drop j s)) e h
 
   -- the whole of s is stored from at on
-  pub sets-turn : (at i : ℕ) → i < length s → sets d (at + i) (drop i s) ≡ sets (set d (at + i) (get_or s i 0)) (at + (i + 1)) (drop (i + 1) s)
-  sets-turn at i h =
+  pub sets_turn : (at i : ℕ) → i < length s → sets d (at + i) (drop i s) ≡ sets (set d (at + i) (get_or s i 0)) (at + (i + 1)) (drop (i + 1) s)
+  sets_turn at i h =
       let e : at + i + 1 ≡ at + (i + 1) = omega arith in
-      sets-next (at + i) i h ∙ ap (λ (k : ℕ). sets (set d (at + i) (get_or s i 0)) k (drop (i + 1) s)) e
+      sets_next (at + i) i h ∙ ap (λ (k : ℕ). sets (set d (at + i) (get_or s i 0)) k (drop (i + 1) s)) e
 
   -- stored from the first place on, s stands first, and behind it what d had there
   pub sets_first : length s ≤ length d → sets d 0 s ≡ s ++ drop (length s) d
@@ -34,9 +34,9 @@ module _ (d s : List ℕ) where
       sets-eq s d 0 (omega arith) ∙ ap (λ (k : ℕ). s ++ drop k d) e
 
 -- ---- a copy: past its end nothing is left to store, and the whole of it stands in place of what was there
-pub copy-end : (d s : List ℕ) (i : ℕ) → length s ≤ i → d ≡ sets d i (drop i s)
-copy-end d s i h = sym (ap (λ (l : List ℕ). sets d i l) (drop_of_length-le s {i = i} h))
+pub copy_end : (d s : List ℕ) (i : ℕ) → length s ≤ i → d ≡ sets d i (drop i s)
+copy_end d s i h = sym (ap (λ (l : List ℕ). sets d i l) (drop_of_length-le s {i = i} h))
 
-pub copy-whole : (d s : List ℕ) → length d ≡ length s → sets d 0 s ≡ s
-copy-whole d s e =
+pub copy_whole : (d s : List ℕ) → length d ≡ length s → sets d 0 s ≡ s
+copy_whole d s e =
     sets_first d s (omega arith) ∙ ap (λ (l : List ℕ). s ++ l) (drop_of_length-le d {i = length s} (omega arith)) ∙ append-nil s

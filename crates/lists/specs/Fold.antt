@@ -46,9 +46,9 @@ module _ {A : Type 0} where
 
 -- the part of a list after the last element that passes the test p: the whole list where none does
 module _ {A : Type 0} where
-  abbrev pub afterLast : (A → Bool) → List A → List A
-  afterLast p [] = []
-  afterLast p (a ∷ l) = cond (any p l) (afterLast p l) (cond (p a) l (a ∷ l))
+  abbrev pub after_last : (A → Bool) → List A → List A
+  after_last p [] = []
+  after_last p (a ∷ l) = cond (any p l) (after_last p l) (cond (p a) l (a ∷ l))
 
 -- the test p passes at each number below n
 abbrev pub all_below : ℕ → (ℕ → Bool) → Bool

@@ -8,135 +8,135 @@ use native.Mathlib.Omega.{arith}
 use lib.Dec.{T, eqb, ltb, leb, eqb→eq, ltb→lt, leb→le, eqb_refl}
 use Rattle.lists.specs.Fold.{all_below, all, any}
 use Rattle.lists.specs.Order.{Pick, Nodup, Pairwise, arrange}
-use Rattle.lists.proofs.Finite.{at, and_left, and_right, and_both, or-skip}
-use Rattle.lists.proofs.Members.{all-mem, all-intro, flat_in}
-use Rattle.lists.proofs.Relations.{rising-pairwise, ascending-nodup}
+use Rattle.lists.proofs.Finite.{at, and_left, and_right, and_both, or_skip}
+use Rattle.lists.proofs.Members.{all_mem, all_intro, flat_in}
+use Rattle.lists.proofs.Relations.{rising_pairwise, ascending_nodup}
 use Rattle.lists.proofs.Arranged as general
-use Rattle.tile.proofs.Tiles.{in-tiles}
+use Rattle.tile.proofs.Tiles.{in_tiles}
 use Rattle.meld.specs.declared.Meld.{Meld}
-use Rattle.meld.specs.Meld.{isSequence, isOpen, isShaped, nearest, isSeat, isSourced, isMeld, isHandMeld, key, eqMeld, meldFrom, meld, butSource, handMeldsAt, meldsAt, melds, handMelds, sorted}
+use Rattle.meld.specs.Meld.{is_sequence, is_open, is_shaped, nearest, is_seat, is_sourced, is_meld, is_hand_meld, key, eq_meld, meld_from, meld, but_source, hand_melds_at, melds_at, melds, hand_melds, sorted}
 
 -- ---- equal melds
-pub meld-path : {m x : Meld} → m.tile ≡ x.tile → m.kind ≡ x.kind → m.source ≡ x.source → m ≡ x
-meld-path p q r = λ i. meldFrom (p i) (q i) (r i)
+pub meld_path : {m x : Meld} → m.tile ≡ x.tile → m.kind ≡ x.kind → m.source ≡ x.source → m ≡ x
+meld_path p q r = λ i. meld_from (p i) (q i) (r i)
 
-pub eqMeld→eq : (m x : Meld) → T (eqMeld m x) → m ≡ x
-eqMeld→eq m x t =
+pub eq_meld→eq : (m x : Meld) → T (eq_meld m x) → m ≡ x
+eq_meld→eq m x t =
     let rest = and_right (eqb m.tile x.tile) _ t in
-    meld-path (eqb→eq _ _ (and_left (eqb m.tile x.tile) _ t))
+    meld_path (eqb→eq _ _ (and_left (eqb m.tile x.tile) _ t))
     (eqb→eq _ _ (and_left (eqb m.kind x.kind) _ rest)) (eqb→eq _ _ (and_right (eqb m.kind x.kind) _ rest))
 
-pub eqMeld-refl : (m : Meld) → T (eqMeld m m)
-eqMeld-refl m =
+pub eq_meld_refl_holds : (m : Meld) → T (eq_meld m m)
+eq_meld_refl_holds m =
     and_both (eqb m.tile m.tile) _ (eqb_refl m.tile)
     (and_both (eqb m.kind m.kind) (eqb m.source m.source) (eqb_refl m.kind) (eqb_refl m.source))
 
 -- ---- the general laws, of melds
-pub arrange-same : (ms : List Meld) {a b : List Meld} → Permᴰ a b → arrange eqMeld ms a ≡ arrange eqMeld ms b
-arrange-same = general.arrange-same eqMeld eqMeld→eq eqMeld-refl
+pub arrange_same : (ms : List Meld) {a b : List Meld} → Permᴰ a b → arrange eq_meld ms a ≡ arrange eq_meld ms b
+arrange_same = general.arrange_same eq_meld eq_meld→eq eq_meld_refl_holds
 
-pub arrange-perm : (ms : List Meld) → Nodup ms → (l : List Meld) → ((x : Meld) → Memᴰ x l → Memᴰ x ms) → Permᴰ (arrange eqMeld ms l) l
-arrange-perm = general.arrange-perm eqMeld eqMeld→eq eqMeld-refl
+pub arrange_perm : (ms : List Meld) → Nodup ms → (l : List Meld) → ((x : Meld) → Memᴰ x l → Memᴰ x ms) → Permᴰ (arrange eq_meld ms l) l
+arrange_perm = general.arrange_perm eq_meld eq_meld→eq eq_meld_refl_holds
 
-pub arrange-pick : (ms l : List Meld) → Pick ms (arrange eqMeld ms l)
-arrange-pick = general.arrange-pick eqMeld eqMeld→eq eqMeld-refl
+pub arrange_pick : (ms l : List Meld) → Pick ms (arrange eq_meld ms l)
+arrange_pick = general.arrange_pick eq_meld eq_meld→eq eq_meld_refl_holds
 
-pub arrange-id : {ms l : List Meld} → Pick ms l → Nodup ms → arrange eqMeld ms l ≡ l
-arrange-id = general.arrange-id eqMeld eqMeld→eq eqMeld-refl
+pub arrange_id : {ms l : List Meld} → Pick ms l → Nodup ms → arrange eq_meld ms l ≡ l
+arrange_id = general.arrange_id eq_meld eq_meld→eq eq_meld_refl_holds
 
-pub any-mem : (m : Meld) (l : List Meld) → T (any (eqMeld m) l) → Memᴰ m l
-any-mem = general.any-mem eqMeld eqMeld→eq eqMeld-refl
+pub any_mem : (m : Meld) (l : List Meld) → T (any (eq_meld m) l) → Memᴰ m l
+any_mem = general.any_mem eq_meld eq_meld→eq eq_meld_refl_holds
 
 -- ---- a test over all melds, one for each tile and kind; it tells of every source where the question does not ask for it
-abbrev pub allMelds : (Meld → Bool) → Bool
-allMelds p = all_below 7 (λ k. all_below 34 (λ t. not (isShaped (meld t k)) || p (meld t k)))
+abbrev pub all_melds : (Meld → Bool) → Bool
+all_melds p = all_below 7 (λ k. all_below 34 (λ t. not (is_shaped (meld t k)) || p (meld t k)))
 
 -- the question p does not ask for the source
 abbrev pub Sourceless : (Meld → Bool) → Type 0
-Sourceless p = (m : Meld) → p m ≡ p (butSource m)
+Sourceless p = (m : Meld) → p m ≡ p (but_source m)
 
-pub meld-shaped : (m : Meld) → T (isMeld m) → T (isShaped m)
-meld-shaped m v = and_left (isShaped m) _ v
+pub meld_shaped : (m : Meld) → T (is_meld m) → T (is_shaped m)
+meld_shaped m v = and_left (is_shaped m) _ v
 
-pub meld-sourced : (m : Meld) → T (isMeld m) → T (isSourced m)
-meld-sourced m v = and_right (isShaped m) _ v
+pub meld_sourced : (m : Meld) → T (is_meld m) → T (is_sourced m)
+meld_sourced m v = and_right (is_shaped m) _ v
 
-pub meld-kind : (m : Meld) → T (isMeld m) → m.kind < 7
-meld-kind m v = ltb→lt m.kind 7 (and_left (ltb m.kind 7) _ (meld-shaped m v))
+pub meld_kind : (m : Meld) → T (is_meld m) → m.kind < 7
+meld_kind m v = ltb→lt m.kind 7 (and_left (ltb m.kind 7) _ (meld_shaped m v))
 
-pub meld-tile : (m : Meld) → T (isMeld m) → m.tile < 34
-meld-tile m v = ltb→lt m.tile 34 (and_left (ltb m.tile 34) _ (and_right (ltb m.kind 7) _ (meld-shaped m v)))
+pub meld_tile : (m : Meld) → T (is_meld m) → m.tile < 34
+meld_tile m v = ltb→lt m.tile 34 (and_left (ltb m.tile 34) _ (and_right (ltb m.kind 7) _ (meld_shaped m v)))
 
-pub melds-at : (p : Meld → Bool) → Sourceless p → T (allMelds p) → (m : Meld) → T (isMeld m) → T (p m)
-melds-at p blind ok m v =
+pub melds_at_holds : (p : Meld → Bool) → Sourceless p → T (all_melds p) → (m : Meld) → T (is_meld m) → T (p m)
+melds_at_holds p blind ok m v =
     subst T (sym (blind m))
-    (or-skip (isShaped m) (p (butSource m)) (meld-shaped m v)
-    (at 34 (λ t. not (isShaped (meld t m.kind)) || p (meld t m.kind))
-    (at 7 (λ k. all_below 34 (λ t. not (isShaped (meld t k)) || p (meld t k))) ok m.kind (meld-kind m v))
-    m.tile (meld-tile m v)))
+    (or_skip (is_shaped m) (p (but_source m)) (meld_shaped m v)
+    (at 34 (λ t. not (is_shaped (meld t m.kind)) || p (meld t m.kind))
+    (at 7 (λ k. all_below 34 (λ t. not (is_shaped (meld t k)) || p (meld t k))) ok m.kind (meld_kind m v))
+    m.tile (meld_tile m v)))
 
 -- a meld but for its source is a meld
-pub but-isMeld : (m : Meld) → T (isMeld m) → T (isMeld (butSource m))
-but-isMeld = melds-at (λ m. isMeld (butSource m)) (λ m. refl) tt
+pub but_is_meld_holds : (m : Meld) → T (is_meld m) → T (is_meld (but_source m))
+but_is_meld_holds = melds_at_holds (λ m. is_meld (but_source m)) (λ m. refl) tt
 
 -- ---- the source is below 4
-seat-small : (b : Bool) (s : ℕ) → T (isSeat b s) → s < 4
-seat-small b s h = let e = leb→le s 3 (and_right (leb (nearest b) s) _ h) in omega arith
+seat_small : (b : Bool) (s : ℕ) → T (is_seat b s) → s < 4
+seat_small b s h = let e = leb→le s 3 (and_right (leb (nearest b) s) _ h) in omega arith
 
-pub meld-source : (m : Meld) → T (isMeld m) → m.source < 4
-meld-source m v = go (isOpen m) (meld-sourced m v)
+pub meld_source : (m : Meld) → T (is_meld m) → m.source < 4
+meld_source m v = go (is_open m) (meld_sourced m v)
   where
-    go : (b : Bool) → T (cond b (isSeat (isSequence m) m.source) (eqb m.source 0)) → m.source < 4
-    go true h = seat-small (isSequence m) m.source h
+    go : (b : Bool) → T (cond b (is_seat (is_sequence m) m.source) (eqb m.source 0)) → m.source < 4
+    go true h = seat_small (is_sequence m) m.source h
     go false h = let e = eqb→eq m.source 0 h in omega arith
 
 -- ---- they ascend, and so each stands once
-pub melds-ascend : Pairwise (λ m x. key m < key x) melds
-melds-ascend = rising-pairwise key melds tt
+pub melds_ascend : Pairwise (λ m x. key m < key x) melds
+melds_ascend = rising_pairwise key melds tt
 
-pub handMelds-nodup : Nodup handMelds
-handMelds-nodup = ascending-nodup key handMelds (rising-pairwise key handMelds tt)
+pub hand_melds_nodup_holds : Nodup hand_melds
+hand_melds_nodup_holds = ascending_nodup key hand_melds (rising_pairwise key hand_melds tt)
 
-pub melds-nodup : Nodup melds
-melds-nodup = ascending-nodup key melds melds-ascend
+pub melds_nodup : Nodup melds
+melds_nodup = ascending_nodup key melds melds_ascend
 
 -- ---- the melds of a hand, and all melds: these and no others, by a test of each tile, kind and source
-abbrev allSources : (Meld → Bool) → Bool
-allSources p = all_below 4 (λ s. all_below 7 (λ k. all_below 34 (λ t. p (meldFrom t k s))))
+abbrev all_sources : (Meld → Bool) → Bool
+all_sources p = all_below 4 (λ s. all_below 7 (λ k. all_below 34 (λ t. p (meld_from t k s))))
 
-sources-at : (p : Meld → Bool) → T (allSources p) → (m : Meld) → T (isMeld m) → T (p m)
-sources-at p ok m v =
-    at 34 (λ t. p (meldFrom t m.kind m.source))
-    (at 7 (λ k. all_below 34 (λ t. p (meldFrom t k m.source)))
-    (at 4 (λ s. all_below 7 (λ k. all_below 34 (λ t. p (meldFrom t k s)))) ok m.source (meld-source m v))
-    m.kind (meld-kind m v))
-    m.tile (meld-tile m v)
+sources_at : (p : Meld → Bool) → T (all_sources p) → (m : Meld) → T (is_meld m) → T (p m)
+sources_at p ok m v =
+    at 34 (λ t. p (meld_from t m.kind m.source))
+    (at 7 (λ k. all_below 34 (λ t. p (meld_from t k m.source)))
+    (at 4 (λ s. all_below 7 (λ k. all_below 34 (λ t. p (meld_from t k s)))) ok m.source (meld_source m v))
+    m.kind (meld_kind m v))
+    m.tile (meld_tile m v)
 
-pub in-melds : (m : Meld) → T (isMeld m) → Memᴰ m melds
-in-melds m v =
-    flat_in meldsAt (in-tiles m.tile (meld-tile m v))
-    (any-mem m (meldsAt m.tile) (or-skip (isMeld m) _ v (sources-at (λ m. not (isMeld m) || any (eqMeld m) (meldsAt m.tile)) tt m v)))
+pub in_melds : (m : Meld) → T (is_meld m) → Memᴰ m melds
+in_melds m v =
+    flat_in melds_at (in_tiles m.tile (meld_tile m v))
+    (any_mem m (melds_at m.tile) (or_skip (is_meld m) _ v (sources_at (λ m. not (is_meld m) || any (eq_meld m) (melds_at m.tile)) tt m v)))
 
-pub in-handMelds : (m : Meld) → T (isHandMeld m) → Memᴰ m handMelds
-in-handMelds m v =
-    let good = and_left (isMeld m) _ v in
-    flat_in handMeldsAt (in-tiles m.tile (meld-tile m good))
-    (any-mem m (handMeldsAt m.tile)
-    (or-skip (isHandMeld m) _ v (sources-at (λ m. not (isHandMeld m) || any (eqMeld m) (handMeldsAt m.tile)) tt m good)))
+pub in_hand_melds_holds : (m : Meld) → T (is_hand_meld m) → Memᴰ m hand_melds
+in_hand_melds_holds m v =
+    let good = and_left (is_meld m) _ v in
+    flat_in hand_melds_at (in_tiles m.tile (meld_tile m good))
+    (any_mem m (hand_melds_at m.tile)
+    (or_skip (is_hand_meld m) _ v (sources_at (λ m. not (is_hand_meld m) || any (eq_meld m) (hand_melds_at m.tile)) tt m good)))
 
-pub is-handMeld : (m : Meld) → Memᴰ m handMelds → T (isHandMeld m)
-is-handMeld m i = all-mem isHandMeld {l = handMelds} tt i
+pub is_hand_meld_holds : (m : Meld) → Memᴰ m hand_melds → T (is_hand_meld m)
+is_hand_meld_holds m i = all_mem is_hand_meld {l = hand_melds} tt i
 
-pub is-meld : (m : Meld) → Memᴰ m melds → T (isMeld m)
-is-meld m i = all-mem isMeld {l = melds} tt i
+pub is_meld_holds : (m : Meld) → Memᴰ m melds → T (is_meld m)
+is_meld_holds m i = all_mem is_meld {l = melds} tt i
 
 -- melds of a hand are melds
-pub closed-melds : (l : List Meld) → T (all isHandMeld l) → T (all isMeld l)
-closed-melds l v = all-intro isMeld l (λ m i. and_left (isMeld m) _ (all-mem isHandMeld v i))
+pub closed_melds : (l : List Meld) → T (all is_hand_meld l) → T (all is_meld l)
+closed_melds l v = all_intro is_meld l (λ m i. and_left (is_meld m) _ (all_mem is_hand_meld v i))
 
-pub picked-melds : {l : List Meld} → Pick handMelds l → T (all isMeld l)
-picked-melds {l} d = closed-melds l (all-intro isHandMeld l (λ m i. is-handMeld m (general.pick-mem d i)))
+pub picked_melds : {l : List Meld} → Pick hand_melds l → T (all is_meld l)
+picked_melds {l} d = closed_melds l (all_intro is_hand_meld l (λ m i. is_hand_meld_holds m (general.pick_mem d i)))
 
 -- melds in ascending order are the melds, in another order
-pub sorted-perm : (ms : List Meld) → T (all isMeld ms) → Permᴰ (sorted ms) ms
-sorted-perm ms v = arrange-perm melds melds-nodup ms (λ x i. in-melds x (all-mem isMeld v i))
+pub sorted_perm : (ms : List Meld) → T (all is_meld ms) → Permᴰ (sorted ms) ms
+sorted_perm ms v = arrange_perm melds melds_nodup ms (λ x i. in_melds x (all_mem is_meld v i))

@@ -3,8 +3,8 @@
 // was called, 1 to 3 seats onward from the one who called it (on the right, across, on the left), 0 where no tile was called.
 // Any bytes may stand in it: is_valid says whether it is one.
 ghost use Rattle.std.specs.Prelude.{◌≡◌, min};
-ghost use Rattle.meld.specs.Meld.{isSequence, isTripletOrKan, isKan, isConcealed, isOpen, nearest, isSeat, isSourced, isMeld, is_call, key, runUses, setSize, uses, atTile, fromSeat, meld};
-ghost use Rattle.meld.specs.Renamed.{renMeld};
+ghost use Rattle.meld.specs.Meld.{is_sequence, is_triplet_or_kan, is_kan, is_concealed, is_open, nearest, is_seat, is_sourced, is_meld, is_call, key, run_uses, set_size, uses, at_tile, from_seat, meld};
+ghost use Rattle.meld.specs.Renamed.{ren_meld};
 
 #[repr(C)]
 #[derive(Drop)]
@@ -17,42 +17,42 @@ pub struct Meld {
 impl Meld {
     // Is this a sequence, closed or open?
     pub fn is_sequence(self) -> bool
-        ensures { result ≡ isSequence self }
+        ensures { result ≡ is_sequence self }
     {
         self.kind < 2
     }
 
     // Is this a triplet or a kan?
     pub fn is_triplet_or_kan(self) -> bool
-        ensures { result ≡ isTripletOrKan self }
+        ensures { result ≡ is_triplet_or_kan self }
     {
         (2 <= self.kind) & (self.kind < 7)
     }
 
     // Is this a kan?
     pub fn is_kan(self) -> bool
-        ensures { result ≡ isKan self }
+        ensures { result ≡ is_kan self }
     {
         (4 <= self.kind) & (self.kind < 7)
     }
 
     // Was no tile of it called from another player?
     pub fn is_concealed(self) -> bool
-        ensures { result ≡ isConcealed self }
+        ensures { result ≡ is_concealed self }
     {
         (self.kind == 0) | ((self.kind == 2) | (self.kind == 4))
     }
 
     // Was a tile of it called from another player?
     pub fn is_open(self) -> bool
-        ensures { result ≡ isOpen self }
+        ensures { result ≡ is_open self }
     {
         (self.kind == 1) | ((self.kind == 3) | ((self.kind == 5) | (self.kind == 6)))
     }
 
     // Is the source one from which a meld of its kind can come?
     pub fn is_sourced(self) -> bool
-        ensures { result ≡ isSourced self }
+        ensures { result ≡ is_sourced self }
     {
         if self.is_open() {
             return is_seat(self.is_sequence(), self.source);
@@ -62,7 +62,7 @@ impl Meld {
 
     // Are tile, kind and source those of a meld?
     pub fn is_valid(self) -> bool
-        ensures { result ≡ isMeld self }
+        ensures { result ≡ is_meld self }
     {
         let tile = tile::Tile(self.tile);
         ((self.kind < 7) & ((self.tile < 34) & ((2 <= self.kind) | tile.is_start())))
@@ -98,7 +98,7 @@ impl Meld {
 
     // The meld under a renaming: its tiles are renamed, the lowest of them is then its tile; kind and source stay.
     pub fn renamed(self, by: tile::Renaming) -> Meld
-        ensures { result ≡ renMeld by self }
+        ensures { result ≡ ren_meld by self }
     {
         let first = tile::Tile(self.tile);
         let a = first.renamed(by);
@@ -112,7 +112,7 @@ impl Meld {
 
     // A meld of the same kind and source at another tile.
     fn at_tile(self, tile: u8) -> Meld
-        ensures { result ≡ atTile tile self }
+        ensures { result ≡ at_tile tile self }
     {
         Meld {
             tile: tile,
@@ -123,7 +123,7 @@ impl Meld {
 
     // The meld of the same tile and kind from another seat.
     pub fn from_seat(self, source: u8) -> Meld
-        ensures { result ≡ fromSeat source self }
+        ensures { result ≡ from_seat source self }
     {
         Meld {
             tile: self.tile,
@@ -160,14 +160,14 @@ fn nearest(sequence: bool) -> u8
 
 // Can a tile of an open meld come from this seat?
 fn is_seat(sequence: bool, source: u8) -> bool
-    ensures { result ≡ isSeat sequence source }
+    ensures { result ≡ is_seat sequence source }
 {
     (nearest(sequence) <= source) & (source <= 3)
 }
 
 // How many of the tile t a sequence from a tile holds.
 fn run_uses(first: u8, t: u8) -> u8
-    ensures { result ≡ runUses first t }
+    ensures { result ≡ run_uses first t }
 {
     if (first <= t) & ((t as u16) < (first as u16) + 3) {
         return 1;
@@ -177,7 +177,7 @@ fn run_uses(first: u8, t: u8) -> u8
 
 // How many tiles a kan has, or a triplet.
 fn set_size(kan: bool) -> u8
-    ensures { result ≡ setSize kan }
+    ensures { result ≡ set_size kan }
 {
     if kan { 4 } else { 3 }
 }

@@ -13,8 +13,8 @@ use Rattle.lists.specs.Fold.{all, any, up_from}
 use Rattle.lists.proofs.Finite.{and_left, and_right, and_both, or_elim, or_left, or_right, T-eq}
 use Rattle.lists.proofs.Elements.{four}
 use Rattle.meld.specs.declared.Meld.{Meld}
-use Rattle.meld.specs.Meld.{isSequence, isTripletOrKan}
-use Rattle.meld_yaku.specs.Melds.{run_from, setOf}
+use Rattle.meld.specs.Meld.{is_sequence, is_triplet_or_kan}
+use Rattle.meld_yaku.specs.Melds.{run_from, set_of}
 
 -- ---- a question of one of n numbers from a on
 module _ (p : ℕ → Bool) where
@@ -24,17 +24,17 @@ module _ (p : ℕ → Bool) where
       or_elim {C = (k : ℕ) × (a ≤ k) × (k < a + suc n) × T (p k)} (p a) _ t (λ h. (a, omega arith, omega arith, h))
       (λ h. let r = any_at n (suc a) h in let lo = r.1 in let hi = r.2 in (r.0, omega arith, omega arith, r.3))
 
-  at-any : (n a k : ℕ) → a ≤ k → k < a + n → T (p k) → T (any p (up_from n a))
-  at-any zero a k lo hi t = absurd (omega arith)
-  at-any (suc n) a k lo hi t = go (ℕ_discrete a k) (at-any n (suc a) k)
+  at_any : (n a k : ℕ) → a ≤ k → k < a + n → T (p k) → T (any p (up_from n a))
+  at_any zero a k lo hi t = absurd (omega arith)
+  at_any (suc n) a k lo hi t = go (ℕ_discrete a k) (at_any n (suc a) k)
     where
       go : Dec (a ≡ k) → (suc a ≤ k → k < suc a + n → T (p k) → T (any p (up_from n (suc a)))) → T (any p (up_from (suc n) a))
       go (yes e) rec = or_left (p a) _ (subst (λ (m : ℕ). T (p m)) (sym e) t)
       go (no e) rec = or_right (p a) _ (rec (omega arith) (omega arith) t)
 
 -- ---- three different numbers are not all among two
-not-all-three : (x y z c d : ℕ) → x < y → y < z → (x ≡ c) ⊎ (x ≡ d) → (y ≡ c) ⊎ (y ≡ d) → (z ≡ c) ⊎ (z ≡ d) → ⊥
-not-all-three x y z c d h k i j l =
+not_all_three : (x y z c d : ℕ) → x < y → y < z → (x ≡ c) ⊎ (x ≡ d) → (y ≡ c) ⊎ (y ≡ d) → (z ≡ c) ⊎ (z ≡ d) → ⊥
+not_all_three x y z c d h k i j l =
     ⊎_elim (λ e. ⊎_elim (λ f. omega arith) (λ f. ⊎_elim (λ g. omega arith) (λ g. omega arith) l) j)
     (λ e. ⊎_elim (λ f. ⊎_elim (λ g. omega arith) (λ g. omega arith) l) (λ f. omega arith) j) i
 
@@ -68,7 +68,7 @@ module _ (q : ℕ → Meld → Bool) (own : (t : ℕ) (m : Meld) → T (q t m) �
       through x y z l t =
           ⊎_elim (early x l.2)
           (λ i. ⊎_elim (early y l.3)
-          (λ j. ⊎_elim (early z l.4) (λ m. absurd (not-all-three x y z c.tile d.tile l.0 l.1 i j m)) (place z hz))
+          (λ j. ⊎_elim (early z l.4) (λ m. absurd (not_all_three x y z c.tile d.tile l.0 l.1 i j m)) (place z hz))
           (place y hy))
           (place x (and_left (any (q x) ms) _ t))
         where
@@ -84,50 +84,50 @@ module _ (q : ℕ → Meld → Bool) (own : (t : ℕ) (m : Meld) → T (q t m) �
   -- ---- n lines, of the numbers below n
   module _ (at f g h : ℕ → ℕ) (n : ℕ) (line : (k : ℕ) → k < n → Line at k (f k) (g k) (h k)) where
     -- k is the number of a line, and the line is there
-    abbrev pub onLine : List Meld → ℕ → Bool
-    onLine ms k = ltb k n && lined ms (f k) (g k) (h k)
+    abbrev pub on_line : List Meld → ℕ → Bool
+    on_line ms k = ltb k n && lined ms (f k) (g k) (h k)
 
     -- some line is there
     abbrev pub any_of : List Meld → Bool
     any_of ms = any (λ k. lined ms (f k) (g k) (h k)) (up_from n 0)
 
-    there : (ms : List Meld) (k : ℕ) → T (onLine ms k) → T (any_of ms)
+    there : (ms : List Meld) (k : ℕ) → T (on_line ms k) → T (any_of ms)
     there ms k t =
         let i = ltb→lt k n (and_left (ltb k n) _ t) in
-        at-any (λ k. lined ms (f k) (g k) (h k)) n 0 k (omega arith) (omega arith) (and_right (ltb k n) _ t)
+        at_any (λ k. lined ms (f k) (g k) (h k)) n 0 k (omega arith) (omega arith) (and_right (ltb k n) _ t)
 
-    here : (ms : List Meld) (k m : ℕ) → m ≡ k → k < n → T (lined ms (f k) (g k) (h k)) → T (onLine ms m)
-    here ms k m e i t = subst (λ (u : ℕ). T (onLine ms u)) (sym e) (and_both (ltb k n) _ (lt→ltb k n i) t)
+    here : (ms : List Meld) (k m : ℕ) → m ≡ k → k < n → T (lined ms (f k) (g k) (h k)) → T (on_line ms m)
+    here ms k m e i t = subst (λ (u : ℕ). T (on_line ms u)) (sym e) (and_both (ltb k n) _ (lt→ltb k n i) t)
 
     of_four :
         (a b c d : Meld) (l : List Meld) → l ≡ ms a b c d
-        → (onLine l (at a.tile) || onLine l (at b.tile)) ≡ any_of l
+        → (on_line l (at a.tile) || on_line l (at b.tile)) ≡ any_of l
     of_four a b c d l e =
-        T-eq (onLine l (at a.tile) || onLine l (at b.tile)) (any_of l)
-        (λ t. or_elim (onLine l (at a.tile)) _ t (there l (at a.tile)) (there l (at b.tile)))
+        T-eq (on_line l (at a.tile) || on_line l (at b.tile)) (any_of l)
+        (λ t. or_elim (on_line l (at a.tile)) _ t (there l (at a.tile)) (there l (at b.tile)))
         (λ t. found (any_at (λ k. lined l (f k) (g k) (h k)) n 0 t))
       where
-        found : (k : ℕ) × (0 ≤ k) × (k < 0 + n) × T (lined l (f k) (g k) (h k)) → T (onLine l (at a.tile) || onLine l (at b.tile))
+        found : (k : ℕ) × (0 ≤ k) × (k < 0 + n) × T (lined l (f k) (g k) (h k)) → T (on_line l (at a.tile) || on_line l (at b.tile))
         found r =
             let k = r.0 in
             let hi = r.2 in
             let i : k < n = omega arith in
-            ⊎_elim (λ e. or_left (onLine l (at a.tile)) _ (here l k (at a.tile) e i r.3))
-            (λ e. or_right (onLine l (at a.tile)) _ (here l k (at b.tile) e i r.3))
+            ⊎_elim (λ e. or_left (on_line l (at a.tile)) _ (here l k (at a.tile) e i r.3))
+            (λ e. or_right (on_line l (at a.tile)) _ (here l k (at b.tile) e i r.3))
             (through a b c d at k (f k) (g k) (h k) (line k i) (subst (λ (l : List Meld). T (lined l (f k) (g k) (h k))) e r.3))
 
     -- some line is there exactly if one through the first or the second meld's tile is
     pub first_two :
         (l : List Meld) (m : Meld) → length l ≡ 4
-        → (onLine l (at (get_or l 0 m).tile) || onLine l (at (get_or l 1 m).tile)) ≡ any_of l
+        → (on_line l (at (get_or l 0 m).tile) || on_line l (at (get_or l 1 m).tile)) ≡ any_of l
     first_two l m e = of_four (get_or l 0 m) (get_or l 1 m) (get_or l 2 m) (get_or l 3 m) l (four l m e)
 
 -- ---- sequences and sets have the tile that is asked for
-pub run-own : (t : ℕ) (m : Meld) → T (run_from t m) → t ≡ m.tile
-run-own t m h = eqb→eq t m.tile (and_right (isSequence m) _ h)
+pub run_own : (t : ℕ) (m : Meld) → T (run_from t m) → t ≡ m.tile
+run_own t m h = eqb→eq t m.tile (and_right (is_sequence m) _ h)
 
-pub set_own : (t : ℕ) (m : Meld) → T (setOf (eqb t) m) → t ≡ m.tile
-set_own t m h = eqb→eq t m.tile (and_right (isTripletOrKan m) _ h)
+pub set_own : (t : ℕ) (m : Meld) → T (set_of (eqb t) m) → t ≡ m.tile
+set_own t m h = eqb→eq t m.tile (and_right (is_triplet_or_kan m) _ h)
 
 -- ---- the line of a number in the three suits
 pub of_number : (k : ℕ) → k < 9 → Line (λ t. t % 9) k k (k + 9) (k + 18)

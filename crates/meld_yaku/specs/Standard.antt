@@ -4,7 +4,7 @@ use Rattle.meld.specs.declared.Meld.{Meld}
 use Rattle.hand.specs.Reading.{Reading, pairs, orphans, standard}
 
 -- a question of the pair and the melds of a standard reading, and no for any other
-abbrev pub ofStandard : (ℕ → List Meld → Bool) → Reading → Bool
-ofStandard q (pairs ps) = false
-ofStandard q (orphans p) = false
-ofStandard q (standard p ms) = q p ms
+abbrev pub of_standard : (ℕ → List Meld → Bool) → Reading → Bool
+of_standard q (pairs ps) = false
+of_standard q (orphans p) = false
+of_standard q (standard p ms) = q p ms

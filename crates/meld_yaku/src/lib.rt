@@ -1,18 +1,18 @@
 // One meld and four melds, asked by the yaku of a standard reading (set_yaku, honor_yaku, sequence_yaku, end_yaku).
 ghost use Rattle.std.specs.Prelude.{◌≡◌, eqb};
 ghost use Rattle.lists.specs.Fold.{any};
-ghost use Rattle.meld_yaku.specs.Melds.{setOf};
+ghost use Rattle.meld_yaku.specs.Melds.{set_of};
 
 // Is it a triplet or kan of the tile?
 pub fn is_set_of(m: meld::Meld, t: u8) -> bool
-    ensures { result ≡ setOf (eqb t) m }
+    ensures { result ≡ set_of (eqb t) m }
 {
     m.is_triplet_or_kan() & (t == m.tile)
 }
 
 // Is one of the melds a triplet or kan of the tile?
 pub fn has_set(ms: [meld::Meld; 4], t: u8) -> bool
-    ensures { result ≡ any (setOf (eqb t)) ms }
+    ensures { result ≡ any (set_of (eqb t)) ms }
 {
     is_set_of(ms[0], t) | (is_set_of(ms[1], t) | (is_set_of(ms[2], t) | is_set_of(ms[3], t)))
 }

@@ -9,65 +9,65 @@ use lib.ListN.{length, take, set, length-set}
 use lib.Seq.{take-suc-set}
 use borrow.Author.Tests.{le-leb, lt-leb}
 use Rattle.lists.specs.Fold.{all, keep}
-use Rattle.lists.proofs.Finite.{and_right, and_both, true→T}
+use Rattle.lists.proofs.Finite.{and_right, and_both, true→t}
 use Rattle.lists.proofs.Members.{all_append}
 use Rattle.context.specs.declared.Indicators.{Indicators}
-use Rattle.context.specs.Context.{shown, areIndicators}
-use Rattle.tile_words.specs.Words.{tilesIn, tilesOf}
-use Rattle.notation.specs.Shown.{withIndicator, withIndicators}
+use Rattle.context.specs.Context.{shown, are_indicators}
+use Rattle.tile_words.specs.Words.{tiles_in, tiles_of}
+use Rattle.notation.specs.Shown.{with_indicator, with_indicators}
 
-abbrev isTile : ℕ → Bool
-isTile t = ltb t 34
+abbrev is_tile : ℕ → Bool
+is_tile t = ltb t 34
 
 -- ---- word by word
 -- a tile is one more, and what is none adds nothing
-pub tile-turn :
+pub tile_turn :
     (k : Indicators) (t : ℕ) (ts : List ℕ)
-    → withIndicators (cond (ltb t 34) (withIndicator k t) k) (keep (λ u. ltb u 34) ts) ≡ withIndicators k (keep (λ u. ltb u 34) (t ∷ ts))
-tile-turn k t ts = go (isTile t)
+    → with_indicators (cond (ltb t 34) (with_indicator k t) k) (keep (λ u. ltb u 34) ts) ≡ with_indicators k (keep (λ u. ltb u 34) (t ∷ ts))
+tile_turn k t ts = go (is_tile t)
   where
-    go : (b : Bool) → withIndicators (cond b (withIndicator k t) k) (keep isTile ts) ≡ withIndicators k (cond b (t ∷ []) [] ++ keep isTile ts)
+    go : (b : Bool) → with_indicators (cond b (with_indicator k t) k) (keep is_tile ts) ≡ with_indicators k (cond b (t ∷ []) [] ++ keep is_tile ts)
     go true = refl
     go false = refl
 
 -- ---- up to ten are shown in the order in which they are said
-shown-next : (k : Indicators) (t : ℕ) → length k.tiles ≡ 10 → k.count < 10 → shown (withIndicator k t) ≡ shown k ++ t ∷ []
-shown-next k t ten h =
+shown_next : (k : Indicators) (t : ℕ) → length k.tiles ≡ 10 → k.count < 10 → shown (with_indicator k t) ≡ shown k ++ t ∷ []
+shown_next k t ten h =
     let e : min (k.count + 1) 255 ≡ suc k.count = omega arith in
     ap (λ (n : ℕ). take n (set k.tiles k.count t)) e ∙ take-suc-set k.tiles k.count t (omega arith)
 
-pub shown-in-order : (k : Indicators) (ts : List ℕ) → length k.tiles ≡ 10 → k.count + length ts ≤ 10 → shown (withIndicators k ts) ≡ shown k ++ ts
-shown-in-order k [] ten h = sym (append-nil (shown k))
-shown-in-order k (t ∷ ts) ten h =
-    shown-in-order (withIndicator k t) ts (length-set k.tiles k.count t ∙ ten) (omega arith)
-    ∙ ap (λ (l : List ℕ). l ++ ts) (shown-next k t ten (omega arith))
+pub shown_in_order : (k : Indicators) (ts : List ℕ) → length k.tiles ≡ 10 → k.count + length ts ≤ 10 → shown (with_indicators k ts) ≡ shown k ++ ts
+shown_in_order k [] ten h = sym (append-nil (shown k))
+shown_in_order k (t ∷ ts) ten h =
+    shown_in_order (with_indicator k t) ts (length-set k.tiles k.count t ∙ ten) (omega arith)
+    ∙ ap (λ (l : List ℕ). l ++ ts) (shown_next k t ten (omega arith))
     ∙ append_assoc (shown k) (t ∷ []) ts
 
 -- ---- and accepted, as what a word names are tiles
-few-counted : (k : Indicators) (ts : List ℕ) → k.count + length ts ≤ 10 → (withIndicators k ts).count ≤ 10
-few-counted k [] h = omega arith
-few-counted k (t ∷ ts) h = few-counted (withIndicator k t) ts (omega arith)
+few_counted : (k : Indicators) (ts : List ℕ) → k.count + length ts ≤ 10 → (with_indicators k ts).count ≤ 10
+few_counted k [] h = omega arith
+few_counted k (t ∷ ts) h = few_counted (with_indicator k t) ts (omega arith)
 
-all-tiles : (ts : List ℕ) → T (all isTile (keep isTile ts))
-all-tiles [] = tt
-all-tiles (t ∷ ts) = go (isTile t) refl (all-tiles ts)
+all_tiles : (ts : List ℕ) → T (all is_tile (keep is_tile ts))
+all_tiles [] = tt
+all_tiles (t ∷ ts) = go (is_tile t) refl (all_tiles ts)
   where
-    go : (b : Bool) → isTile t ≡ b → T (all isTile (keep isTile ts)) → T (all isTile (cond b (t ∷ []) [] ++ keep isTile ts))
-    go true e rest = and_both (isTile t) _ (true→T _ e) rest
+    go : (b : Bool) → is_tile t ≡ b → T (all is_tile (keep is_tile ts)) → T (all is_tile (cond b (t ∷ []) [] ++ keep is_tile ts))
+    go true e rest = and_both (is_tile t) _ (true→t _ e) rest
     go false e rest = rest
 
-pub ten-accepted :
-    (k : Indicators) (w : List ℕ) → length k.tiles ≡ 10 → T (areIndicators k) → k.count + length (tilesOf w) ≤ 10
-    → T (areIndicators (withIndicators k (tilesOf w)))
-ten-accepted k w ten good h =
-    and_both (leb (withIndicators k (tilesOf w)).count 10) _ (true→T _ (le-leb _ 10 (few-counted k (tilesOf w) h)))
-    (subst (λ (l : List ℕ). T (all isTile l)) (sym (shown-in-order k (tilesOf w) ten h))
-    (all_append isTile (shown k) (tilesOf w) (and_right (leb k.count 10) _ good) (all-tiles (tilesIn w))))
+pub ten_accepted :
+    (k : Indicators) (w : List ℕ) → length k.tiles ≡ 10 → T (are_indicators k) → k.count + length (tiles_of w) ≤ 10
+    → T (are_indicators (with_indicators k (tiles_of w)))
+ten_accepted k w ten good h =
+    and_both (leb (with_indicators k (tiles_of w)).count 10) _ (true→t _ (le-leb _ 10 (few_counted k (tiles_of w) h)))
+    (subst (λ (l : List ℕ). T (all is_tile l)) (sym (shown_in_order k (tiles_of w) ten h))
+    (all_append is_tile (shown k) (tiles_of w) (and_right (leb k.count 10) _ good) (all_tiles (tiles_in w))))
 
 -- ---- more than ten are never lost: they are refused
-many-counted : (k : Indicators) (ts : List ℕ) → 10 < k.count + length ts → 10 < (withIndicators k ts).count
-many-counted k [] h = omega arith
-many-counted k (t ∷ ts) h = many-counted (withIndicator k t) ts (omega arith)
+many_counted : (k : Indicators) (ts : List ℕ) → 10 < k.count + length ts → 10 < (with_indicators k ts).count
+many_counted k [] h = omega arith
+many_counted k (t ∷ ts) h = many_counted (with_indicator k t) ts (omega arith)
 
-pub eleventh-refused : (k : Indicators) (ts : List ℕ) → 10 < k.count + length ts → areIndicators (withIndicators k ts) ≡ false
-eleventh-refused k ts h = rw (lt-leb (withIndicators k ts).count 10 (many-counted k ts h))
+pub eleventh_refused : (k : Indicators) (ts : List ℕ) → 10 < k.count + length ts → are_indicators (with_indicators k ts) ≡ false
+eleventh_refused k ts h = rw (lt-leb (with_indicators k ts).count 10 (many_counted k ts h))

@@ -1,8 +1,8 @@
 // Indicators of dora as they are said: the tiles that are shown, in the order of the words. Each is counted, up to 255; ten are kept, and of more the
 // scoring of a win refuses the count.
 ghost use Rattle.std.specs.Prelude.{◌≡◌, cond, ◌+◌, min, ltb, set};
-ghost use Rattle.tile_words.specs.Words.{tilesOf};
-ghost use Rattle.notation.specs.Shown.{withIndicator, withIndicators};
+ghost use Rattle.tile_words.specs.Words.{tiles_of};
+ghost use Rattle.notation.specs.Shown.{with_indicator, with_indicators};
 
 // None is shown.
 pub fn none() -> context::Indicators {
@@ -32,7 +32,7 @@ fn kept(tiles: [u8; 10], count: usize, t: u8) -> [u8; 10]
 
 // The indicators with one more.
 fn with_one(k: context::Indicators, t: u8) -> context::Indicators
-    ensures { result ≡ withIndicator k t }
+    ensures { result ≡ with_indicator k t }
 {
     let count = k.count;
     let tiles = k.tiles;
@@ -44,7 +44,7 @@ fn with_one(k: context::Indicators, t: u8) -> context::Indicators
 
 // The indicators with a tile, where it is one.
 fn with_tile(k: context::Indicators, t: u8) -> context::Indicators
-    ensures { result ≡ cond (ltb t 34) (withIndicator k t) k }
+    ensures { result ≡ cond (ltb t 34) (with_indicator k t) k }
 {
     if t < 34 {
         return with_one(k, t);
@@ -54,7 +54,7 @@ fn with_tile(k: context::Indicators, t: u8) -> context::Indicators
 
 // The indicators with the tiles of a word.
 pub fn with_word(k: context::Indicators, word: &[u8]) -> context::Indicators
-    ensures { result ≡ withIndicators k (tilesOf word.now) }
+    ensures { result ≡ with_indicators k (tiles_of word.now) }
 {
     let mut all = k;
     for i in 0..word.len() {

@@ -1,10 +1,10 @@
 // What the words say: the hand, its calls and the win.
 ghost use Rattle.std.specs.Prelude.{◌≡◌, true, false, ◌&&◌, cond, ◌+◌, ◌≤◌, ◌<◌, min, length};
 ghost use Rattle.context.specs.Context.{in_range};
-ghost use Rattle.call_words.specs.Calls.{withCall};
+ghost use Rattle.call_words.specs.Calls.{with_call};
 ghost use Rattle.rules.specs.Rules.{game};
-ghost use Rattle.notation.specs.Said.{TilesAdded, WonOn, IndicatorsAdded, SourceSaid, GameSaid, winOf};
-ghost use Rattle.notation.specs.Table.{playedBy, anyAcross, seatedAt};
+ghost use Rattle.notation.specs.Said.{TilesAdded, WonOn, IndicatorsAdded, SourceSaid, GameSaid, win_of};
+ghost use Rattle.notation.specs.Table.{played_by, any_across, seated_at};
 
 use crate::{indicators, pieces, seats, sources};
 use tile_words::faults;
@@ -122,7 +122,7 @@ fn double_wind_fu(two: bool) -> u8
 
 // The game: with three players, or with four.
 fn game_of(three: bool) -> rules::Variant
-    ensures { result ≡ playedBy three }
+    ensures { result ≡ played_by three }
 {
     if three {
         return rules::Variant::Sanma;
@@ -246,7 +246,7 @@ impl Said {
 
     // A call that was found in a word.
     fn with_call(self, m: meld::Meld) -> Said
-        ensures { result.calls ≡ withCall self.calls m }
+        ensures { result.calls ≡ with_call self.calls m }
     {
         let calls = self.calls;
         let more = call_words::with_call(calls, m);
@@ -581,7 +581,7 @@ impl Said {
 
     // After the last argument: nothing may be missing, nobody sits across where three play, and the word for the last tile fits the win.
     pub fn finished(self) -> Said
-        ensures { result.fault ≡ 0 → (self.three && anyAcross self.calls) ≡ false }
+        ensures { result.fault ≡ 0 → (self.three && any_across self.calls) ≡ false }
     {
         if self.fault != 0 {
             return self;
@@ -601,14 +601,14 @@ impl Said {
 
     // The game that is played.
     pub fn game(self) -> rules::Variant
-        ensures { result ≡ playedBy self.three }
+        ensures { result ≡ played_by self.three }
     {
         game_of(self.three)
     }
 
     // The calls at the table of the game.
     pub fn seated(self) -> checks::Calls
-        ensures { result ≡ seatedAt (game (playedBy self.three)) self.calls }
+        ensures { result ≡ seated_at (game (played_by self.three)) self.calls }
     {
         let calls = self.calls;
         seats::seated(calls, self.game())
@@ -616,7 +616,7 @@ impl Said {
 
     // The win. Its type, its winds and the room's setting are always in range.
     pub fn win(self) -> context::GameContext
-        ensures { (result ≡ winOf self) × (in_range result ≡ true) }
+        ensures { (result ≡ win_of self) × (in_range result ≡ true) }
     {
         let flags = self.flags;
         let dora = self.dora;

@@ -2,18 +2,18 @@
 // said behind the calls; then each call is turned to the table that is played at.
 ghost use Rattle.std.specs.Prelude.{◌≡◌, ◌-◌};
 ghost use Rattle.rules.specs.Rules.{game};
-ghost use Rattle.notation.specs.Table.{isAcross, anyAcross, atTable, seatedAt};
+ghost use Rattle.notation.specs.Table.{is_across, any_across, at_table, seated_at};
 
 // Is the call there, and from across?
 fn is_across(m: meld::Meld, there: bool) -> bool
-    ensures { result ≡ isAcross there m }
+    ensures { result ≡ is_across there m }
 {
     there & (m.source == 2)
 }
 
 // Does one of the calls that are kept come from across?
 pub fn any_across(k: checks::Calls) -> bool
-    ensures { result ≡ anyAcross k }
+    ensures { result ≡ any_across k }
 {
     let melds = k.melds;
     let count = k.count;
@@ -34,7 +34,7 @@ fn left_of(v: rules::Variant) -> u8
 
 // A call at the table of the game: from the left where it came from there, else as it is.
 fn at_table(m: meld::Meld, v: rules::Variant) -> meld::Meld
-    ensures { result ≡ atTable (game v) m }
+    ensures { result ≡ at_table (game v) m }
 {
     if m.source == 3 {
         return m.from_seat(left_of(v));
@@ -44,7 +44,7 @@ fn at_table(m: meld::Meld, v: rules::Variant) -> meld::Meld
 
 // The calls at the table of the game.
 pub fn seated(k: checks::Calls, v: rules::Variant) -> checks::Calls
-    ensures { result ≡ seatedAt (game v) k }
+    ensures { result ≡ seated_at (game v) k }
 {
     let melds = k.melds;
     checks::Calls {

@@ -10,121 +10,121 @@ use Rattle.lists.proofs.Finite.{at, and_both, ¬T→false}
 use Rattle.tile.specs.Tile.{tiles}
 use Rattle.rules.specs.Rules.{Game, four}
 use Rattle.meld.specs.declared.Meld.{Meld}
-use Rattle.meld.specs.Meld.{handMelds, sorted, uses}
+use Rattle.meld.specs.Meld.{hand_melds, sorted, uses}
 use Rattle.context.specs.declared.GameContext.{GameContext}
 use Rattle.hand.specs.Counts.{held}
 use Rattle.hand.specs.Reading.{Reading, standard}
-use Rattle.hand.specs.Readings.{find, fits, lessPair, meldLists, standardsAt, sevenPairs, thirteenOrphans, uncalled, readings}
-use Rattle.hand.specs.Records.{alwaysEnough, records}
+use Rattle.hand.specs.Readings.{find, fits, less_pair, meld_lists, standards_at, seven_pairs, thirteen_orphans, uncalled, readings}
+use Rattle.hand.specs.Records.{always_enough, records}
 use Rattle.wait.specs.Wait.{waits}
 use Rattle.checks.specs.declared.Calls.{Calls}
-use Rattle.checks.specs.Checks.{called, handCheckIn}
+use Rattle.checks.specs.Checks.{called, hand_check_in}
 use Rattle.unit.specs.declared.Listing.{Listing}
 use Rattle.unit.specs.declared.Listing.TheVariants.{Refused, Listed}
-use Rattle.unit.specs.Listing.{handReadings}
+use Rattle.unit.specs.Listing.{hand_readings}
 use Rattle.lent.specs.Lent.{calls_of}
 use Rattle.records.specs.Pick.{pick_at}
 use Rattle.reading_score.specs.declared.ScoringResult.{ScoringResult}
 use Rattle.choice.specs.declared.ScoreAnswer.{ScoreAnswer}
 use Rattle.choice.specs.Choice.{refused, choice, numbered}
 use Rattle.win.specs.declared.WaitsAnswer.{WaitsAnswer}
-use Rattle.win.specs.Win.{namedWaits, refusedWaits, scoreIn, winCheckIn}
-use Rattle.played.specs.Row.{Row, won, waiting, listed, valued, paid, asked, chooses, answers, eachWaits, listsTo, holdsIn, holds}
-use Rattle.played.proofs.Fitting.{keep-find}
+use Rattle.win.specs.Win.{named_waits, refused_waits, score_in, win_check_in}
+use Rattle.played.specs.Row.{Row, won, waiting, listed, valued, paid, asked, chooses, answers, each_waits, lists_to, holds_in, holds}
+use Rattle.played.proofs.Fitting.{keep_find}
 
 -- ---- the readings, found among the melds that fit
 -- the meld fits; that its lowest tile is there is asked first, as it is not of most melds
-abbrev isThere : (ℕ → ℕ) → Meld → Bool
-isThere c m = not (ltb m.tile 34) || leb (uses m m.tile) (c m.tile)
+abbrev is_there : (ℕ → ℕ) → Meld → Bool
+is_there c m = not (ltb m.tile 34) || leb (uses m m.tile) (c m.tile)
 
-abbrev mayStand : (ℕ → ℕ) → Meld → Bool
-mayStand c m = isThere c m && fits m c
+abbrev may_stand : (ℕ → ℕ) → Meld → Bool
+may_stand c m = is_there c m && fits m c
 
-no_other : (c : ℕ → ℕ) (m : Meld) → mayStand c m ≡ false → fits m c ≡ false
+no_other : (c : ℕ → ℕ) (m : Meld) → may_stand c m ≡ false → fits m c ≡ false
 no_other c m e =
-    ¬T→false (fits m c) (λ t. subst T e (and_both (isThere c m) (fits m c) (there t (ltb m.tile 34) refl) t))
+    ¬T→false (fits m c) (λ t. subst T e (and_both (is_there c m) (fits m c) (there t (ltb m.tile 34) refl) t))
   where
     there : T (fits m c) → (b : Bool) → ltb m.tile 34 ≡ b → T (not b || leb (uses m m.tile) (c m.tile))
     there t true q = at 34 (λ v. leb (uses m v) (c v)) t m.tile (ltb→lt m.tile 34 (subst T (sym q) tt))
     there t false q = tt
 
-abbrev quickLists : ℕ → (ℕ → ℕ) → List (List Meld)
-quickLists n c = find n c (keep (mayStand c) handMelds)
+abbrev quick_lists : ℕ → (ℕ → ℕ) → List (List Meld)
+quick_lists n c = find n c (keep (may_stand c) hand_melds)
 
-quick-lists : (n : ℕ) (c : ℕ → ℕ) → meldLists n c ≡ quickLists n c
-unfolding meldLists
-quick-lists n c = sym (keep-find (mayStand c) n c (no_other c) handMelds)
+quick_lists_holds : (n : ℕ) (c : ℕ → ℕ) → meld_lists n c ≡ quick_lists n c
+unfolding meld_lists
+quick_lists_holds n c = sym (keep_find (may_stand c) n c (no_other c) hand_melds)
 
-abbrev quickAt : (ℕ → ℕ) → List Meld → ℕ → List Reading
-quickAt c k p =
-    cond (leb 2 (c p)) (map (λ l. standard p (sorted (k ++ l))) (quickLists (4 - length k) (lessPair c p))) []
+abbrev quick_at : (ℕ → ℕ) → List Meld → ℕ → List Reading
+quick_at c k p =
+    cond (leb 2 (c p)) (map (λ l. standard p (sorted (k ++ l))) (quick_lists (4 - length k) (less_pair c p))) []
 
-quick-at : (c : ℕ → ℕ) (k : List Meld) (p : ℕ) → standardsAt c k p ≡ quickAt c k p
-unfolding standardsAt
-quick-at c k p =
+quick_at_holds : (c : ℕ → ℕ) (k : List Meld) (p : ℕ) → standards_at c k p ≡ quick_at c k p
+unfolding standards_at
+quick_at_holds c k p =
     ap (λ (ls : List (List Meld)). cond (leb 2 (c p)) (map (λ l. standard p (sorted (k ++ l))) ls) [])
-    (quick-lists (4 - length k) (lessPair c p))
+    (quick_lists_holds (4 - length k) (less_pair c p))
 
-abbrev pub quickReadings : List ℕ → Calls → List Reading
-quickReadings cs k =
-    uncalled (called k) (sevenPairs (held cs) ++ thirteenOrphans (held cs)) ++ flat (quickAt (held cs) (called k)) tiles
+abbrev pub quick_readings : List ℕ → Calls → List Reading
+quick_readings cs k =
+    uncalled (called k) (seven_pairs (held cs) ++ thirteen_orphans (held cs)) ++ flat (quick_at (held cs) (called k)) tiles
 
-quick-readings : (cs : List ℕ) (k : Calls) → handReadings cs k ≡ quickReadings cs k
-unfolding handReadings readings
-quick-readings cs k =
-    ap (λ (g : ℕ → List Reading). uncalled (called k) (sevenPairs (held cs) ++ thirteenOrphans (held cs)) ++ flat g tiles)
-    (fun_ext (quick-at (held cs) (called k)))
+quick_readings_holds : (cs : List ℕ) (k : Calls) → hand_readings cs k ≡ quick_readings cs k
+unfolding hand_readings readings
+quick_readings_holds cs k =
+    ap (λ (g : ℕ → List Reading). uncalled (called k) (seven_pairs (held cs) ++ thirteen_orphans (held cs)) ++ flat g tiles)
+    (fun_ext (quick_at_holds (held cs) (called k)))
 
 -- ---- the claim of a row, from any way to find the readings
 module _ (g : Game) (R : List ℕ → Calls → List Reading) where
-  abbrev pub listingFrom : List ℕ → Calls → Listing
-  listingFrom cs k =
-      cond (eqb (handCheckIn g cs k) 0)
-      (cond (leb (length (records (R cs k))) alwaysEnough) (Listed (length (R cs k)) (length (records (R cs k)))) (Refused 7))
-      (Refused (handCheckIn g cs k))
+  abbrev pub listing_from : List ℕ → Calls → Listing
+  listing_from cs k =
+      cond (eqb (hand_check_in g cs k) 0)
+      (cond (leb (length (records (R cs k))) always_enough) (Listed (length (R cs k)) (length (records (R cs k)))) (Refused 7))
+      (Refused (hand_check_in g cs k))
 
-  abbrev pub scoresFrom : List ℕ → Calls → GameContext → List ScoringResult
-  scoresFrom cs k w = map (scoreIn cs k w) (R cs k)
+  abbrev pub scores_from : List ℕ → Calls → GameContext → List ScoringResult
+  scores_from cs k w = map (score_in cs k w) (R cs k)
 
-  abbrev pub winFrom : List ℕ → Calls → GameContext → ScoreAnswer
-  winFrom cs k w = cond (eqb (winCheckIn g cs k w) 0) (choice g.players (scoresFrom cs k w)) (refused (winCheckIn g cs k w))
+  abbrev pub win_from : List ℕ → Calls → GameContext → ScoreAnswer
+  win_from cs k w = cond (eqb (win_check_in g cs k w) 0) (choice g.players (scores_from cs k w)) (refused (win_check_in g cs k w))
 
-  abbrev pub readingFrom : List ℕ → Calls → GameContext → ℕ → ScoreAnswer
-  readingFrom cs k w n = cond (eqb (winCheckIn g cs k w) 0) (numbered (scoresFrom cs k w) n) (refused (winCheckIn g cs k w))
+  abbrev pub reading_from : List ℕ → Calls → GameContext → ℕ → ScoreAnswer
+  reading_from cs k w n = cond (eqb (win_check_in g cs k w) 0) (numbered (scores_from cs k w) n) (refused (win_check_in g cs k w))
 
-  abbrev pub waitsFrom : List ℕ → Calls → GameContext → ℕ → WaitsAnswer
-  waitsFrom cs k w n =
-      cond (eqb (winCheckIn g cs k w) 0)
-      (pick_at (refusedWaits 12) (λ r. namedWaits (waits w.winning_tile r)) (R cs k) n)
-      (refusedWaits (winCheckIn g cs k w))
+  abbrev pub waits_from : List ℕ → Calls → GameContext → ℕ → WaitsAnswer
+  waits_from cs k w n =
+      cond (eqb (win_check_in g cs k w) 0)
+      (pick_at (refused_waits 12) (λ r. named_waits (waits w.winning_tile r)) (R cs k) n)
+      (refused_waits (win_check_in g cs k w))
 
-  abbrev pub holdsFrom : Row → Bool
-  holdsFrom (won cs ms w vs o) =
+  abbrev pub holds_from : Row → Bool
+  holds_from (won cs ms w vs o) =
       let k = calls_of ms in
-      answers vs o (winCheckIn g cs k w) (listingFrom cs k) (readingFrom cs k w) (winFrom cs k w)
-  holdsFrom (waiting cs ms w wss) = eachWaits (waitsFrom cs (calls_of ms) w) 0 wss
-  holdsFrom (listed cs ms n) = listsTo (chooses 0) n (listingFrom cs (calls_of ms))
-  holdsFrom (valued h f y l n) = holdsIn g (valued h f y l n)
-  holdsFrom (paid h f y by dealer p) = holdsIn g (paid h f y by dealer p)
-  holdsFrom (asked n by dealer a) = holdsIn g (asked n by dealer a)
+      answers vs o (win_check_in g cs k w) (listing_from cs k) (reading_from cs k w) (win_from cs k w)
+  holds_from (waiting cs ms w wss) = each_waits (waits_from cs (calls_of ms) w) 0 wss
+  holds_from (listed cs ms n) = lists_to (chooses 0) n (listing_from cs (calls_of ms))
+  holds_from (valued h f y l n) = holds_in g (valued h f y l n)
+  holds_from (paid h f y by dealer p) = holds_in g (paid h f y by dealer p)
+  holds_from (asked n by dealer a) = holds_in g (asked n by dealer a)
 
-from-readings : (g : Game) (r : Row) → holdsIn g r ≡ holdsFrom g handReadings r
-unfolding holdsIn
-from-readings g (won cs ms w vs o) = refl
-from-readings g (waiting cs ms w wss) = refl
-from-readings g (listed cs ms n) = refl
-from-readings g (valued h f y l n) = refl
-from-readings g (paid h f y by dealer p) = refl
-from-readings g (asked n by dealer a) = refl
+from_readings : (g : Game) (r : Row) → holds_in g r ≡ holds_from g hand_readings r
+unfolding holds_in
+from_readings g (won cs ms w vs o) = refl
+from_readings g (waiting cs ms w wss) = refl
+from_readings g (listed cs ms n) = refl
+from_readings g (valued h f y l n) = refl
+from_readings g (paid h f y by dealer p) = refl
+from_readings g (asked n by dealer a) = refl
 
 -- a row holds where it holds of the readings found quickly
-pub quick-in : (g : Game) (r : Row) → T (holdsFrom g quickReadings r) → T (holdsIn g r)
-quick-in g r t =
+pub quick_in : (g : Game) (r : Row) → T (holds_from g quick_readings r) → T (holds_in g r)
+quick_in g r t =
     subst T
-    (sym (from-readings g r ∙ ap (λ (R : List ℕ → Calls → List Reading). holdsFrom g R r) (fun_ext (λ cs. fun_ext (quick-readings cs)))))
+    (sym (from_readings g r ∙ ap (λ (R : List ℕ → Calls → List Reading). holds_from g R r) (fun_ext (λ cs. fun_ext (quick_readings_holds cs)))))
     t
 
 -- with four players
-pub quick : (r : Row) → T (holdsFrom four quickReadings r) → T (holds r)
+pub quick : (r : Row) → T (holds_from four quick_readings r) → T (holds r)
 unfolding holds
-quick r t = quick-in four r t
+quick r t = quick_in four r t

@@ -4,57 +4,57 @@ use Rattle.lists.specs.Fold.{any, count, every, one}
 use Rattle.rules.specs.Rules.{Game, four}
 use Rattle.meld.specs.declared.Meld.{Meld}
 use Rattle.context.specs.declared.GameContext.{GameContext}
-use Rattle.hand.specs.Readings.{meldLists, standardsAt, sevenPairs, thirteenOrphans, readings}
-use Rattle.hand.specs.Records.{recordOf, alwaysEnough}
+use Rattle.hand.specs.Readings.{meld_lists, standards_at, seven_pairs, thirteen_orphans, readings}
+use Rattle.hand.specs.Records.{record_of, always_enough}
 use Rattle.wait.specs.Wait.{pinfu, waits}
-use Rattle.tile_yaku.specs.Tiles.{tanyao, honroutou, tsuuiisou, chinroutou, ryuuiisou, honitsu, chinitsu, nineGates, pureWait, tileYaku}
-use Rattle.set_yaku.specs.Sets.{toitoi, kans, sanAnkou, sanshokuDoukou, suuankou, suuKantsu}
+use Rattle.tile_yaku.specs.Tiles.{tanyao, honroutou, tsuuiisou, chinroutou, ryuuiisou, honitsu, chinitsu, nine_gates, pure_wait, tile_yaku}
+use Rattle.set_yaku.specs.Sets.{toitoi, kans, san_ankou, sanshoku_doukou, suuankou, suu_kantsu}
 use Rattle.honor_yaku.specs.Honors.{yakuhai, dragons, winds, shousangen, daisangen, shousuushii, daisuushii}
-use Rattle.sequence_yaku.specs.Sequences.{ittsu, sanshokuDoujun, peikou}
+use Rattle.sequence_yaku.specs.Sequences.{ittsu, sanshoku_doujun, peikou}
 use Rattle.end_yaku.specs.Ends.{chanta, junchan}
 use Rattle.yaku.specs.declared.names.Yaku.{Yaku}
-use Rattle.yaku.specs.Names.{isYakumanName, place, names}
-use Rattle.yaku.specs.Tally.{oneHan, moreHan, isYakuman, ordinary, tallies}
-use Rattle.yaku.specs.Han.{hanOf, han}
+use Rattle.yaku.specs.Names.{is_yakuman_name, place, names}
+use Rattle.yaku.specs.Tally.{one_han, more_han, is_yakuman, ordinary, tallies}
+use Rattle.yaku.specs.Han.{han_of, han}
 use Rattle.scoring.specs.declared.ScoreLevel.{ScoreLevel}
 use Rattle.scoring.specs.declared.ScoreLevel.TheVariants.{Normal, Mangan, Haneman, Baiman, Sanbaiman, Yakuman}
 use Rattle.scoring.specs.declared.Payment.{Payment}
 use Rattle.scoring.specs.declared.Payment.TheVariants.{Ron, DealerTsumo, Tsumo}
 use Rattle.scoring.specs.declared.PaymentAnswer.{PaymentAnswer}
 use Rattle.scoring.specs.declared.PaymentAnswer.TheVariants.{Refused, Paid}
-use Rattle.fu.specs.Fu.{standardFu, fu}
-use Rattle.dora.specs.Dora.{doraOf, doraIn, totalHan}
-use Rattle.scoring.specs.Level.{level, basicPoints}
-use Rattle.scoring.specs.Payment.{payment, paymentAnswer}
-use Rattle.checks.specs.Checks.{check, handCheckIn}
+use Rattle.fu.specs.Fu.{standard_fu, fu}
+use Rattle.dora.specs.Dora.{dora_of, dora_in, total_han}
+use Rattle.scoring.specs.Level.{level, basic_points}
+use Rattle.scoring.specs.Payment.{payment, payment_answer}
+use Rattle.checks.specs.Checks.{check, hand_check_in}
 use Rattle.unit.specs.declared.Listing.{Listing}
-use Rattle.unit.specs.Listing.{handReadings, handRecords, listingIn, number_of, readingsOf}
+use Rattle.unit.specs.Listing.{hand_readings, hand_records, listing_in, number_of, readings_of}
 use Rattle.lent.specs.Lent.{calls_of}
 use Rattle.reading_score.specs.declared.ScoringResult.{ScoringResult}
-use Rattle.reading_score.specs.Score.{result, scoreOf, rank}
+use Rattle.reading_score.specs.Score.{result, score_of, rank}
 use Rattle.choice.specs.declared.ScoreAnswer.{ScoreAnswer}
-use Rattle.choice.specs.Choice.{chooseBy, choice, numbered}
+use Rattle.choice.specs.Choice.{choose_by, choice, numbered}
 use Rattle.win.specs.declared.WaitsAnswer.{WaitsAnswer}
-use Rattle.win.specs.Win.{orThen, winCheckIn, scoreIn, scores, scoreReadingIn, scoreWinIn, nameWaitsIn}
+use Rattle.win.specs.Win.{or_then, win_check_in, score_in, scores, score_reading_in, score_win_in, name_waits_in}
 
 -- ---- what a row says
 -- who won
 abbrev pub dealer : Bool
 dealer = true
 
-abbrev pub nonDealer : Bool
-nonDealer = false
+abbrev pub non_dealer : Bool
+non_dealer = false
 
 -- what one reading comes to: its yaku by name, each as often as it counts; han, fu, the level, and who pays what
 pub record Worth : Type 0 where
-  pub yakuNames : List Yaku
-  pub hanCount : ℕ
-  pub fuCount : ℕ
+  pub yaku_names : List Yaku
+  pub han_count : ℕ
+  pub fu_count : ℕ
   pub limit : ScoreLevel
   pub pays : Payment
 
 abbrev pub worth : List Yaku → ℕ → ℕ → ScoreLevel → Payment → Worth
-worth ys h f l p = record { yakuNames = ys; hanCount = h; fuCount = f; limit = l; pays = p }
+worth ys h f l p = record { yaku_names = ys; han_count = h; fu_count = f; limit = l; pays = p }
 
 -- what scoring the win answers: a refusal's number, or the number of the chosen reading
 pub data Outcome : Type 0 where
@@ -82,8 +82,8 @@ pub data Row : Type 0 where
 abbrev pub yakuman : Bool
 yakuman = true
 
-abbrev pub noYakuman : Bool
-noYakuman = false
+abbrev pub no_yakuman : Bool
+no_yakuman = false
 
 -- a win with one reading, which is chosen: yaku, han, fu, level, who pays what
 abbrev pub scored : List ℕ → List Meld → GameContext → List Yaku → ℕ → ℕ → ScoreLevel → Payment → Row
@@ -119,92 +119,92 @@ leveled Sanbaiman = 4 ∷ []
 leveled (Yakuman n) = 5 ∷ n ∷ []
 
 -- how often each yaku is named, in the order of the tallies
-abbrev pub talliesOf : List Yaku → List ℕ
-talliesOf ys = map (λ n. count (λ y. eqb (place y) (place n)) ys) names
+abbrev pub tallies_of : List Yaku → List ℕ
+tallies_of ys = map (λ n. count (λ y. eqb (place y) (place n)) ys) names
 
 -- the place of a wait among the tallies
-abbrev pub waitPlace : Wait → ℕ
-waitPlace Ryanmen = 0
-waitPlace Kanchan = 1
-waitPlace Penchan = 2
-waitPlace Shanpon = 3
-waitPlace Tanki = 4
-waitPlace Kokushi13 = 5
+abbrev pub wait_place : Wait → ℕ
+wait_place Ryanmen = 0
+wait_place Kanchan = 1
+wait_place Penchan = 2
+wait_place Shanpon = 3
+wait_place Tanki = 4
+wait_place Kokushi13 = 5
 
 -- how often each wait is named, in the order of the tallies
 abbrev pub waited : List Wait → List ℕ
-waited ws = map (λ n. count (λ x. eqb (waitPlace x) n) ws) (0 ∷ 1 ∷ 2 ∷ 3 ∷ 4 ∷ 5 ∷ [])
+waited ws = map (λ n. count (λ x. eqb (wait_place x) n) ws) (0 ∷ 1 ∷ 2 ∷ 3 ∷ 4 ∷ 5 ∷ [])
 
 -- ---- the claim
 -- the score comes to this: just these yaku, a yakuman if one is among them, and these values
-abbrev pub isWorth : Worth → ScoringResult → Bool
-isWorth v x =
+abbrev pub is_worth : Worth → ScoringResult → Bool
+is_worth v x =
     every
-    (same x.tallies (talliesOf v.yakuNames)
-    ∷ eqb (one x.is_yakuman) (one (any isYakumanName v.yakuNames))
-    ∷ eqb x.han v.hanCount
-    ∷ eqb x.fu v.fuCount
+    (same x.tallies (tallies_of v.yaku_names)
+    ∷ eqb (one x.is_yakuman) (one (any is_yakuman_name v.yaku_names))
+    ∷ eqb x.han v.han_count
+    ∷ eqb x.fu v.fu_count
     ∷ same (leveled x.score_level) (leveled v.limit)
     ∷ same (settled x.payment) (settled v.pays)
     ∷ [])
 
 -- the answer is a score, of the reading with this number, that comes to this
-abbrev pub comesTo : ℕ → Worth → ScoreAnswer → Bool
-comesTo i v a = eqb a.number 0 && (eqb a.reading i && isWorth v a.score)
+abbrev pub comes_to : ℕ → Worth → ScoreAnswer → Bool
+comes_to i v a = eqb a.number 0 && (eqb a.reading i && is_worth v a.score)
 
 -- the answer is a refusal with this number
-abbrev pub refusedWith : ℕ → ScoreAnswer → Bool
-refusedWith n a = eqb a.number n
+abbrev pub refused_with : ℕ → ScoreAnswer → Bool
+refused_with n a = eqb a.number n
 
 -- 1 to 9 and 14 are refusals of the checks; 10 and 11 come after all checks have passed
-abbrev pub byCheck : ℕ → Bool
-byCheck n = ltb n 10 || eqb n 14
+abbrev pub by_check : ℕ → Bool
+by_check n = ltb n 10 || eqb n 14
 
 -- what the checks answer
-abbrev pub checkedTo : Outcome → ℕ
-checkedTo (refuses n) = cond (byCheck n) n 0
-checkedTo (chooses i) = 0
+abbrev pub checked_to : Outcome → ℕ
+checked_to (refuses n) = cond (by_check n) n 0
+checked_to (chooses i) = 0
 
 -- listing refuses with 1 to 6 likewise, and else has so many readings; where the win alone is refused (8, 14, 9) nothing is said of them
-abbrev pub listsTo : Outcome → ℕ → Listing → Bool
-listsTo (refuses n) m l =
-    cond (ltb n 7) (eqb (number_of l) n) (eqb (number_of l) 0 && (byCheck n || eqb (readingsOf l) m))
-listsTo (chooses i) m l = eqb (number_of l) 0 && eqb (readingsOf l) m
+abbrev pub lists_to : Outcome → ℕ → Listing → Bool
+lists_to (refuses n) m l =
+    cond (ltb n 7) (eqb (number_of l) n) (eqb (number_of l) 0 && (by_check n || eqb (readings_of l) m))
+lists_to (chooses i) m l = eqb (number_of l) 0 && eqb (readings_of l) m
 
 -- each reading by its number, counted from n, comes to what is said, and the number after the last one is refused with 12, or with the check's number
-abbrev pub eachReading : (ℕ → ScoreAnswer) → ℕ → ℕ → List Worth → Bool
-eachReading f check n [] = refusedWith (cond (eqb check 0) 12 check) (f n)
-eachReading f check n (v ∷ vs) = comesTo n v (f n) && eachReading f check (suc n) vs
+abbrev pub each_reading : (ℕ → ScoreAnswer) → ℕ → ℕ → List Worth → Bool
+each_reading f check n [] = refused_with (cond (eqb check 0) 12 check) (f n)
+each_reading f check n (v ∷ vs) = comes_to n v (f n) && each_reading f check (suc n) vs
 
 -- scoring the win refuses, or chooses the reading, which comes to what is said of it
-abbrev pub winsWith : List Worth → Outcome → ScoreAnswer → Bool
-winsWith vs (refuses n) a = refusedWith n a
-winsWith vs (chooses i) a = comesTo i (get_or vs i (worth [] 0 0 Normal (Ron 0))) a
+abbrev pub wins_with : List Worth → Outcome → ScoreAnswer → Bool
+wins_with vs (refuses n) a = refused_with n a
+wins_with vs (chooses i) a = comes_to i (get_or vs i (worth [] 0 0 Normal (Ron 0))) a
 
 -- the waits of each reading by its number, counted from n, are those said, and the number after the last one is refused with 12
-abbrev pub eachWaits : (ℕ → WaitsAnswer) → ℕ → List (List Wait) → Bool
-eachWaits f n [] = eqb (f n).number 12
-eachWaits f n (ws ∷ wss) = eqb (f n).number 0 && (same (f n).waits (waited ws) && eachWaits f (suc n) wss)
+abbrev pub each_waits : (ℕ → WaitsAnswer) → ℕ → List (List Wait) → Bool
+each_waits f n [] = eqb (f n).number 12
+each_waits f n (ws ∷ wss) = eqb (f n).number 0 && (same (f n).waits (waited ws) && each_waits f (suc n) wss)
 
 -- the answers to a win are those: the check's number, the listing, each reading by its number, and the win
 abbrev pub answers : List Worth → Outcome → ℕ → Listing → (ℕ → ScoreAnswer) → ScoreAnswer → Bool
 answers vs o n l f a =
     every
-    (eqb n (checkedTo o) ∷ listsTo o (length vs) l ∷ eachReading f (checkedTo o) 0 vs ∷ winsWith vs o a ∷ [])
+    (eqb n (checked_to o) ∷ lists_to o (length vs) l ∷ each_reading f (checked_to o) 0 vs ∷ wins_with vs o a ∷ [])
 
--- the row holds in the game g. What a proof computes with stands here once: `unfolding holdsIn` opens all of it
-unfoldable pub holdsIn : Game → Row → Bool
-unfolding meldLists standardsAt sevenPairs thirteenOrphans readings recordOf pinfu waits tanyao honroutou tsuuiisou chinroutou ryuuiisou honitsu chinitsu nineGates pureWait tileYaku toitoi kans yakuhai dragons winds sanAnkou ittsu sanshokuDoujun sanshokuDoukou peikou chanta junchan shousangen suuankou daisangen shousuushii daisuushii suuKantsu names oneHan moreHan isYakuman ordinary tallies hanOf han standardFu fu level basicPoints payment paymentAnswer check handCheckIn handReadings handRecords listingIn doraOf doraIn totalHan result scoreOf rank chooseBy choice numbered orThen winCheckIn scoreIn scores scoreReadingIn scoreWinIn nameWaitsIn
-holdsIn g (won cs ms w vs o) =
+-- the row holds in the game g. What a proof computes with stands here once: `unfolding holds_in` opens all of it
+unfoldable pub holds_in : Game → Row → Bool
+unfolding meld_lists standards_at seven_pairs thirteen_orphans readings record_of pinfu waits tanyao honroutou tsuuiisou chinroutou ryuuiisou honitsu chinitsu nine_gates pure_wait tile_yaku toitoi kans yakuhai dragons winds san_ankou ittsu sanshoku_doujun sanshoku_doukou peikou chanta junchan shousangen suuankou daisangen shousuushii daisuushii suu_kantsu names one_han more_han is_yakuman ordinary tallies han_of han standard_fu fu level basic_points payment payment_answer check hand_check_in hand_readings hand_records listing_in dora_of dora_in total_han result score_of rank choose_by choice numbered or_then win_check_in score_in scores score_reading_in score_win_in name_waits_in
+holds_in g (won cs ms w vs o) =
     let k = calls_of ms in
-    answers vs o (winCheckIn g cs k w) (listingIn g cs k alwaysEnough) (scoreReadingIn g cs k w) (scoreWinIn g cs k w)
-holdsIn g (waiting cs ms w wss) = eachWaits (nameWaitsIn g cs (calls_of ms) w) 0 wss
-holdsIn g (listed cs ms n) = listsTo (chooses 0) n (listingIn g cs (calls_of ms) alwaysEnough)
-holdsIn g (valued h f y l n) = same (leveled (level h f y)) (leveled l) && eqb (basicPoints h f y) n
-holdsIn g (paid h f y by dealer p) = same (settled (payment (eqb by 1) dealer (basicPoints h f y))) (settled p)
-holdsIn g (asked n by dealer a) = same (answered (paymentAnswer n dealer by)) (answered a)
+    answers vs o (win_check_in g cs k w) (listing_in g cs k always_enough) (score_reading_in g cs k w) (score_win_in g cs k w)
+holds_in g (waiting cs ms w wss) = each_waits (name_waits_in g cs (calls_of ms) w) 0 wss
+holds_in g (listed cs ms n) = lists_to (chooses 0) n (listing_in g cs (calls_of ms) always_enough)
+holds_in g (valued h f y l n) = same (leveled (level h f y)) (leveled l) && eqb (basic_points h f y) n
+holds_in g (paid h f y by dealer p) = same (settled (payment (eqb by 1) dealer (basic_points h f y))) (settled p)
+holds_in g (asked n by dealer a) = same (answered (payment_answer n dealer by)) (answered a)
 
 -- with four players and all tiles; `unfolding holds` opens as much
 unfoldable pub holds : Row → Bool
-unfolding holdsIn
-holds r = holdsIn four r
+unfolding holds_in
+holds r = holds_in four r

@@ -1,6 +1,6 @@
 // What is written for each yaku, wait, level and refusal, in tables. A row is filled up with spaces, which are not written.
 ghost use Rattle.std.specs.Prelude.{◌≡◌, cond, ◌*◌, ◌<◌, get_or};
-ghost use Rattle.yaku.specs.Names.{names, hanClosed, hanOpen, yakuhaiName};
+ghost use Rattle.yaku.specs.Names.{names, han_closed, han_open, yakuhai_name};
 
 use crate::text;
 use yaku::names::Yaku;
@@ -177,14 +177,14 @@ fn refusal_row(i: usize) -> [u8; 53]
 // The yaku at a place of the tallies.
 fn yaku_at(i: usize) -> Yaku
     requires { i < 47 }
-    ensures { result ≡ get_or names i (yakuhaiName 47) }
+    ensures { result ≡ get_or names i (yakuhai_name 47) }
 {
     YAKU[i]
 }
 
 // The han that a yaku adds by its tally.
 fn added_han(y: Yaku, tally: u8, opened: bool) -> u32
-    ensures { result ≡ cond opened (hanOpen y) (hanClosed y) * tally }
+    ensures { result ≡ cond opened (han_open y) (han_closed y) * tally }
 {
     if opened {
         return (y.han_open() as u32) * (tally as u32);

@@ -3,7 +3,7 @@ ghost use Rattle.std.specs.Prelude.{◌≡◌};
 ghost use Rattle.rules.specs.Rules.{game};
 ghost use Rattle.structure.specs.Structure.{reading_of};
 ghost use Rattle.dora.specs.Dora.{AtMostForty};
-ghost use Rattle.reading_score.specs.Score.{scoreOf, hasYaku, rank};
+ghost use Rattle.reading_score.specs.Score.{score_of, has_yaku, rank};
 
 // All that is answered of a reading. The han are those of the yaku, and of the dora where there is no yakuman.
 #[derive(Drop)]
@@ -27,7 +27,7 @@ pub fn calculate_score(
     opened: bool,
 ) -> ScoringResult
     requires { AtMostForty d }
-    ensures { result ≡ scoreOf w opened s d (reading_of h) }
+    ensures { result ≡ score_of w opened s d (reading_of h) }
 {
     let yaku = yaku::detect_yaku_with_context(h, s, w, opened);
     let tallies = yaku.tallies;
@@ -49,7 +49,7 @@ pub fn calculate_score(
 
 // Is there a yaku? Dora is none.
 fn has_yaku(x: ScoringResult) -> bool
-    ensures { result ≡ hasYaku x }
+    ensures { result ≡ has_yaku x }
 {
     let tallies = x.tallies;
     lists::any_above_zero(&tallies)

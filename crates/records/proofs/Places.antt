@@ -5,33 +5,33 @@ use Prim.Native.Nat.{ℕ, suc, ◌+◌, ◌-◌, ◌<◌, ◌≤◌}
 use native.Mathlib.Omega.{arith}
 use borrow.Author.Tests.{eq-eqb, ne_eqb}
 use Rattle.hand.specs.Reading.{pairs, orphans, standard}
-use Rattle.records.specs.Buffer.{byte_at, meldAt, tilesAt, readingAt, place_of}
+use Rattle.records.specs.Buffer.{byte_at, meld_at, tiles_at, reading_at, place_of}
 
 -- ---- the reading by its kind
 module _ (b : List ℕ) (i : ℕ) where
-  pub reads-pairs : byte_at b (i + 2) ≡ 1 → readingAt b i ≡ pairs (tilesAt b (i + 4))
-  unfolding readingAt
-  reads-pairs e = simp (eq-eqb (byte_at b (i + 2)) 1 e)
+  pub reads_pairs : byte_at b (i + 2) ≡ 1 → reading_at b i ≡ pairs (tiles_at b (i + 4))
+  unfolding reading_at
+  reads_pairs e = simp (eq-eqb (byte_at b (i + 2)) 1 e)
 
-  pub reads-orphans : byte_at b (i + 2) ≡ 2 → readingAt b i ≡ orphans (byte_at b (i + 4))
-  unfolding readingAt
-  reads-orphans e = simp (ne_eqb (byte_at b (i + 2)) 1 (λ f. omega arith), eq-eqb (byte_at b (i + 2)) 2 e)
+  pub reads_orphans : byte_at b (i + 2) ≡ 2 → reading_at b i ≡ orphans (byte_at b (i + 4))
+  unfolding reading_at
+  reads_orphans e = simp (ne_eqb (byte_at b (i + 2)) 1 (λ f. omega arith), eq-eqb (byte_at b (i + 2)) 2 e)
 
-  pub reads-standard :
+  pub reads_standard :
       (byte_at b (i + 2) ≡ 1 → ⊥) → (byte_at b (i + 2) ≡ 2 → ⊥)
-      → readingAt b i ≡ standard (byte_at b (i + 4)) (meldAt b (i + 5) ∷ meldAt b (i + 8) ∷ meldAt b (i + 11) ∷ meldAt b (i + 14) ∷ [])
-  unfolding readingAt
-  reads-standard e f = simp (ne_eqb (byte_at b (i + 2)) 1 e, ne_eqb (byte_at b (i + 2)) 2 f)
+      → reading_at b i ≡ standard (byte_at b (i + 4)) (meld_at b (i + 5) ∷ meld_at b (i + 8) ∷ meld_at b (i + 11) ∷ meld_at b (i + 14) ∷ [])
+  unfolding reading_at
+  reads_standard e f = simp (ne_eqb (byte_at b (i + 2)) 1 e, ne_eqb (byte_at b (i + 2)) 2 f)
 
 -- ---- the place of a record
 -- all records are left
-pub place-start : (b : List ℕ) (n at : ℕ) → place_of b (n - 0) at ≡ place_of b n at
-place-start b n at = let e : n - 0 ≡ n = omega arith in ap (λ (m : ℕ). place_of b m at) e
+pub place_start : (b : List ℕ) (n at : ℕ) → place_of b (n - 0) at ≡ place_of b n at
+place_start b n at = let e : n - 0 ≡ n = omega arith in ap (λ (m : ℕ). place_of b m at) e
 
 module _ (b : List ℕ) (n i at : ℕ) where
   -- one record on
-  pub place-next : i < n → place_of b (n - (i + 1)) (at + byte_at b at) ≡ place_of b (n - i) at
-  place-next h = let e : n - i ≡ suc (n - (i + 1)) = omega arith in sym (ap (λ (m : ℕ). place_of b m at) e)
+  pub place_next : i < n → place_of b (n - (i + 1)) (at + byte_at b at) ≡ place_of b (n - i) at
+  place_next h = let e : n - i ≡ suc (n - (i + 1)) = omega arith in sym (ap (λ (m : ℕ). place_of b m at) e)
 
   -- no record is left
   pub place_end : n ≤ i → place_of b (n - i) at ≡ at

@@ -1,7 +1,7 @@
 // Records read back: the reading whose record stands at a place of a buffer.
 ghost use Rattle.std.specs.Prelude.{◌≡◌, ◌+◌, ◌*◌, ◌≤◌};
 ghost use Rattle.structure.specs.Structure.{reading_of};
-ghost use Rattle.records.specs.Buffer.{byte_at, meldAt, tilesAt, readingAt, place_of};
+ghost use Rattle.records.specs.Buffer.{byte_at, meld_at, tiles_at, reading_at, place_of};
 
 // The byte at a place, 0 past the end.
 fn byte_at(b: &[u8], i: usize) -> u8
@@ -13,7 +13,7 @@ fn byte_at(b: &[u8], i: usize) -> u8
 // The meld whose tile, kind and source stand at a place. That all three are there is asked at once.
 fn meld_at(b: &[u8], i: usize) -> meld::Meld
     requires { i ≤ 1000000 }
-    ensures { result ≡ meldAt b.now i }
+    ensures { result ≡ meld_at b.now i }
 {
     if i + 2 < b.len() {
         return meld::Meld {
@@ -32,7 +32,7 @@ fn meld_at(b: &[u8], i: usize) -> meld::Meld
 // The seven tiles from a place on.
 fn tiles_at(b: &[u8], i: usize) -> [u8; 7]
     requires { i ≤ 1000000 }
-    ensures { result ≡ tilesAt b.now i }
+    ensures { result ≡ tiles_at b.now i }
 {
     [
         byte_at(b, i),
@@ -48,7 +48,7 @@ fn tiles_at(b: &[u8], i: usize) -> [u8; 7]
 // The reading whose record stands at a place.
 pub fn reading_at(b: &[u8], i: usize) -> structure::Hand
     requires { i ≤ 900000 }
-    ensures { reading_of result ≡ readingAt b.now i }
+    ensures { reading_of result ≡ reading_at b.now i }
 {
     let kind = byte_at(b, i + 2);
     if kind == 1 {

@@ -10,24 +10,24 @@ use Rattle.lists.proofs.Members.{at_map}
 use Rattle.tile.specs.Tile.{tiles}
 use Rattle.tile.specs.declared.Renaming.{Renaming}
 use Rattle.tile.specs.Renaming.{ren, back}
-use Rattle.tile.proofs.Renamings.{ren-lt, back-ren}
+use Rattle.tile.proofs.Renamings.{ren_lt, back_ren}
 use Rattle.hand.specs.Counts.{held}
-use Rattle.renamed.specs.Renamed.{renCounts}
+use Rattle.renamed.specs.Renamed.{ren_counts}
 use Rattle.renamed.proofs.Keeps.{SameCounts}
 
-tiles-test : T (all_below 34 (λ t. eqb (get_or tiles t 0) t))
-tiles-test = tt
+tiles_test : T (all_below 34 (λ t. eqb (get_or tiles t 0) t))
+tiles_test = tt
 
-tile-at : (t : ℕ) → t < 34 → get_or tiles t 0 ≡ t
-tile-at t h = eqb→eq (get_or tiles t 0) t (at 34 (λ t. eqb (get_or tiles t 0) t) tiles-test t h)
+tile_at : (t : ℕ) → t < 34 → get_or tiles t 0 ≡ t
+tile_at t h = eqb→eq (get_or tiles t 0) t (at 34 (λ t. eqb (get_or tiles t 0) t) tiles_test t h)
 
 -- what stands at a tile in a list of a number for each tile
-pub at-tile : (f : ℕ → ℕ) (t : ℕ) → t < 34 → get_or (map f tiles) t 0 ≡ f t
-at-tile f t h = at_map f tiles t 0 0 h ∙ ap f (tile-at t h)
+pub at_tile_holds : (f : ℕ → ℕ) (t : ℕ) → t < 34 → get_or (map f tiles) t 0 ≡ f t
+at_tile_holds f t h = at_map f tiles t 0 0 h ∙ ap f (tile_at t h)
 
 module _ (ρ : Renaming) (cs : List ℕ) where
-  pub held-renamed : SameCounts (ren ρ) (held cs) (held (renCounts ρ cs))
-  held-renamed t h = at-tile (λ t. held cs (ren (back ρ) t)) (ren ρ t) (ren-lt ρ t h) ∙ ap (held cs) (back-ren ρ t h)
+  pub held_renamed : SameCounts (ren ρ) (held cs) (held (ren_counts ρ cs))
+  held_renamed t h = at_tile_holds (λ t. held cs (ren (back ρ) t)) (ren ρ t) (ren_lt ρ t h) ∙ ap (held cs) (back_ren ρ t h)
 
-  pub counts-length : length (renCounts ρ cs) ≡ 34
-  counts-length = refl
+  pub counts_length : length (ren_counts ρ cs) ≡ 34
+  counts_length = refl

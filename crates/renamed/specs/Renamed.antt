@@ -2,12 +2,12 @@
 use Rattle.std.specs.Prelude.{Bool, ◌||◌, List, map, ℕ, eqb}
 use Rattle.lists.specs.Fold.{all_below}
 use Rattle.lists.specs.Order.{arrange}
-use Rattle.tile.specs.Tile.{isGreen, tiles}
+use Rattle.tile.specs.Tile.{is_green, tiles}
 use Rattle.tile.specs.declared.Renaming.{Renaming}
 use Rattle.tile.specs.Renaming.{ren, back}
 use Rattle.meld.specs.declared.Meld.{Meld}
 use Rattle.meld.specs.Meld.{sorted}
-use Rattle.meld.specs.Renamed.{renMeld}
+use Rattle.meld.specs.Renamed.{ren_meld}
 use Rattle.hand.specs.Counts.{held}
 use Rattle.hand.specs.Reading.{Reading, pairs, orphans, standard}
 
@@ -17,13 +17,13 @@ changed f g (pairs ps) = pairs (arrange eqb tiles (map f ps))
 changed f g (orphans p) = orphans (f p)
 changed f g (standard p ms) = standard (f p) (sorted (map g ms))
 
-abbrev pub renReading : Renaming → Reading → Reading
-renReading ρ r = changed (ren ρ) (renMeld ρ) r
+abbrev pub ren_reading : Renaming → Reading → Reading
+ren_reading ρ r = changed (ren ρ) (ren_meld ρ) r
 
 -- the count of a tile becomes the count of its renamed tile
-abbrev pub renCounts : Renaming → List ℕ → List ℕ
-renCounts ρ cs = map (λ t. held cs (ren (back ρ) t)) tiles
+abbrev pub ren_counts : Renaming → List ℕ → List ℕ
+ren_counts ρ cs = map (λ t. held cs (ren (back ρ) t)) tiles
 
 -- each tile that is there is green
-abbrev pub allGreen : (ℕ → ℕ) → Bool
-allGreen c = all_below 34 (λ t. eqb (c t) 0 || isGreen t)
+abbrev pub all_green : (ℕ → ℕ) → Bool
+all_green c = all_below 34 (λ t. eqb (c t) 0 || is_green t)

@@ -9,38 +9,38 @@ use borrow.Author.Tests.{leb-false}
 use Rattle.lists.proofs.Finite.{at}
 use Rattle.scoring.specs.declared.ScoreLevel.{ScoreLevel}
 use Rattle.scoring.specs.declared.ScoreLevel.TheVariants.{Normal, Mangan, Haneman, Baiman, Sanbaiman, Yakuman}
-use Rattle.scoring.specs.Level.{reachesYakuman, reachesSanbaiman, reachesBaiman, reachesHaneman, reachesMangan, highest, yakumanCount, level}
+use Rattle.scoring.specs.Level.{reaches_yakuman, reaches_sanbaiman, reaches_baiman, reaches_haneman, reaches_mangan, highest, yakuman_count, level}
 
 -- ---- han where the level is Normal
-abbrev isNormal : ScoreLevel → Bool
-isNormal Normal = true
-isNormal Mangan = false
-isNormal Haneman = false
-isNormal Baiman = false
-isNormal Sanbaiman = false
-isNormal (Yakuman k) = false
+abbrev is_normal : ScoreLevel → Bool
+is_normal Normal = true
+is_normal Mangan = false
+is_normal Haneman = false
+is_normal Baiman = false
+is_normal Sanbaiman = false
+is_normal (Yakuman k) = false
 
 or_no : (a b : Bool) → (a || b) ≡ false → a ≡ false
 or_no true b e = e
 or_no false b e = refl
 
 -- where Normal is the highest level, Mangan is not reached
-highest-normal : (a b c d m : Bool) → T (isNormal (highest a b c d m)) → m ≡ false
-highest-normal true b c d m t = absurd t
-highest-normal false true c d m t = absurd t
-highest-normal false false true d m t = absurd t
-highest-normal false false false true m t = absurd t
-highest-normal false false false false true t = absurd t
-highest-normal false false false false false t = refl
+highest_normal : (a b c d m : Bool) → T (is_normal (highest a b c d m)) → m ≡ false
+highest_normal true b c d m t = absurd t
+highest_normal false true c d m t = absurd t
+highest_normal false false true d m t = absurd t
+highest_normal false false false true m t = absurd t
+highest_normal false false false false true t = absurd t
+highest_normal false false false false false t = refl
 
-no-mangan : (y : Bool) (k : ℕ) (a b c d m : Bool) → T (isNormal (cond y (Yakuman k) (highest a b c d m))) → m ≡ false
-no-mangan true k a b c d m t = absurd t
-no-mangan false k a b c d m t = highest-normal a b c d m t
+no_mangan : (y : Bool) (k : ℕ) (a b c d m : Bool) → T (is_normal (cond y (Yakuman k) (highest a b c d m))) → m ≡ false
+no_mangan true k a b c d m t = absurd t
+no_mangan false k a b c d m t = highest_normal a b c d m t
 
-pub normal-below-5 : (han fu : ℕ) (yakuman : Bool) → level han fu yakuman ≡ Normal → han ≤ 4
+pub normal_below_5 : (han fu : ℕ) (yakuman : Bool) → level han fu yakuman ≡ Normal → han ≤ 4
 unfolding level
-normal-below-5 han fu yakuman e =
-    let none = no-mangan yakuman (yakumanCount han) (reachesYakuman han) (reachesSanbaiman han) (reachesBaiman han) (reachesHaneman han) (reachesMangan han fu) (subst (λ (l : ScoreLevel). T (isNormal l)) (sym e) tt) in
+normal_below_5 han fu yakuman e =
+    let none = no_mangan yakuman (yakuman_count han) (reaches_yakuman han) (reaches_sanbaiman han) (reaches_baiman han) (reaches_haneman han) (reaches_mangan han fu) (subst (λ (l : ScoreLevel). T (is_normal l)) (sym e) tt) in
     let h = leb-false 5 han (or_no _ _ none) in
     omega arith
 

@@ -4,21 +4,21 @@ use Rattle.scoring.specs.declared.ScoreLevel.{ScoreLevel}
 use Rattle.scoring.specs.declared.ScoreLevel.TheVariants.{Normal, Mangan, Haneman, Baiman, Sanbaiman, Yakuman}
 
 -- ---- what each level asks
-abbrev pub reachesYakuman : ℕ → Bool
-reachesYakuman han = leb 13 han
+abbrev pub reaches_yakuman : ℕ → Bool
+reaches_yakuman han = leb 13 han
 
-abbrev pub reachesSanbaiman : ℕ → Bool
-reachesSanbaiman han = leb 11 han
+abbrev pub reaches_sanbaiman : ℕ → Bool
+reaches_sanbaiman han = leb 11 han
 
-abbrev pub reachesBaiman : ℕ → Bool
-reachesBaiman han = leb 8 han
+abbrev pub reaches_baiman : ℕ → Bool
+reaches_baiman han = leb 8 han
 
-abbrev pub reachesHaneman : ℕ → Bool
-reachesHaneman han = leb 6 han
+abbrev pub reaches_haneman : ℕ → Bool
+reaches_haneman han = leb 6 han
 
 -- 5 han, or 4 with 40 fu, or 3 with 70 fu
-abbrev pub reachesMangan : ℕ → ℕ → Bool
-reachesMangan han fu = leb 5 han || (eqb han 4 && leb 40 fu || eqb han 3 && leb 70 fu)
+abbrev pub reaches_mangan : ℕ → ℕ → Bool
+reaches_mangan han fu = leb 5 han || (eqb han 4 && leb 40 fu || eqb han 3 && leb 70 fu)
 
 -- ---- the level
 -- without a yakuman the highest that is reached: a single yakuman (13 han), Sanbaiman, Baiman, Haneman, Mangan
@@ -31,13 +31,13 @@ highest yakuman sanbaiman baiman haneman mangan =
     (cond mangan Mangan Normal))))
 
 -- the yakuman that the han of yakuman make: one for each full 13 han, at least one
-abbrev pub yakumanCount : ℕ → ℕ
-yakumanCount han = max (han / 13) 1
+abbrev pub yakuman_count : ℕ → ℕ
+yakuman_count han = max (han / 13) 1
 
 unfoldable pub level : ℕ → ℕ → Bool → ScoreLevel
 level han fu yakuman =
-    cond yakuman (Yakuman (yakumanCount han))
-    (highest (reachesYakuman han) (reachesSanbaiman han) (reachesBaiman han) (reachesHaneman han) (reachesMangan han fu))
+    cond yakuman (Yakuman (yakuman_count han))
+    (highest (reaches_yakuman han) (reaches_sanbaiman han) (reaches_baiman han) (reaches_haneman han) (reaches_mangan han fu))
 
 -- the place of a level among the levels, from Normal up
 abbrev pub place : ScoreLevel → ℕ
@@ -50,15 +50,15 @@ place (Yakuman k) = 4 + k
 
 -- ---- the basic points
 -- the basic points of a level; at Normal n, at most 2,000
-abbrev pub pointsAt : ScoreLevel → ℕ → ℕ
-pointsAt Normal n = min n 2000
-pointsAt Mangan n = 2000
-pointsAt Haneman n = 3000
-pointsAt Baiman n = 4000
-pointsAt Sanbaiman n = 6000
-pointsAt (Yakuman k) n = 8000 * k
+abbrev pub points_at : ScoreLevel → ℕ → ℕ
+points_at Normal n = min n 2000
+points_at Mangan n = 2000
+points_at Haneman n = 3000
+points_at Baiman n = 4000
+points_at Sanbaiman n = 6000
+points_at (Yakuman k) n = 8000 * k
 
 -- at Normal fu times 2 to the power of han + 2
-unfoldable pub basicPoints : ℕ → ℕ → Bool → ℕ
+unfoldable pub basic_points : ℕ → ℕ → Bool → ℕ
 unfolding level
-basicPoints han fu yakuman = pointsAt (level han fu yakuman) (fu * 2 ^ (han + 2))
+basic_points han fu yakuman = points_at (level han fu yakuman) (fu * 2 ^ (han + 2))

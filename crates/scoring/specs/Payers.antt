@@ -1,4 +1,4 @@
--- What each of the others at the table pays, and how often the winner receives the basic points. The laws `payers-total` and `total-near` say
+-- What each of the others at the table pays, and how often the winner receives the basic points. The laws `payers_total` and `total_near` say
 -- that a total is what these pay, and near to so many times the basic points. These are definitions.
 use Rattle.std.specs.Prelude.{Bool, cond, List, ◌∷◌, ℕ, ◌-◌, ◌*◌, replicate}
 use Rattle.scoring.specs.declared.Payment.{Payment}
@@ -17,5 +17,5 @@ asked players tsumo = cond tsumo (players - 1) 1
 
 -- how often they owe the basic points together: by ron 4 times, to the dealer 6 times; by tsumo as often as there are players, to the dealer
 -- each twice
-abbrev pub owedInAll : ℕ → Bool → Bool → ℕ
-owedInAll players tsumo dealer = cond tsumo (cond dealer ((players - 1) * 2) players) (cond dealer 6 4)
+abbrev pub owed_in_all : ℕ → Bool → Bool → ℕ
+owed_in_all players tsumo dealer = cond tsumo (cond dealer ((players - 1) * 2) players) (cond dealer 6 4)

@@ -14,6 +14,6 @@ pub record Pays (owed paid : ℕ) : Type 0 where
 -- of the others twice to the dealer
 pub data Settled (basic : ℕ) : Bool → Bool → Payment → Type 0 where
   ron : {n : ℕ} → Pays (4 * basic) n → Settled basic false false (Ron n)
-  dealer-ron : {n : ℕ} → Pays (6 * basic) n → Settled basic false true (Ron n)
+  dealer_ron_holds : {n : ℕ} → Pays (6 * basic) n → Settled basic false true (Ron n)
   tsumo : {m n : ℕ} → Pays (2 * basic) m → Pays basic n → Settled basic true false (Tsumo m n)
-  dealer-tsumo : {n : ℕ} → Pays (2 * basic) n → Settled basic true true (DealerTsumo n)
+  dealer_tsumo_holds : {n : ℕ} → Pays (2 * basic) n → Settled basic true true (DealerTsumo n)

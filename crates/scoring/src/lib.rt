@@ -1,8 +1,8 @@
 // Level, basic points and payment of han and fu (scoring.rs of agari).
 ghost use Rattle.std.specs.Prelude.{◌≡◌, cond, ◌&&◌, ◌||◌, ◌+◌, ◌*◌, ◌/◌, ◌^◌, ◌≤◌, max, min, eqb, leb};
 ghost use Rattle.rules.specs.Rules.{game};
-ghost use Rattle.scoring.specs.Level.{reachesMangan, yakumanCount, level, basicPoints};
-ghost use Rattle.scoring.specs.Payment.{roundUpTo100, payment, paymentAnswer, totalAt};
+ghost use Rattle.scoring.specs.Level.{reaches_mangan, yakuman_count, level, basic_points};
+ghost use Rattle.scoring.specs.Payment.{round_up_to100, payment, payment_answer, total_at};
 
 // Score limit levels. A yakuman carries how many times it counts.
 #[derive(Drop)]
@@ -34,7 +34,7 @@ pub enum Payment {
 
 // How many yakuman the han of yakuman make: one for each 13, at least one.
 fn yakuman_count(han: u8) -> u8
-    ensures { result ≡ yakumanCount han }
+    ensures { result ≡ yakuman_count han }
 {
     let n = han / 13;
     if n < 1 { 1 } else { n }
@@ -42,7 +42,7 @@ fn yakuman_count(han: u8) -> u8
 
 // Do han and fu reach mangan: 5 han, 4 han with 40 fu, 3 han with 70 fu?
 fn reaches_mangan(han: u8, fu: u8) -> bool
-    ensures { result ≡ reachesMangan han fu }
+    ensures { result ≡ reaches_mangan han fu }
 {
     (5 <= han) | (((han == 4) & (40 <= fu)) | ((han == 3) & (70 <= fu)))
 }
@@ -82,7 +82,7 @@ fn fu_points(han: u8, fu: u8) -> u32
 
 // The basic points of han and fu, with or without a yakuman.
 pub fn calculate_basic_points(han: u8, fu: u8, is_yakuman: bool) -> u32
-    ensures { result ≡ basicPoints han fu is_yakuman }
+    ensures { result ≡ basic_points han fu is_yakuman }
 {
     let level = determine_score_level(han, fu, is_yakuman);
     match level {
@@ -107,7 +107,7 @@ fn at_most_2000(n: u32) -> u32
 // A payer's amount, rounded up to 100.
 fn round_up_to_100(n: u32) -> u32
     requires { n ≤ 1000000 }
-    ensures { result ≡ roundUpTo100 n }
+    ensures { result ≡ round_up_to100 n }
 {
     (n + 99) / 100 * 100
 }
@@ -150,7 +150,7 @@ pub enum PaymentAnswer {
 
 // Who pays what for any basic points and any win type, 0 for ron and 1 for tsumo.
 pub fn score_payment(basic_points: u32, is_dealer: bool, win_type: u8) -> PaymentAnswer
-    ensures { result ≡ paymentAnswer basic_points is_dealer win_type }
+    ensures { result ≡ payment_answer basic_points is_dealer win_type }
 {
     if 1 < win_type {
         return PaymentAnswer::Refused(8);
@@ -164,7 +164,7 @@ pub fn score_payment(basic_points: u32, is_dealer: bool, win_type: u8) -> Paymen
 impl Payment {
     // All that the winner receives, at the table of the game that is played.
     pub fn total(self, v: rules::Variant) -> u64
-        ensures { result ≡ totalAt (game v).players self }
+        ensures { result ≡ total_at (game v).players self }
     {
         let players = v.players();
         match self {

@@ -12,19 +12,19 @@ use Rattle.search.specs.Remaining.{digit}
 
 -- ---- the word 0
 
-pub digit-zero : (k : ℕ) → digit 0 k ≡ 0
+pub digit_zero : (k : ℕ) → digit 0 k ≡ 0
 unfolding digit
-digit-zero zero = refl
-digit-zero (suc k) = digit-zero k
+digit_zero zero = refl
+digit_zero (suc k) = digit_zero k
 
-all-zero : (n w : ℕ) → w ≤ n → ((k : ℕ) → digit w k ≡ 0) → w ≡ 0
+all_zero : (n w : ℕ) → w ≤ n → ((k : ℕ) → digit w k ≡ 0) → w ≡ 0
 unfolding digit
-all-zero zero w h f = omega arith
-all-zero (suc n) w h f = omega (arith, f 0, all-zero n (w / 8) (omega arith) (λ k. f (suc k)))
+all_zero zero w h f = omega arith
+all_zero (suc n) w h f = omega (arith, f 0, all_zero n (w / 8) (omega arith) (λ k. f (suc k)))
 
 -- a word whose counts are all 0 is 0
-pub no-digits : (w : ℕ) → ((k : ℕ) → digit w k ≡ 0) → w ≡ 0
-no-digits w f = all-zero w w (omega arith) f
+pub no_digits : (w : ℕ) → ((k : ℕ) → digit w k ≡ 0) → w ≡ 0
+no_digits w f = all_zero w w (omega arith) f
 
 -- ---- shifting
 
@@ -49,26 +49,26 @@ digit_shift (suc p) w k =
 -- ---- taking k off at the place p
 
 module _ (k : ℕ) where
-  off-up : (p : ℕ) → k * 2 ^ (3 * suc p) ≡ 8 * (k * 2 ^ (3 * p))
-  off-up p = ap (λ (n : ℕ). k * n) (eighth p) ∙ mul_left_comm k 8 (2 ^ (3 * p))
+  off_up : (p : ℕ) → k * 2 ^ (3 * suc p) ≡ 8 * (k * 2 ^ (3 * p))
+  off_up p = ap (λ (n : ℕ). k * n) (eighth p) ∙ mul_left_comm k 8 (2 ^ (3 * p))
 
-  pub off-le : (p w : ℕ) → k ≤ digit w p → k * 2 ^ (3 * p) ≤ w
+  pub off_le : (p w : ℕ) → k ≤ digit w p → k * 2 ^ (3 * p) ≤ w
   unfolding digit
-  off-le zero w h = omega arith
-  off-le (suc p) w h = omega (arith, off-le p (w / 8) h, off-up p)
+  off_le zero w h = omega arith
+  off_le (suc p) w h = omega (arith, off_le p (w / 8) h, off_up p)
 
-pub digit-less : (p k w u : ℕ) → k ≤ digit w p → digit (w - k * 2 ^ (3 * p)) u ≡ digit w u - cond (eqb u p) k 0
+pub digit_less : (p k w u : ℕ) → k ≤ digit w p → digit (w - k * 2 ^ (3 * p)) u ≡ digit w u - cond (eqb u p) k 0
 unfolding digit
-digit-less zero k w zero h = omega arith
-digit-less zero k w (suc u) h =
+digit_less zero k w zero h = omega arith
+digit_less zero k w (suc u) h =
     let e : (w - k * 1) / 8 ≡ w / 8 = omega arith in
     ap (λ (v : ℕ). digit v u) e ∙ rw eqb-suc-zero (omega arith)
-digit-less (suc p) k w zero h =
-    let e : (w - k * 2 ^ (3 * suc p)) % 8 ≡ w % 8 = omega (arith, off-up k p, off-le k p (w / 8) h) in
+digit_less (suc p) k w zero h =
+    let e : (w - k * 2 ^ (3 * suc p)) % 8 ≡ w % 8 = omega (arith, off_up k p, off_le k p (w / 8) h) in
     rw eqb-zero-suc (omega arith)
-digit-less (suc p) k w (suc u) h =
-    let e : (w - k * 2 ^ (3 * suc p)) / 8 ≡ w / 8 - k * 2 ^ (3 * p) = omega (arith, off-up k p, off-le k p (w / 8) h) in
-    ap (λ (v : ℕ). digit v u) e ∙ rw eqb-suc-suc (digit-less p k (w / 8) u h)
+digit_less (suc p) k w (suc u) h =
+    let e : (w - k * 2 ^ (3 * suc p)) / 8 ≡ w / 8 - k * 2 ^ (3 * p) = omega (arith, off_up k p, off_le k p (w / 8) h) in
+    ap (λ (v : ℕ). digit v u) e ∙ rw eqb-suc-suc (digit_less p k (w / 8) u h)
 
 -- ---- the lowest count
 
@@ -82,8 +82,8 @@ unfolding count_trailing_zeros
 odd k w e = ap (λ (d : ℕ). under d (count_trailing_zeros k (w / 2))) e
 
 -- three bits at a time
-past-place : (k w : ℕ) → w % 8 ≡ 0 → count_trailing_zeros (suc (suc (suc k))) w ≡ 3 + count_trailing_zeros k (w / 8)
-past-place k w e =
+past_place : (k w : ℕ) → w % 8 ≡ 0 → count_trailing_zeros (suc (suc (suc k))) w ≡ 3 + count_trailing_zeros k (w / 8)
+past_place k w e =
     let h : w / 2 / 2 / 2 ≡ w / 8 = omega arith in
     omega (
       arith,
@@ -106,9 +106,9 @@ pub record Lowest (w z : ℕ) : Type 0 where
   pub below : (j : ℕ) → j < z → digit w j ≡ 0
   pub there : 1 ≤ digit w z
 
-first-place : (w z : ℕ) → z ≡ 0 → 1 ≤ w % 8 → Lowest w z
+first_place : (w z : ℕ) → z ≡ 0 → 1 ≤ w % 8 → Lowest w z
 unfolding digit
-first-place w z e h = record { below = λ j i. absurd (omega arith); there = subst (λ (k : ℕ). 1 ≤ digit w k) (sym e) h }
+first_place w z e h = record { below = λ j i. absurd (omega arith); there = subst (λ (k : ℕ). 1 ≤ digit w k) (sym e) h }
 
 next_place : (w z y : ℕ) → y ≡ suc z → w % 8 ≡ 0 → Lowest (w / 8) z → Lowest w y
 unfolding digit
@@ -119,14 +119,14 @@ next_place w z y e h l = record { below = low; there = subst (λ (k : ℕ). 1 �
     low (suc j) i = l.below j (omega arith)
 
 -- the trailing zeros say where the lowest count stands
-pub lowest-place : (k w : ℕ) → (w ≡ 0 → ⊥) → w < 2 ^ k → Lowest w (count_trailing_zeros k w / 3)
-lowest-place zero w f h = absurd (f (omega arith))
-lowest-place (suc zero) w f h = first-place w _ (omega (arith, trailing_le 1 w)) (omega arith)
-lowest-place (suc (suc zero)) w f h = first-place w _ (omega (arith, trailing_le 2 w)) (omega arith)
-lowest-place (suc (suc (suc k))) w f h =
-    go (λ e. lowest-place k (w / 8) (λ i. f (omega arith)) (omega (arith, pow-add 2 3 k))) (eq-zero-or-pos (w % 8))
+pub lowest_place : (k w : ℕ) → (w ≡ 0 → ⊥) → w < 2 ^ k → Lowest w (count_trailing_zeros k w / 3)
+lowest_place zero w f h = absurd (f (omega arith))
+lowest_place (suc zero) w f h = first_place w _ (omega (arith, trailing_le 1 w)) (omega arith)
+lowest_place (suc (suc zero)) w f h = first_place w _ (omega (arith, trailing_le 2 w)) (omega arith)
+lowest_place (suc (suc (suc k))) w f h =
+    go (λ e. lowest_place k (w / 8) (λ i. f (omega arith)) (omega (arith, pow-add 2 3 k))) (eq-zero-or-pos (w % 8))
   where
     go : (w % 8 ≡ 0 → Lowest (w / 8) (count_trailing_zeros k (w / 8) / 3)) → (w % 8 ≡ 0) ⊎ (0 < w % 8)
         → Lowest w (count_trailing_zeros (suc (suc (suc k))) w / 3)
-    go rest (inl e) = next_place w (count_trailing_zeros k (w / 8) / 3) _ (omega (arith, past-place k w e)) e (rest e)
-    go rest (inr i) = first-place w _ (omega (arith, in_place k w i)) i
+    go rest (inl e) = next_place w (count_trailing_zeros k (w / 8) / 3) _ (omega (arith, past_place k w e)) e (rest e)
+    go rest (inr i) = first_place w _ (omega (arith, in_place k w i)) i

@@ -9,8 +9,8 @@ use lib.Dec.{leb}
 use lib.ListN.{length, get_or, set}
 use lib.Seq.{sets}
 use Rattle.lists.proofs.Elements.{four}
-use Rattle.hand.specs.Records.{standardBytes}
-use Rattle.search.specs.Slots.{put, slotBytes, slotRecord}
+use Rattle.hand.specs.Records.{standard_bytes}
+use Rattle.search.specs.Slots.{put, slot_bytes, slot_record}
 
 -- a number put in from slot to slot: y, z, w are what is handed on
 pub put_is : (x y z w p q r s : ℕ) (l : List ℕ) → length l ≡ 4
@@ -27,13 +27,13 @@ put_is x y z w p q r s l h e f g i j k m = let u = ap (put x) (four l 0 h) in cc
 
 -- the bytes of a record, slot by slot
 pub four_bytes : (p : ℕ) (l : List ℕ) → length l ≡ 4
-    → slotRecord p l ≡ standardBytes ∷ 0 ∷ 3 ∷ 0 ∷ p
+    → slot_record p l ≡ standard_bytes ∷ 0 ∷ 3 ∷ 0 ∷ p
     ∷ get_or l 0 0 / 32 % 256 ∷ get_or l 0 0 / 4 % 8 ∷ get_or l 0 0 % 4
     ∷ get_or l 1 0 / 32 % 256 ∷ get_or l 1 0 / 4 % 8 ∷ get_or l 1 0 % 4
     ∷ get_or l 2 0 / 32 % 256 ∷ get_or l 2 0 / 4 % 8 ∷ get_or l 2 0 % 4
     ∷ get_or l 3 0 / 32 % 256 ∷ get_or l 3 0 / 4 % 8 ∷ get_or l 3 0 % 4 ∷ []
-unfolding slotRecord slotBytes
-four_bytes p l e = ap (slotRecord p) (four l 0 e)
+unfolding slot_record slot_bytes
+four_bytes p l e = ap (slot_record p) (four l 0 e)
 
 -- twelve numbers that are the tiles, kinds and sources of the slots are the record's bytes
 pub record_is :
@@ -50,20 +50,20 @@ pub record_is :
     → t₃ ≡ get_or l 3 0 / 32 % 256
     → k₃ ≡ get_or l 3 0 / 4 % 8
     → s₃ ≡ get_or l 3 0 % 4
-    → standardBytes ∷ 0 ∷ 3 ∷ 0 ∷ p ∷ t₀ ∷ k₀ ∷ s₀ ∷ t₁ ∷ k₁ ∷ s₁ ∷ t₂ ∷ k₂ ∷ s₂ ∷ t₃ ∷ k₃ ∷ s₃ ∷ [] ≡ slotRecord p l
+    → standard_bytes ∷ 0 ∷ 3 ∷ 0 ∷ p ∷ t₀ ∷ k₀ ∷ s₀ ∷ t₁ ∷ k₁ ∷ s₁ ∷ t₂ ∷ k₂ ∷ s₂ ∷ t₃ ∷ k₃ ∷ s₃ ∷ [] ≡ slot_record p l
 record_is p l h t₀ k₀ s₀ t₁ k₁ s₁ t₂ k₂ s₂ t₃ k₃ s₃ et₀ ek₀ es₀ et₁ ek₁ es₁ et₂ ek₂ es₂ et₃ ek₃ es₃ =
-    (λ i. standardBytes ∷ 0 ∷ 3 ∷ 0 ∷ p ∷ et₀ i ∷ ek₀ i ∷ es₀ i ∷ et₁ i ∷ ek₁ i ∷ es₁ i ∷ et₂ i ∷ ek₂ i ∷ es₂ i ∷ et₃ i ∷ ek₃ i ∷ es₃ i ∷ []) ∙ sym (four_bytes p l h)
+    (λ i. standard_bytes ∷ 0 ∷ 3 ∷ 0 ∷ p ∷ et₀ i ∷ ek₀ i ∷ es₀ i ∷ et₁ i ∷ ek₁ i ∷ es₁ i ∷ et₂ i ∷ ek₂ i ∷ es₂ i ∷ et₃ i ∷ ek₃ i ∷ es₃ i ∷ []) ∙ sym (four_bytes p l h)
 
-pub record-length : (p : ℕ) (l : List ℕ) → length l ≡ 4 → length (slotRecord p l) ≡ standardBytes
-record-length p l e = ap length (four_bytes p l e)
+pub record_length : (p : ℕ) (l : List ℕ) → length l ≡ 4 → length (slot_record p l) ≡ standard_bytes
+record_length p l e = ap length (four_bytes p l e)
 
 -- ---- runs of stores
 
-pub sets-append : (a b d : List ℕ) (i : ℕ) → sets d i (a ++ b) ≡ sets (sets d i a) (i + length a) b
-sets-append [] b d i = ap (λ (k : ℕ). sets d k b) (sym (add-zero i))
-sets-append (x ∷ a) b d i =
+pub sets_append : (a b d : List ℕ) (i : ℕ) → sets d i (a ++ b) ≡ sets (sets d i a) (i + length a) b
+sets_append [] b d i = ap (λ (k : ℕ). sets d k b) (sym (add-zero i))
+sets_append (x ∷ a) b d i =
     let e : suc i + length a ≡ i + suc (length a) = omega arith in
-    sets-append a b (set d i x) (suc i) ∙ ap (λ (k : ℕ). sets (sets (set d i x) (suc i) a) k b) e
+    sets_append a b (set d i x) (suc i) ∙ ap (λ (k : ℕ). sets (sets (set d i x) (suc i) a) k b) e
 
 -- what is written, under another name
 pub written_as :

@@ -1,6 +1,6 @@
 -- How the code keeps the tiles that are left, in packed words; no rule of the game. These are definitions.
 use Rattle.std.specs.Prelude.{◌≡◌, ◌⊎◌, Bool, ◌&&◌, cond, ℕ, zero, suc, ◌+◌, ◌-◌, ◌/◌, ◌%◌, ◌≤◌, ◌<◌, eqb, leb}
-use Rattle.tile.specs.Tile.{isStart}
+use Rattle.tile.specs.Tile.{is_start}
 use Rattle.meld.specs.declared.Meld.{Meld}
 use Rattle.meld.specs.Meld.{meld}
 use Rattle.hand.specs.Readings.{fits, is_empty, minus}
@@ -32,8 +32,8 @@ pub record Fair (s : Split) : Type 0 where
   pub apart : (s.rest ≡ 0) ⊎ ((k : ℕ) → 18 ≤ s.tile + k → digit s.word k ≡ 0)
 
 -- no tile is left
-unfoldable pub noneLeft : Split → Bool
-noneLeft s = is_empty (left s)
+unfoldable pub has_none_left : Split → Bool
+has_none_left s = is_empty (left s)
 
 -- the lowest tile that is left stands at the lowest place of the word
 pub record AtLowest (s : Split) : Type 0 where
@@ -42,11 +42,11 @@ pub record AtLowest (s : Split) : Type 0 where
   pub there : 1 ≤ s.word % 8
 
 -- the sequence from the tile is left; exactly three of the tile are left
-unfoldable pub hasSequence : Split → Bool
-hasSequence s = isStart s.tile && fits (meld s.tile 0) (left s)
+unfoldable pub has_sequence : Split → Bool
+has_sequence s = is_start s.tile && fits (meld s.tile 0) (left s)
 
-unfoldable pub hasTriplet : Split → Bool
-hasTriplet s = eqb (left s s.tile) 3
+unfoldable pub has_triplet : Split → Bool
+has_triplet s = eqb (left s s.tile) 3
 
 -- t is what is left of s without the meld m
 pub record Less (s : Split) (m : Meld) (t : Split) : Type 0 where

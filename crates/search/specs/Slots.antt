@@ -4,7 +4,7 @@ use Rattle.std.specs.Prelude.{cond, List, [], ◌∷◌, map, ℕ, ◌/◌, ◌%
 use Rattle.lists.specs.Fold.{flat}
 use Rattle.meld.specs.declared.Meld.{Meld}
 use Rattle.meld.specs.Meld.{key}
-use Rattle.hand.specs.Records.{standardBytes}
+use Rattle.hand.specs.Records.{standard_bytes}
 
 -- x in its place among ascending slots; the last one falls out
 unfoldable pub put : ℕ → List ℕ → List ℕ
@@ -20,14 +20,14 @@ unfoldable pub slots_of : List Meld → List ℕ
 slots_of ms = put_all (map key ms) (replicate 4 65535)
 
 -- a meld's number as its tile, its kind and its source, a byte each
-unfoldable pub slotBytes : List ℕ → List ℕ
-slotBytes [] = []
-slotBytes (x ∷ xs) = x / 32 % 256 ∷ x / 4 % 8 ∷ x % 4 ∷ slotBytes xs
+unfoldable pub slot_bytes : List ℕ → List ℕ
+slot_bytes [] = []
+slot_bytes (x ∷ xs) = x / 32 % 256 ∷ x / 4 % 8 ∷ x % 4 ∷ slot_bytes xs
 
 -- the record of a standard reading, from the slots
-unfoldable pub slotRecord : ℕ → List ℕ → List ℕ
-slotRecord p slots = standardBytes ∷ 0 ∷ 3 ∷ 0 ∷ p ∷ slotBytes slots
+unfoldable pub slot_record : ℕ → List ℕ → List ℕ
+slot_record p slots = standard_bytes ∷ 0 ∷ 3 ∷ 0 ∷ p ∷ slot_bytes slots
 
 -- the records of the pair p with each of the lists of melds, put among the slots
-unfoldable pub recordsWith : ℕ → List ℕ → List (List Meld) → List ℕ
-recordsWith p slots ls = flat (λ l. slotRecord p (put_all (map key l) slots)) ls
+unfoldable pub records_with : ℕ → List ℕ → List (List Meld) → List ℕ
+records_with p slots ls = flat (λ l. slot_record p (put_all (map key l) slots)) ls

@@ -2,11 +2,11 @@
 // sequence or a triplet, and calls itself with one meld fewer to find. The tiles left are counts packed three bits a tile.
 ghost use Rattle.std.specs.Prelude.{◌≡◌, cond, true, false, ◌+◌, ◌*◌, ◌/◌, ◌%◌, ◌≤◌, leb, length};
 ghost use Rattle.std.proofs.lemmas.List.Edits.{sets};
-ghost use Rattle.hand.specs.Records.{standardBytes};
-ghost use Rattle.hand.specs.Readings.{meldLists};
+ghost use Rattle.hand.specs.Records.{standard_bytes};
+ghost use Rattle.hand.specs.Readings.{meld_lists};
 ghost use Rattle.meld.specs.Meld.{meld};
-ghost use Rattle.search.specs.Remaining.{split, left, Fair, noneLeft, AtLowest, hasSequence, hasTriplet, Less};
-ghost use Rattle.search.specs.Slots.{put, slotRecord, recordsWith};
+ghost use Rattle.search.specs.Remaining.{split, left, Fair, has_none_left, AtLowest, has_sequence, has_triplet, Less};
+ghost use Rattle.search.specs.Slots.{put, slot_record, records_with};
 
 // The tiles left: `word` has the counts from a tile on, three bits each, the lowest tile in the lowest bits. `behind` has that
 // tile in its six lowest bits, and above them the counts of sou and the honors where they are not yet in `word`.
@@ -20,14 +20,14 @@ impl Remaining {
     // Is no tile left?
     pub fn is_empty(self) -> bool
         requires { Fair (split self) }
-        ensures { result ≡ noneLeft (split self) }
+        ensures { result ≡ has_none_left (split self) }
     {
         (self.word == 0) & (self.behind / 64 == 0)
     }
 
     // The same tiles, with sou and the honors in the word where nothing before them is left.
     fn current(self) -> Remaining
-        requires { Fair (split self) × (noneLeft (split self) ≡ false) }
+        requires { Fair (split self) × (has_none_left (split self) ≡ false) }
         ensures { Fair (split result) × ((left (split result) ≡ left (split self)) × (result.word ≡ 0 → ⊥)) }
     {
         if self.word == 0 {
@@ -41,7 +41,7 @@ impl Remaining {
 
     // The same tiles from the lowest on, where one is left.
     pub fn lowest(self) -> Remaining
-        requires { Fair (split self) × (noneLeft (split self) ≡ false) }
+        requires { Fair (split self) × (has_none_left (split self) ≡ false) }
         ensures { AtLowest (split result) × (left (split result) ≡ left (split self)) }
     {
         let s = self.current();
@@ -62,7 +62,7 @@ impl Remaining {
     // Is the sequence from the tile there? One of the tile itself is.
     pub fn has_sequence(self) -> bool
         requires { AtLowest (split self) }
-        ensures { result ≡ hasSequence (split self) }
+        ensures { result ≡ has_sequence (split self) }
     {
         let tile = self.behind % 64;
         (tile < 27) & ((tile % 9 < 7) & ((self.word / 8 % 8 != 0) & (self.word / 64 % 8 != 0)))
@@ -71,14 +71,14 @@ impl Remaining {
     // Are exactly three of the tile left?
     pub fn has_triplet(self) -> bool
         requires { AtLowest (split self) }
-        ensures { result ≡ hasTriplet (split self) }
+        ensures { result ≡ has_triplet (split self) }
     {
         self.word % 8 == 3
     }
 
     // What is left without the sequence from the tile: one less at each of the three lowest places, 1 + 8 + 64.
     pub fn without_sequence(self) -> Remaining
-        requires { AtLowest (split self) × (hasSequence (split self) ≡ true) }
+        requires { AtLowest (split self) × (has_sequence (split self) ≡ true) }
         ensures { Less (split self) (meld (split self).tile 0) (split result) }
     {
         Remaining {
@@ -89,7 +89,7 @@ impl Remaining {
 
     // What is left without the triplet of the tile.
     pub fn without_triplet(self) -> Remaining
-        requires { AtLowest (split self) × (hasTriplet (split self) ≡ true) }
+        requires { AtLowest (split self) × (has_triplet (split self) ≡ true) }
         ensures { Less (split self) (meld (split self).tile 2) (split result) }
     {
         Remaining {
@@ -102,7 +102,7 @@ impl Remaining {
 // How many lists of `needed` closed melds use up the tiles left.
 pub fn count_meld_combinations(s: Remaining, needed: u32) -> usize
     requires { (needed ≤ 4) × Fair (split s) }
-    ensures { (result ≡ length (meldLists needed (left (split s)))) × (result ≤ 16) }
+    ensures { (result ≡ length (meld_lists needed (left (split s)))) × (result ≤ 16) }
 {
     // the two words as numbers, so that no copy of `s` is on the stack while the search goes on
     let here = Remaining {
@@ -180,8 +180,8 @@ fn source_of(x: u16) -> u8
 
 // Writes the record of a standard reading: the pair and the melds in the slots.
 pub fn write_standard(out: &mut [u8], at: usize, pair: u8, slots: [u16; 4])
-    requires { at + standardBytes ≤ length out.old }
-    ensures { out.new ≡ sets out.old at (slotRecord pair slots) }
+    requires { at + standard_bytes ≤ length out.old }
+    ensures { out.new ≡ sets out.old at (slot_record pair slots) }
 {
     let a = slots[0];
     let b = slots[1];
@@ -214,8 +214,8 @@ pub fn write_standard(out: &mut [u8], at: usize, pair: u8, slots: [u16; 4])
 
 // Writes the record of the pair and the melds in the slots where no tile is left. Answers the place behind it.
 fn write_end(s: Remaining, pair: u8, slots: [u16; 4], out: &mut [u8], at: usize) -> usize
-    requires { Fair (split s) × (at + length (recordsWith pair slots (meldLists 0 (left (split s)))) ≤ length out.old) }
-    ensures { (result ≡ at + length (recordsWith pair slots (meldLists 0 (left (split s))))) × (out.new ≡ sets out.old at (recordsWith pair slots (meldLists 0 (left (split s))))) }
+    requires { Fair (split s) × (at + length (records_with pair slots (meld_lists 0 (left (split s)))) ≤ length out.old) }
+    ensures { (result ≡ at + length (records_with pair slots (meld_lists 0 (left (split s))))) × (out.new ≡ sets out.old at (records_with pair slots (meld_lists 0 (left (split s))))) }
 {
     if s.is_empty() {
         write_standard(out, at, pair, slots);
@@ -235,8 +235,8 @@ fn write_with(
     out: &mut [u8],
     at: usize,
 ) -> usize
-    requires { (needed ≤ 3) × (Fair (split s) × (at + length (recordsWith pair (put key slots) (meldLists needed (left (split s)))) ≤ length out.old)) }
-    ensures { (result ≡ at + length (recordsWith pair (put key slots) (meldLists needed (left (split s))))) × (out.new ≡ sets out.old at (recordsWith pair (put key slots) (meldLists needed (left (split s))))) }
+    requires { (needed ≤ 3) × (Fair (split s) × (at + length (records_with pair (put key slots) (meld_lists needed (left (split s)))) ≤ length out.old)) }
+    ensures { (result ≡ at + length (records_with pair (put key slots) (meld_lists needed (left (split s))))) × (out.new ≡ sets out.old at (records_with pair (put key slots) (meld_lists needed (left (split s))))) }
 {
     let more = put_in(slots, key);
     if needed == 0 {
@@ -256,8 +256,8 @@ pub fn write_meld_combinations(
     out: &mut [u8],
     at: usize,
 ) -> usize
-    requires { (needed ≤ 4) × (Fair (split s) × (at + length (recordsWith pair slots (meldLists needed (left (split s)))) ≤ length out.old)) }
-    ensures { (result ≡ at + length (recordsWith pair slots (meldLists needed (left (split s))))) × (out.new ≡ sets out.old at (recordsWith pair slots (meldLists needed (left (split s))))) }
+    requires { (needed ≤ 4) × (Fair (split s) × (at + length (records_with pair slots (meld_lists needed (left (split s)))) ≤ length out.old)) }
+    ensures { (result ≡ at + length (records_with pair slots (meld_lists needed (left (split s))))) × (out.new ≡ sets out.old at (records_with pair slots (meld_lists needed (left (split s))))) }
 {
     // the two words as numbers, so that no copy of `s` is on the stack while the search goes on
     let here = Remaining {

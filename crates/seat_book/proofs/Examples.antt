@@ -7,7 +7,7 @@ use lib.IntN.{ℤ, pos, negsuc}
 use Rattle.seat_book.specs.declared.SeatBook.{SeatBook}
 use Rattle.seat_book.specs.declared.Deal.{Deal}
 use Rattle.seat_book.specs.declared.Settlement.{Settlement}
-use Rattle.seat_book.specs.Book.{newBook, settled}
+use Rattle.seat_book.specs.Book.{new_book, settled}
 
 -- a book with these points, sticks, deals and counter
 abbrev book : List ℤ → ℕ → ℕ → ℕ → SeatBook
@@ -30,7 +30,7 @@ abbrev examples : List Example
 examples =
     -- two seats declare and nobody takes the sticks: each has 1,000 less, and two lie on the table
     record {
-      before = newBook;
+      before = new_book;
       deal = declaring (false ∷ true ∷ true ∷ false ∷ []);
       settlement = taking 4 true;
       after = book (pos 26000 ∷ pos 24000 ∷ pos 24000 ∷ pos 24000 ∷ []) 2 1 1;
@@ -52,6 +52,6 @@ examples =
     ∷ []
 
 -- each comes to what is told of it
-pub settled-as-told : map (λ e. settled e.before e.deal e.settlement) examples ≡ map (λ e. e.after) examples
+pub settled_as_told : map (λ e. settled e.before e.deal e.settlement) examples ≡ map (λ e. e.after) examples
 unfolding settled
-settled-as-told = refl
+settled_as_told = refl

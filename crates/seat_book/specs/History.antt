@@ -15,9 +15,9 @@ number_of (refused n) = n
 number_of (settles x) = 0
 
 -- the book as the booking leaves it: a refused one changes nothing
-abbrev pub bookAfter : SeatBook → Deal → Outcome → SeatBook
-bookAfter b d (refused n) = b
-bookAfter b d (settles x) = settled b d x
+abbrev pub book_after : SeatBook → Deal → Outcome → SeatBook
+book_after b d (refused n) = b
+book_after b d (settles x) = settled b d x
 
 -- no refusal has the number 0, and what is settled is as P says
 abbrev pub Only : (Settlement → Type 0) → Outcome → Type 0
@@ -27,8 +27,8 @@ Only P (settles x) = P x
 -- ---- a kind of bookings: the deal of each, whether somebody wins, whether the counter rises, and its outcome on a book
 pub record Kind : Type 1 where
   pub Booking : Type 0
-  pub dealOf : Booking → Deal
-  pub isWin : Booking → Bool
+  pub deal_of : Booking → Deal
+  pub is_win : Booking → Bool
   pub raises : Booking → Bool
   pub outcome : SeatBook → Booking → Outcome
 
@@ -36,7 +36,7 @@ module _ (k : Kind) where
   -- a booking is settled as its kind says: evenly, the sticks are taken where somebody wins, and the counter rises where it should
   pub record SettledAs (y : k.Booking) (x : Settlement) : Type 0 where
     pub even : Even x
-    pub taken : is_taken x ≡ k.isWin y
+    pub taken : is_taken x ≡ k.is_win y
     pub rises : x.raises ≡ k.raises y
 
   abbrev pub Sound : Type 0
@@ -44,11 +44,11 @@ module _ (k : Kind) where
 
   -- the book after one booking, and after a list of them
   abbrev pub next : SeatBook → k.Booking → SeatBook
-  next b y = bookAfter b (k.dealOf y) (k.outcome b y)
+  next b y = book_after b (k.deal_of y) (k.outcome b y)
 
-  abbrev pub bookedAll : SeatBook → List k.Booking → SeatBook
-  bookedAll b [] = b
-  bookedAll b (y ∷ ys) = bookedAll (next b y) ys
+  abbrev pub booked_all : SeatBook → List k.Booking → SeatBook
+  booked_all b [] = b
+  booked_all b (y ∷ ys) = booked_all (next b y) ys
 
   -- those of a list of bookings that are answered with 0
   abbrev pub accepted : SeatBook → List k.Booking → List k.Booking

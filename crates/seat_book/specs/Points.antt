@@ -14,8 +14,8 @@ abbrev pub most : ℤ
 most = pos 1000000000
 
 -- a seat exactly at a limit is within it
-abbrev pub isWithin : ℤ → Bool
-isWithin p = le_z least p && le_z p most
+abbrev pub is_within : ℤ → Bool
+is_within p = le_z least p && le_z p most
 
 -- after receiving and paying
 abbrev pub moved : ℤ → ℕ → ℕ → ℤ
@@ -25,5 +25,5 @@ moved p gets pays = p +ℤ pos gets -ℤ pos pays
 abbrev pub together : (ℕ → ℤ) → ℤ
 together p = p 0 +ℤ p 1 +ℤ p 2 +ℤ p 3
 
-abbrev pub fourOf : (ℕ → ℕ) → ℕ
-fourOf f = f 0 + f 1 + f 2 + f 3
+abbrev pub four_of : (ℕ → ℕ) → ℕ
+four_of f = f 0 + f 1 + f 2 + f 3

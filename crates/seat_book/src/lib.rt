@@ -1,8 +1,8 @@
 // The seat book: the points of four seats, the sticks on the table, the repeat counter and the deals booked; and what a settled deal makes of it.
 ghost use Rattle.std.specs.Prelude.{◌≡◌, true, ◌+◌, ◌≤◌, ◌<◌};
 ghost use Rattle.lists.specs.Fold.{one};
-ghost use Rattle.seat_book.specs.Points.{isWithin, moved};
-ghost use Rattle.seat_book.specs.Book.{newBook, hasRoom, declaredIn, onTable, taken, seatAfter, pointsAfter, sticksAfter, counterAfter, settled, mostSticks, mostMoved, Settles};
+ghost use Rattle.seat_book.specs.Points.{is_within, moved};
+ghost use Rattle.seat_book.specs.Book.{new_book, has_room, declared_in, on_table, taken, seat_after, points_after, sticks_after, counter_after, settled, most_sticks, most_moved, Settles};
 
 // What each seat starts with.
 const START: i64 = 25000;
@@ -53,7 +53,7 @@ pub struct Settlement {
 
 // A book in which nothing is booked.
 pub fn new_book() -> SeatBook
-    ensures { result ≡ newBook }
+    ensures { result ≡ new_book }
 {
     SeatBook {
         points: [START, START, START, START],
@@ -66,14 +66,14 @@ pub fn new_book() -> SeatBook
 
 // Is a seat within its limits?
 fn is_within(p: i64) -> bool
-    ensures { result ≡ isWithin p }
+    ensures { result ≡ is_within p }
 {
     (LEAST_POINTS <= p) & (p <= MOST_POINTS)
 }
 
 // Does the book take another deal?
 pub fn has_room(b: SeatBook) -> bool
-    ensures { result ≡ hasRoom b }
+    ensures { result ≡ has_room b }
 {
     let points = b.points;
     (b.deals < MOST_DEALS)
@@ -84,7 +84,7 @@ pub fn has_room(b: SeatBook) -> bool
 
 // The points after receiving and paying.
 fn moved(p: i64, gets: u64, pays: u64) -> i64
-    requires { (isWithin p ≡ true) × ((gets ≤ 1000000000000) × (pays ≤ 1000000000000)) }
+    requires { (is_within p ≡ true) × ((gets ≤ 1000000000000) × (pays ≤ 1000000000000)) }
     ensures { result ≡ moved p gets pays }
 {
     p + (gets as i64) - (pays as i64)
@@ -92,7 +92,7 @@ fn moved(p: i64, gets: u64, pays: u64) -> i64
 
 // How many seats declared riichi.
 fn declared_in(d: Deal) -> u32
-    ensures { (result ≡ declaredIn d) × (result ≤ 4) }
+    ensures { (result ≡ declared_in d) × (result ≤ 4) }
 {
     let declared = d.declared;
     let a = lists::one_if(declared[0]);
@@ -104,8 +104,8 @@ fn declared_in(d: Deal) -> u32
 
 // The sticks on the table once those of this deal lie there.
 fn on_table(b: SeatBook, d: Deal) -> u32
-    requires { b.sticks ≤ mostSticks }
-    ensures { (result ≡ onTable b d) × (result ≤ 4100) }
+    requires { b.sticks ≤ most_sticks }
+    ensures { (result ≡ on_table b d) × (result ≤ 4100) }
 {
     b.sticks + declared_in(d)
 }
@@ -120,8 +120,8 @@ fn taken(takes: bool, sticks: u32) -> u64
 
 // The points of a seat after a deal: with the sticks if it takes them, and without its own if it declared.
 fn seat_after(p: i64, gets: u64, pays: u64, takes: bool, declared: bool, sticks: u32) -> i64
-    requires { (isWithin p ≡ true) × ((gets ≤ mostMoved) × ((pays ≤ mostMoved) × (sticks ≤ 4100))) }
-    ensures { result ≡ seatAfter p gets pays takes declared sticks }
+    requires { (is_within p ≡ true) × ((gets ≤ most_moved) × ((pays ≤ most_moved) × (sticks ≤ 4100))) }
+    ensures { result ≡ seat_after p gets pays takes declared sticks }
 {
     let taken = taken(takes, sticks);
     let stick = STICK * (lists::one_if(declared) as u64);
@@ -130,7 +130,7 @@ fn seat_after(p: i64, gets: u64, pays: u64, takes: bool, declared: bool, sticks:
 
 // The sticks that are left after a deal.
 fn sticks_after(taker: u8, sticks: u32) -> u32
-    ensures { result ≡ sticksAfter taker sticks }
+    ensures { result ≡ sticks_after taker sticks }
 {
     if taker < 4 { 0 } else { sticks }
 }
@@ -138,15 +138,15 @@ fn sticks_after(taker: u8, sticks: u32) -> u32
 // The counter after a deal.
 fn counter_after(raises: bool, counter: u8) -> u8
     requires { counter + one raises ≤ 255 }
-    ensures { result ≡ counterAfter raises counter }
+    ensures { result ≡ counter_after raises counter }
 {
     if raises { counter + 1 } else { 0 }
 }
 
 // The points of the seat s after a deal that is settled so, once all sticks lie on the table.
 fn points_after(b: SeatBook, d: Deal, x: Settlement, sticks: u32, s: u8) -> i64
-    requires { Settles b x × ((sticks ≡ onTable b d) × ((sticks ≤ 4100) × (s < 4))) }
-    ensures { result ≡ pointsAfter b d x s }
+    requires { Settles b x × ((sticks ≡ on_table b d) × ((sticks ≤ 4100) × (s < 4))) }
+    ensures { result ≡ points_after b d x s }
 {
     let at = s as usize;
     let points = b.points;

@@ -7,60 +7,60 @@ use Prim.Native.Nat.{ℕ, ◌+◌, ◌<◌, min}
 use native.Mathlib.Omega.{arith}
 use lib.Dec.{T, eqb, ltb, leb, eqb→eq, ltb→lt}
 use borrow.Author.Tests.{eq-eqb, lt-ltb}
-use Rattle.lists.proofs.Finite.{and_left, and_both, and-cong, or_right, T→true, true→T, T-eq}
-use Rattle.lists.proofs.Permuted.{isPerm, isPerm-perm, Shuffled, sameLines}
-use Rattle.tile.specs.Tile.{isStart, isSuited}
+use Rattle.lists.proofs.Finite.{and_left, and_both, and_cong, or_right, T→true, true→t, T-eq}
+use Rattle.lists.proofs.Permuted.{is_perm, is_perm_perm_holds, Shuffled, same_lines}
+use Rattle.tile.specs.Tile.{is_start, is_suited}
 use Rattle.tile.specs.declared.Renaming.{Renaming}
 use Rattle.tile.specs.Renaming.{ren, back}
-use Rattle.tile.proofs.Renamings.{numbers-test}
+use Rattle.tile.proofs.Renamings.{numbers_test}
 use Rattle.meld.specs.declared.Meld.{Meld}
-use Rattle.meld.specs.Meld.{isShaped, isSourced, isMeld, isSequence, meldFrom, meld}
-use Rattle.meld.specs.Renamed.{renMeld}
-use Rattle.meld.proofs.Melds.{meld-shaped, meld-sourced}
-use Rattle.meld.proofs.Renamed.{back-ren-meld}
+use Rattle.meld.specs.Meld.{is_shaped, is_sourced, is_meld, is_sequence, meld_from, meld}
+use Rattle.meld.specs.Renamed.{ren_meld}
+use Rattle.meld.proofs.Melds.{meld_shaped, meld_sourced}
+use Rattle.meld.proofs.Renamed.{back_ren_meld}
 use Rattle.meld_yaku.specs.Melds.{run_from}
-use Rattle.sequence_yaku.specs.Sequences.{straights, runLines, starts}
+use Rattle.sequence_yaku.specs.Sequences.{straights, run_lines, starts}
 
 -- ---- where a renamed sequence starts
-abbrev pub renStart : Renaming → ℕ → ℕ
-renStart ρ t = (renMeld ρ (meld t 0)).tile
+abbrev pub ren_start : Renaming → ℕ → ℕ
+ren_start ρ t = (ren_meld ρ (meld t 0)).tile
 
-start-lt : (t : ℕ) → T (isStart t) → t < 34
-start-lt t s = let h = ltb→lt t 27 (and_left (isSuited t) _ s) in omega arith
+start_lt : (t : ℕ) → T (is_start t) → t < 34
+start_lt t s = let h = ltb→lt t 27 (and_left (is_suited t) _ s) in omega arith
 
 -- the sequence m starts at t where the renamed one starts at the renamed start: two sequences of one kind that become the same are the same
-pub ren-runFrom : (ρ : Renaming) (t : ℕ) → T (isStart t) → (m : Meld) → T (isMeld m) → run_from (renStart ρ t) (renMeld ρ m) ≡ run_from t m
-ren-runFrom ρ t s m v = and-cong (isSequence m) (λ i. T-eq _ _ (undone i) (renamed i))
+pub ren_run_from_holds : (ρ : Renaming) (t : ℕ) → T (is_start t) → (m : Meld) → T (is_meld m) → run_from (ren_start ρ t) (ren_meld ρ m) ≡ run_from t m
+ren_run_from_holds ρ t s m v = and_cong (is_sequence m) (λ i. T-eq _ _ (undone i) (renamed i))
   where
     -- the sequence at t of the kind and the source of m
     run : Meld
-    run = meldFrom t m.kind m.source
+    run = meld_from t m.kind m.source
 
-    run-meld : T (isMeld run)
-    run-meld =
-        and_both (isShaped run) (isSourced run)
-        (and_both (ltb m.kind 7) _ (and_left (ltb m.kind 7) _ (meld-shaped m v))
-        (and_both (ltb t 34) _ (true→T _ (lt-ltb t 34 (start-lt t s))) (or_right (leb 2 m.kind) (isStart t) s)))
-        (meld-sourced m v)
+    run_meld : T (is_meld run)
+    run_meld =
+        and_both (is_shaped run) (is_sourced run)
+        (and_both (ltb m.kind 7) _ (and_left (ltb m.kind 7) _ (meld_shaped m v))
+        (and_both (ltb t 34) _ (true→t _ (lt-ltb t 34 (start_lt t s))) (or_right (leb 2 m.kind) (is_start t) s)))
+        (meld_sourced m v)
 
-    run-starts : T (isSequence m) → (renMeld ρ run).tile ≡ renStart ρ t
-    run-starts i = ap (λ (b : Bool). cond (b && isStart t) (min (ren ρ t) (ren ρ (t + 2))) (ren ρ t)) (T→true (isSequence m) i)
+    run_starts : T (is_sequence m) → (ren_meld ρ run).tile ≡ ren_start ρ t
+    run_starts i = ap (λ (b : Bool). cond (b && is_start t) (min (ren ρ t) (ren ρ (t + 2))) (ren ρ t)) (T→true (is_sequence m) i)
 
-    undone : T (isSequence m) → T (eqb (renStart ρ t) (renMeld ρ m).tile) → T (eqb t m.tile)
+    undone : T (is_sequence m) → T (eqb (ren_start ρ t) (ren_meld ρ m).tile) → T (eqb t m.tile)
     undone i e =
-        let same : renMeld ρ run ≡ renMeld ρ m = ap (λ (u : ℕ). meldFrom u m.kind m.source) (run-starts i ∙ eqb→eq _ _ e) in
-        let runs : run ≡ m = sym (back-ren-meld ρ run run-meld) ∙ ap (renMeld (back ρ)) same ∙ back-ren-meld ρ m v in
-        true→T _ (eq-eqb t m.tile (ap (λ (x : Meld). x.tile) runs))
+        let same : ren_meld ρ run ≡ ren_meld ρ m = ap (λ (u : ℕ). meld_from u m.kind m.source) (run_starts i ∙ eqb→eq _ _ e) in
+        let runs : run ≡ m = sym (back_ren_meld ρ run run_meld) ∙ ap (ren_meld (back ρ)) same ∙ back_ren_meld ρ m v in
+        true→t _ (eq-eqb t m.tile (ap (λ (x : Meld). x.tile) runs))
 
-    renamed : T (isSequence m) → T (eqb t m.tile) → T (eqb (renStart ρ t) (renMeld ρ m).tile)
-    renamed i e = true→T _ (eq-eqb _ _ (sym (run-starts i) ∙ ap (λ (u : ℕ). (renMeld ρ (meldFrom u m.kind m.source)).tile) (eqb→eq t m.tile e)))
+    renamed : T (is_sequence m) → T (eqb t m.tile) → T (eqb (ren_start ρ t) (ren_meld ρ m).tile)
+    renamed i e = true→t _ (eq-eqb _ _ (sym (run_starts i) ∙ ap (λ (u : ℕ). (ren_meld ρ (meld_from u m.kind m.source)).tile) (eqb→eq t m.tile e)))
 
 -- ---- starts and lines, in another order
-pub starts-over : (ρ : Renaming) → Shuffled (renStart ρ) isStart starts
-starts-over ρ = record { each = tt; same = isPerm-perm _ _ (numbers-test (λ ρ. isPerm (map (renStart ρ) starts) starts) ρ tt) }
+pub starts_over : (ρ : Renaming) → Shuffled (ren_start ρ) is_start starts
+starts_over ρ = record { each = tt; same = is_perm_perm_holds _ _ (numbers_test (λ ρ. is_perm (map (ren_start ρ) starts) starts) ρ tt) }
 
-pub straights-same : (ρ : Renaming) → T (sameLines (renStart ρ) straights)
-straights-same ρ = numbers-test (λ ρ. sameLines (renStart ρ) straights) ρ tt
+pub straights_same : (ρ : Renaming) → T (same_lines (ren_start ρ) straights)
+straights_same ρ = numbers_test (λ ρ. same_lines (ren_start ρ) straights) ρ tt
 
-pub runLines-same : (ρ : Renaming) → T (sameLines (renStart ρ) runLines)
-runLines-same ρ = numbers-test (λ ρ. sameLines (renStart ρ) runLines) ρ tt
+pub run_lines_same_holds : (ρ : Renaming) → T (same_lines (ren_start ρ) run_lines)
+run_lines_same_holds ρ = numbers_test (λ ρ. same_lines (ren_start ρ) run_lines) ρ tt

@@ -1,12 +1,12 @@
 // Yaku of sequences (yaku.rs of agari). Each check takes its case apart and otherwise answers no at that line.
 ghost use Rattle.std.specs.Prelude.{◌≡◌, not, ◌&&◌, [], ◌∷◌, ◌+◌, ◌*◌, ◌/◌, ◌%◌, ◌≤◌, eqb, leb, ltb};
 ghost use Rattle.lists.specs.Fold.{all, any};
-ghost use Rattle.tile.specs.Tile.{isStart};
-ghost use Rattle.meld.specs.Meld.{isSequence};
+ghost use Rattle.tile.specs.Tile.{is_start};
+ghost use Rattle.meld.specs.Meld.{is_sequence};
 ghost use Rattle.structure.specs.Structure.{reading_of};
-ghost use Rattle.meld_yaku.specs.Melds.{run_from, threeSuits};
-ghost use Rattle.meld_yaku.specs.Standard.{ofStandard};
-ghost use Rattle.sequence_yaku.specs.Sequences.{ittsu, sanshokuDoujun, peikou};
+ghost use Rattle.meld_yaku.specs.Melds.{run_from, three_suits};
+ghost use Rattle.meld_yaku.specs.Standard.{of_standard};
+ghost use Rattle.sequence_yaku.specs.Sequences.{ittsu, sanshoku_doujun, peikou};
 
 // Is it a sequence from the tile?
 fn is_run_from(m: meld::Meld, t: u8) -> bool
@@ -25,7 +25,7 @@ fn has_run(ms: [meld::Meld; 4], t: u8) -> bool
 
 // Are two melds the same sequence, from a tile where one can start?
 fn is_same_run(a: meld::Meld, b: meld::Meld) -> bool
-    ensures { result ≡ ((isSequence a && isStart a.tile) && run_from a.tile b) }
+    ensures { result ≡ ((is_sequence a && is_start a.tile) && run_from a.tile b) }
 {
     let t = tile::Tile(a.tile);
     (a.is_sequence() & t.is_start()) & is_run_from(b, a.tile)
@@ -46,7 +46,7 @@ fn count_peikou(ms: [meld::Meld; 4]) -> u8
 
 // Iipeikou: one pair of identical sequences.
 pub fn check_iipeikou(h: structure::Hand, opened: bool) -> bool
-    ensures { result ≡ ofStandard (λ p ms. not opened && eqb (peikou ms) 1) (reading_of h) }
+    ensures { result ≡ of_standard (λ p ms. not opened && eqb (peikou ms) 1) (reading_of h) }
 {
     let s = h.structure;
     let structure::HandStructure::Standard { pair: _ } = s else {
@@ -58,7 +58,7 @@ pub fn check_iipeikou(h: structure::Hand, opened: bool) -> bool
 
 // Ryanpeikou: two pairs of identical sequences.
 pub fn check_ryanpeikou(h: structure::Hand, opened: bool) -> bool
-    ensures { result ≡ ofStandard (λ p ms. not opened && leb 2 (peikou ms)) (reading_of h) }
+    ensures { result ≡ of_standard (λ p ms. not opened && leb 2 (peikou ms)) (reading_of h) }
 {
     let s = h.structure;
     let structure::HandStructure::Standard { pair: _ } = s else {
@@ -70,7 +70,7 @@ pub fn check_ryanpeikou(h: structure::Hand, opened: bool) -> bool
 
 // Is there a sequence at the tile's number in each suit? A sequence starts at 1 to 7.
 fn runs_of_number(ms: [meld::Meld; 4], t: u8) -> bool
-    ensures { result ≡ (ltb (t % 9) 7 && all (λ u. any (run_from u) ms) (threeSuits (t % 9))) }
+    ensures { result ≡ (ltb (t % 9) 7 && all (λ u. any (run_from u) ms) (three_suits (t % 9))) }
 {
     let n = t % 9;
     (n < 7) & (has_run(ms, n) & (has_run(ms, n + 9) & has_run(ms, n + 18)))
@@ -78,7 +78,7 @@ fn runs_of_number(ms: [meld::Meld; 4], t: u8) -> bool
 
 // Is there the same sequence in all three suits? That takes three of the four melds, so one of the first two is among them.
 fn is_sanshoku(ms: [meld::Meld; 4]) -> bool
-    ensures { result ≡ sanshokuDoujun ms }
+    ensures { result ≡ sanshoku_doujun ms }
 {
     let a = ms[0];
     let b = ms[1];
@@ -87,7 +87,7 @@ fn is_sanshoku(ms: [meld::Meld; 4]) -> bool
 
 // Sanshoku doujun: the same sequence in all three suits.
 pub fn check_sanshoku(h: structure::Hand) -> bool
-    ensures { result ≡ ofStandard (λ p ms. sanshokuDoujun ms) (reading_of h) }
+    ensures { result ≡ of_standard (λ p ms. sanshoku_doujun ms) (reading_of h) }
 {
     let s = h.structure;
     let structure::HandStructure::Standard { pair: _ } = s else {
@@ -120,7 +120,7 @@ fn is_ittsu(ms: [meld::Meld; 4]) -> bool
 
 // Ittsu: 123, 456 and 789 of one suit.
 pub fn check_ittsu(h: structure::Hand) -> bool
-    ensures { result ≡ ofStandard (λ p ms. ittsu ms) (reading_of h) }
+    ensures { result ≡ of_standard (λ p ms. ittsu ms) (reading_of h) }
 {
     let s = h.structure;
     let structure::HandStructure::Standard { pair: _ } = s else {

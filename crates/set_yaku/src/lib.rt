@@ -1,12 +1,12 @@
 // Yaku of triplets and kans (yaku.rs of agari). Each check takes its case apart and otherwise answers no at that line.
 ghost use Rattle.std.specs.Prelude.{◌≡◌, not, ◌&&◌, ◌%◌, ◌≤◌, eqb, leb};
 ghost use Rattle.lists.specs.Fold.{all, any, count};
-ghost use Rattle.meld.specs.Meld.{isTripletOrKan};
+ghost use Rattle.meld.specs.Meld.{is_triplet_or_kan};
 ghost use Rattle.structure.specs.Structure.{reading_of};
 ghost use Rattle.wait.specs.Concealed.{concealed};
-ghost use Rattle.meld_yaku.specs.Melds.{setOf, threeSuits};
-ghost use Rattle.meld_yaku.specs.Standard.{ofStandard};
-ghost use Rattle.set_yaku.specs.Sets.{toitoi, kans, sanAnkou, sanshokuDoukou, suuankou};
+ghost use Rattle.meld_yaku.specs.Melds.{set_of, three_suits};
+ghost use Rattle.meld_yaku.specs.Standard.{of_standard};
+ghost use Rattle.set_yaku.specs.Sets.{toitoi, kans, san_ankou, sanshoku_doukou, suuankou};
 
 use meld_yaku::has_set;
 use wait::how_many;
@@ -37,7 +37,7 @@ fn count_concealed(ms: [meld::Meld; 4], w: context::GameContext, kept: bool) -> 
 
 // How many triplets and kans there are.
 fn count_triplets(ms: [meld::Meld; 4]) -> u8
-    ensures { (result ≡ count isTripletOrKan ms) × (result ≤ 4) }
+    ensures { (result ≡ count is_triplet_or_kan ms) × (result ≤ 4) }
 {
     how_many(
         ms[0].is_triplet_or_kan(),
@@ -49,7 +49,7 @@ fn count_triplets(ms: [meld::Meld; 4]) -> u8
 
 // Are there three triplets or kans or more? Most hands have fewer, and many yaku need them.
 pub fn has_three_sets(h: structure::Hand) -> bool
-    ensures { result ≡ ofStandard (λ p ms. leb 3 (count isTripletOrKan ms)) (reading_of h) }
+    ensures { result ≡ of_standard (λ p ms. leb 3 (count is_triplet_or_kan ms)) (reading_of h) }
 {
     let s = h.structure;
     let structure::HandStructure::Standard { pair: _ } = s else {
@@ -69,7 +69,7 @@ fn is_toitoi(ms: [meld::Meld; 4]) -> bool
 
 // Toitoi: triplets and kans only.
 pub fn check_toitoi(h: structure::Hand) -> bool
-    ensures { result ≡ ofStandard (λ p ms. toitoi ms) (reading_of h) }
+    ensures { result ≡ of_standard (λ p ms. toitoi ms) (reading_of h) }
 {
     let s = h.structure;
     let structure::HandStructure::Standard { pair: _ } = s else {
@@ -81,7 +81,7 @@ pub fn check_toitoi(h: structure::Hand) -> bool
 
 // Is there a triplet or kan of the tile's number in each suit?
 fn sets_of_number(ms: [meld::Meld; 4], t: u8) -> bool
-    ensures { result ≡ all (λ u. any (setOf (eqb u)) ms) (threeSuits (t % 9)) }
+    ensures { result ≡ all (λ u. any (set_of (eqb u)) ms) (three_suits (t % 9)) }
 {
     let n = t % 9;
     has_set(ms, n) & (has_set(ms, n + 9) & has_set(ms, n + 18))
@@ -89,7 +89,7 @@ fn sets_of_number(ms: [meld::Meld; 4], t: u8) -> bool
 
 // Is there the same triplet in all three suits? That takes three of the four melds, so one of the first two is among them.
 fn is_sanshoku_doukou(ms: [meld::Meld; 4]) -> bool
-    ensures { result ≡ sanshokuDoukou ms }
+    ensures { result ≡ sanshoku_doukou ms }
 {
     let a = ms[0];
     let b = ms[1];
@@ -98,7 +98,7 @@ fn is_sanshoku_doukou(ms: [meld::Meld; 4]) -> bool
 
 // Sanshoku doukou: the same triplet in all three suits.
 pub fn check_sanshoku_doukou(h: structure::Hand) -> bool
-    ensures { result ≡ ofStandard (λ p ms. sanshokuDoukou ms) (reading_of h) }
+    ensures { result ≡ of_standard (λ p ms. sanshoku_doukou ms) (reading_of h) }
 {
     let s = h.structure;
     let structure::HandStructure::Standard { pair: _ } = s else {
@@ -110,7 +110,7 @@ pub fn check_sanshoku_doukou(h: structure::Hand) -> bool
 
 // San ankou: three concealed triplets or kans.
 pub fn check_sanankou(h: structure::Hand, w: context::GameContext) -> bool
-    ensures { result ≡ ofStandard (λ p ms. sanAnkou w ms) (reading_of h) }
+    ensures { result ≡ of_standard (λ p ms. san_ankou w ms) (reading_of h) }
 {
     let s = h.structure;
     let structure::HandStructure::Standard { pair: _ } = s else {
@@ -122,7 +122,7 @@ pub fn check_sanankou(h: structure::Hand, w: context::GameContext) -> bool
 
 // San kantsu and suu kantsu: so many kans.
 pub fn check_kantsu(h: structure::Hand, n: u8) -> bool
-    ensures { result ≡ ofStandard (λ p ms. eqb (kans ms) n) (reading_of h) }
+    ensures { result ≡ of_standard (λ p ms. eqb (kans ms) n) (reading_of h) }
 {
     let s = h.structure;
     let structure::HandStructure::Standard { pair: _ } = s else {
@@ -144,10 +144,10 @@ pub struct SetYaku {
 // Toitoi, Sanshoku doukou, San ankou and San kantsu: all no at once where there are fewer than three triplets and kans.
 pub fn check_sets(h: structure::Hand, w: context::GameContext) -> SetYaku
     ensures { result ≡ record {
-      toitoi = ofStandard (λ p ms. toitoi ms) (reading_of h);
-      sanshoku_doukou = ofStandard (λ p ms. sanshokuDoukou ms) (reading_of h);
-      sanankou = ofStandard (λ p ms. sanAnkou w ms) (reading_of h);
-      sankantsu = ofStandard (λ p ms. eqb (kans ms) 3) (reading_of h);
+      toitoi = of_standard (λ p ms. toitoi ms) (reading_of h);
+      sanshoku_doukou = of_standard (λ p ms. sanshoku_doukou ms) (reading_of h);
+      sanankou = of_standard (λ p ms. san_ankou w ms) (reading_of h);
+      sankantsu = of_standard (λ p ms. eqb (kans ms) 3) (reading_of h);
     } }
 {
     if !has_three_sets(h) {
@@ -168,7 +168,7 @@ pub fn check_sets(h: structure::Hand, w: context::GameContext) -> SetYaku
 
 // Suuankou: four concealed triplets or kans, won on another tile than the pair's.
 pub fn check_suuankou(h: structure::Hand, w: context::GameContext) -> bool
-    ensures { result ≡ ofStandard (λ p ms. suuankou w ms && not (eqb w.winning_tile p)) (reading_of h) }
+    ensures { result ≡ of_standard (λ p ms. suuankou w ms && not (eqb w.winning_tile p)) (reading_of h) }
 {
     let s = h.structure;
     let structure::HandStructure::Standard { pair } = s else {
@@ -180,7 +180,7 @@ pub fn check_suuankou(h: structure::Hand, w: context::GameContext) -> bool
 
 // Suuankou tanki: four concealed triplets or kans, won on the pair's tile.
 pub fn check_suuankou_tanki(h: structure::Hand, w: context::GameContext) -> bool
-    ensures { result ≡ ofStandard (λ p ms. suuankou w ms && eqb w.winning_tile p) (reading_of h) }
+    ensures { result ≡ of_standard (λ p ms. suuankou w ms && eqb w.winning_tile p) (reading_of h) }
 {
     let s = h.structure;
     let structure::HandStructure::Standard { pair } = s else {

@@ -9,15 +9,15 @@ use Rattle.scoring.specs.declared.Payment.TheVariants.{Ron, DealerTsumo, Tsumo}
 use Rattle.seat_book.specs.declared.SeatBook.{SeatBook}
 use Rattle.seat_book.specs.declared.Deal.{Deal}
 use Rattle.seat_book.specs.declared.Settlement.{Settlement}
-use Rattle.seat_book.specs.Book.{newBook, settled}
+use Rattle.seat_book.specs.Book.{new_book, settled}
 use Rattle.settlements.specs.declared.Winner.{Winner}
-use Rattle.settlements.specs.Settlements.{winSettlement, drawSettlement}
+use Rattle.settlements.specs.Settlements.{win_settlement, draw_settlement}
 
 -- how a deal ends: in a draw, by ron of the first seat from the second, by tsumo of a seat
 pub data Ending : Type 0 where
   draw : Ending
   ron : ℕ → ℕ → ℕ → Ending
-  dealerTsumo : ℕ → ℕ → Ending
+  dealer_tsumo : ℕ → ℕ → Ending
   tsumo : ℕ → ℕ → ℕ → Ending
 
 -- a book with these points, sticks, deals and counter
@@ -34,23 +34,23 @@ pub record Example : Type 0 where
 abbrev dealt : ℕ → List Bool → Deal
 dealt dealer declared = record { dealer = dealer; declared = declared }
 
-abbrev nobodyDeclares : List Bool
-nobodyDeclares = false ∷ false ∷ false ∷ false ∷ []
+abbrev nobody_declares : List Bool
+nobody_declares = false ∷ false ∷ false ∷ false ∷ []
 
-abbrev settlementOf : ℕ → Deal → Ending → Settlement
-settlementOf counter d draw = drawSettlement
-settlementOf counter d (ron s from n) = winSettlement (Ron n) counter (record { seat = s; has_discarder = true; discarder = from }) d
-settlementOf counter d (dealerTsumo s n) = winSettlement (DealerTsumo n) counter (record { seat = s; has_discarder = false; discarder = 0 }) d
-settlementOf counter d (tsumo s m n) = winSettlement (Tsumo m n) counter (record { seat = s; has_discarder = false; discarder = 0 }) d
+abbrev settlement_of : ℕ → Deal → Ending → Settlement
+settlement_of counter d draw = draw_settlement
+settlement_of counter d (ron s from n) = win_settlement (Ron n) counter (record { seat = s; has_discarder = true; discarder = from }) d
+settlement_of counter d (dealer_tsumo s n) = win_settlement (DealerTsumo n) counter (record { seat = s; has_discarder = false; discarder = 0 }) d
+settlement_of counter d (tsumo s m n) = win_settlement (Tsumo m n) counter (record { seat = s; has_discarder = false; discarder = 0 }) d
 
-abbrev comesTo : Example → SeatBook
-comesTo e = settled e.before e.deal (settlementOf e.before.counter e.deal e.ending)
+abbrev comes_to : Example → SeatBook
+comes_to e = settled e.before e.deal (settlement_of e.before.counter e.deal e.ending)
 
 abbrev examples : List Example
 examples =
     -- seat 2 declares, and the deal is drawn: the stick stays, the counter rises
     record {
-      before = newBook;
+      before = new_book;
       deal = dealt 0 (false ∷ false ∷ true ∷ false ∷ []);
       ending = draw;
       after = book (pos 25000 ∷ pos 25000 ∷ pos 24000 ∷ pos 25000 ∷ []) 1 1 1;
@@ -65,14 +65,14 @@ examples =
     -- the dealer, seat 1, wins 1,500 by ron from seat 3: the counter rises
     ∷ record {
       before = book (pos 24200 ∷ pos 27800 ∷ pos 23500 ∷ pos 24500 ∷ []) 0 2 0;
-      deal = dealt 1 nobodyDeclares;
+      deal = dealt 1 nobody_declares;
       ending = ron 1 3 1500;
       after = book (pos 24200 ∷ pos 29300 ∷ pos 23500 ∷ pos 23000 ∷ []) 0 3 1;
     }
     -- with the counter at 2 the discarder pays 600 more, and falls below zero
     ∷ record {
       before = book (pos 31000 ∷ pos 29000 ∷ pos 38000 ∷ pos 2000 ∷ []) 0 9 2;
-      deal = dealt 2 nobodyDeclares;
+      deal = dealt 2 nobody_declares;
       ending = ron 0 3 8000;
       after = book (pos 39600 ∷ pos 29000 ∷ pos 38000 ∷ negsuc 6599 ∷ []) 0 10 0;
     }
@@ -80,12 +80,12 @@ examples =
     ∷ record {
       before = book (pos 30000 ∷ pos 20000 ∷ pos 24000 ∷ pos 24000 ∷ []) 2 5 1;
       deal = dealt 3 (true ∷ false ∷ false ∷ true ∷ []);
-      ending = dealerTsumo 3 4000;
+      ending = dealer_tsumo 3 4000;
       after = book (pos 24900 ∷ pos 15900 ∷ pos 19900 ∷ pos 39300 ∷ []) 0 6 2;
     }
     ∷ []
 
 -- each comes to what is told of it
-pub deals-as-told : map comesTo examples ≡ map (λ e. e.after) examples
-unfolding settled winSettlement drawSettlement
-deals-as-told = refl
+pub deals_as_told : map comes_to examples ≡ map (λ e. e.after) examples
+unfolding settled win_settlement draw_settlement
+deals_as_told = refl

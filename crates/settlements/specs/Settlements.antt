@@ -4,33 +4,33 @@ use Rattle.scoring.specs.declared.Payment.{Payment}
 use Rattle.scoring.specs.declared.Payment.TheVariants.{Ron, DealerTsumo, Tsumo}
 use Rattle.seat_book.specs.declared.Deal.{Deal}
 use Rattle.seat_book.specs.declared.Settlement.{Settlement}
-use Rattle.seat_book.specs.Points.{fourOf}
+use Rattle.seat_book.specs.Points.{four_of}
 use Rattle.settlements.specs.declared.Winner.{Winner}
 
 -- by ron the discarder pays all, with 300 for each counter, and any other seat nothing
-abbrev pub ofDiscarder : ℕ → ℕ → Bool → ℕ
-ofDiscarder amount counter discards = cond discards (amount + 300 * counter) 0
+abbrev pub of_discarder : ℕ → ℕ → Bool → ℕ
+of_discarder amount counter discards = cond discards (amount + 300 * counter) 0
 
 -- by tsumo each payer adds 100 for each counter, and the winner pays nothing
-abbrev pub ofPayer : ℕ → ℕ → Bool → ℕ
-ofPayer amount counter wins = cond wins 0 (amount + 100 * counter)
+abbrev pub of_payer : ℕ → ℕ → Bool → ℕ
+of_payer amount counter wins = cond wins 0 (amount + 100 * counter)
 
 -- what the seat s owes the winner, the counter being the one before this deal
 abbrev pub owes : Payment → ℕ → Winner → Deal → ℕ → ℕ
-owes (Ron n) counter w d s = ofDiscarder n counter (eqb s w.discarder)
-owes (DealerTsumo n) counter w d s = ofPayer n counter (eqb s w.seat)
-owes (Tsumo dealer other) counter w d s = ofPayer (cond (eqb s d.dealer) dealer other) counter (eqb s w.seat)
+owes (Ron n) counter w d s = of_discarder n counter (eqb s w.discarder)
+owes (DealerTsumo n) counter w d s = of_payer n counter (eqb s w.seat)
+owes (Tsumo dealer other) counter w d s = of_payer (cond (eqb s d.dealer) dealer other) counter (eqb s w.seat)
 
 -- the winner gets what the four seats owe
 abbrev pub gain : Payment → ℕ → Winner → Deal → ℕ
-gain p counter w d = fourOf (owes p counter w d)
+gain p counter w d = four_of (owes p counter w d)
 
 abbrev pub given : Bool → ℕ → ℕ
 given wins n = cond wins n 0
 
 -- a win: the winner takes the sticks too, and the counter rises if the winner is the dealer
-unfoldable pub winSettlement : Payment → ℕ → Winner → Deal → Settlement
-winSettlement p counter w d =
+unfoldable pub win_settlement : Payment → ℕ → Winner → Deal → Settlement
+win_settlement p counter w d =
     record {
       gets =
           given (eqb 0 w.seat) (gain p counter w d) ∷ given (eqb 1 w.seat) (gain p counter w d) ∷ given (eqb 2 w.seat) (gain p counter w d)
@@ -45,5 +45,5 @@ abbrev pub nobody : ℕ
 nobody = 4
 
 -- a draw: nobody gets or pays, nobody takes the sticks, and the counter rises
-unfoldable pub drawSettlement : Settlement
-drawSettlement = record { gets = 0 ∷ 0 ∷ 0 ∷ 0 ∷ []; pays = 0 ∷ 0 ∷ 0 ∷ 0 ∷ []; taker = nobody; raises = true }
+unfoldable pub draw_settlement : Settlement
+draw_settlement = record { gets = 0 ∷ 0 ∷ 0 ∷ 0 ∷ []; pays = 0 ∷ 0 ∷ 0 ∷ 0 ∷ []; taker = nobody; raises = true }

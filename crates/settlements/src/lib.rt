@@ -1,7 +1,7 @@
 // How deals are settled: who pays whom what for a win and at a draw, who takes the sticks, and whether the counter rises.
 ghost use Rattle.std.specs.Prelude.{◌≡◌, ◌≤◌};
 ghost use Rattle.seat_book.specs.Book.{Small};
-ghost use Rattle.settlements.specs.Settlements.{ofDiscarder, ofPayer, owes, given, winSettlement, drawSettlement};
+ghost use Rattle.settlements.specs.Settlements.{of_discarder, of_payer, owes, given, win_settlement, draw_settlement};
 
 // For each repeat counter the discarder pays so much by ron.
 const COUNTER_BY_RON: u64 = 300;
@@ -23,7 +23,7 @@ pub struct Winner {
 
 // What a seat owes by ron: the discarder all of it, any other nothing.
 fn of_discarder(amount: u32, counter: u8, discards: bool) -> u64
-    ensures { (result ≡ ofDiscarder amount counter discards) × (result ≤ 5000000000) }
+    ensures { (result ≡ of_discarder amount counter discards) × (result ≤ 5000000000) }
 {
     if discards {
         (amount as u64) + COUNTER_BY_RON * (counter as u64)
@@ -34,7 +34,7 @@ fn of_discarder(amount: u32, counter: u8, discards: bool) -> u64
 
 // What a seat owes by tsumo: the winner nothing.
 fn of_payer(amount: u32, counter: u8, wins: bool) -> u64
-    ensures { (result ≡ ofPayer amount counter wins) × (result ≤ 5000000000) }
+    ensures { (result ≡ of_payer amount counter wins) × (result ≤ 5000000000) }
 {
     if wins {
         0
@@ -82,7 +82,7 @@ pub fn win_settlement(
     w: Winner,
     d: seat_book::Deal,
 ) -> seat_book::Settlement
-    ensures { (result ≡ winSettlement p counter w d) × Small result }
+    ensures { (result ≡ win_settlement p counter w d) × Small result }
 {
     let p0 = owes(p, counter, w, d, 0);
     let p1 = owes(p, counter, w, d, 1);
@@ -108,7 +108,7 @@ pub fn win_settlement(
 
 // How a draw is settled: nobody gets or pays, and the sticks stay.
 pub fn draw_settlement() -> seat_book::Settlement
-    ensures { (result ≡ drawSettlement) × Small result }
+    ensures { (result ≡ draw_settlement) × Small result }
 {
     seat_book::Settlement {
         gets: [0, 0, 0, 0],

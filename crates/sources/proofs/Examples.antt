@@ -8,18 +8,18 @@ use lib.ListN.{get_or}
 use Rattle.tile.specs.Named.{man, pin, sou, East, White, Red}
 use Rattle.rules.specs.Rules.{three}
 use Rattle.meld.specs.declared.Meld.{Meld}
-use Rattle.meld.specs.Meld.{fromSeat}
-use Rattle.meld.specs.Named.{chi, pon, closedKan, fromRight, fromLeft}
+use Rattle.meld.specs.Meld.{from_seat}
+use Rattle.meld.specs.Named.{chi, pon, closed_kan, from_right, from_left}
 use Rattle.hand.specs.Named.{hand}
 use Rattle.hand.specs.Reading.{standard}
-use Rattle.hand.specs.Records.{recordOf}
-use Rattle.hand.specs.Readings.{meldLists, standardsAt, sevenPairs, thirteenOrphans, readings}
+use Rattle.hand.specs.Records.{record_of}
+use Rattle.hand.specs.Readings.{meld_lists, standards_at, seven_pairs, thirteen_orphans, readings}
 use Rattle.checks.specs.declared.Calls.{Calls}
-use Rattle.checks.specs.Checks.{check, handCheck, handCheckIn}
+use Rattle.checks.specs.Checks.{check, hand_check, hand_check_in}
 use Rattle.lent.specs.Lent.{calls_of}
-use Rattle.unit.specs.Listing.{handReadings, handRecords}
-use Rattle.sources.specs.Sources.{AlikeIn, Alike, butSources}
-use Rattle.sources.proofs.Lent.{sources-lent-in, sources-lent}
+use Rattle.unit.specs.Listing.{hand_readings, hand_records}
+use Rattle.sources.specs.Sources.{AlikeIn, Alike, but_sources}
+use Rattle.sources.proofs.Lent.{sources_lent_in, sources_lent}
 
 -- a pair of East in the hand; pon of White, from one of the others, chi of 123 man, 456 pin and 789 sou
 abbrev counts : List ℕ
@@ -29,77 +29,77 @@ abbrev calling : (Meld → Meld) → List Meld
 calling from = from (pon White) ∷ chi (man 1) ∷ chi (pin 4) ∷ chi (sou 7) ∷ []
 
 abbrev right : Calls
-right = calls_of (calling fromRight)
+right = calls_of (calling from_right)
 
 abbrev left : Calls
-left = calls_of (calling fromLeft)
+left = calls_of (calling from_left)
 
 -- both pass the checks
-right-passes : handCheck counts right ≡ 0
-unfolding handCheckIn check
-right-passes = refl
+right_passes : hand_check counts right ≡ 0
+unfolding hand_check_in check
+right_passes = refl
 
-left-passes : handCheck counts left ≡ 0
-unfolding handCheckIn check
-left-passes = refl
+left_passes : hand_check counts left ≡ 0
+unfolding hand_check_in check
+left_passes = refl
 
 -- the same with a chi from the right does not: a sequence is called from the left alone, so the theorem asks check 3 of both
-chi-from-right : handCheck counts (calls_of (pon White ∷ fromRight (chi (man 1)) ∷ chi (pin 4) ∷ chi (sou 7) ∷ [])) ≡ 3
-unfolding handCheckIn check
-chi-from-right = refl
+chi_from_right : hand_check counts (calls_of (pon White ∷ from_right (chi (man 1)) ∷ chi (pin 4) ∷ chi (sou 7) ∷ [])) ≡ 3
+unfolding hand_check_in check
+chi_from_right = refl
 
 -- the operations answer alike
-pub right-and-left : Alike counts right left
-right-and-left = sources-lent counts (calling fromRight) (calling fromLeft) refl tt tt
+pub right_and_left : Alike counts right left
+right_and_left = sources_lent counts (calling from_right) (calling from_left) refl tt tt
 
 -- what is listed of each: one reading, whose record ends with the source of the pon
-right-bytes : handRecords counts right ≡ 17 ∷ 0 ∷ 3 ∷ 0 ∷ 27 ∷ 0 ∷ 1 ∷ 3 ∷ 12 ∷ 1 ∷ 3 ∷ 24 ∷ 1 ∷ 3 ∷ 31 ∷ 3 ∷ 1 ∷ []
-unfolding handRecords handReadings readings standardsAt meldLists sevenPairs thirteenOrphans recordOf
-right-bytes = refl
+right_bytes : hand_records counts right ≡ 17 ∷ 0 ∷ 3 ∷ 0 ∷ 27 ∷ 0 ∷ 1 ∷ 3 ∷ 12 ∷ 1 ∷ 3 ∷ 24 ∷ 1 ∷ 3 ∷ 31 ∷ 3 ∷ 1 ∷ []
+unfolding hand_records hand_readings readings standards_at meld_lists seven_pairs thirteen_orphans record_of
+right_bytes = refl
 
-left-bytes : handRecords counts left ≡ 17 ∷ 0 ∷ 3 ∷ 0 ∷ 27 ∷ 0 ∷ 1 ∷ 3 ∷ 12 ∷ 1 ∷ 3 ∷ 24 ∷ 1 ∷ 3 ∷ 31 ∷ 3 ∷ 3 ∷ []
-unfolding handRecords handReadings readings standardsAt meldLists sevenPairs thirteenOrphans recordOf
-left-bytes = refl
+left_bytes : hand_records counts left ≡ 17 ∷ 0 ∷ 3 ∷ 0 ∷ 27 ∷ 0 ∷ 1 ∷ 3 ∷ 12 ∷ 1 ∷ 3 ∷ 24 ∷ 1 ∷ 3 ∷ 31 ∷ 3 ∷ 3 ∷ []
+unfolding hand_records hand_readings readings standards_at meld_lists seven_pairs thirteen_orphans record_of
+left_bytes = refl
 
 -- so they are not the same bytes
-pub bytes-differ : handRecords counts right ≡ handRecords counts left → ⊥
-bytes-differ e =
-    let a : get_or (handRecords counts right) 16 0 ≡ 1 = ap (λ (l : List ℕ). get_or l 16 0) right-bytes in
-    let b : get_or (handRecords counts left) 16 0 ≡ 3 = ap (λ (l : List ℕ). get_or l 16 0) left-bytes in
-    let c : get_or (handRecords counts right) 16 0 ≡ get_or (handRecords counts left) 16 0 = ap (λ (l : List ℕ). get_or l 16 0) e in
+pub bytes_differ : hand_records counts right ≡ hand_records counts left → ⊥
+bytes_differ e =
+    let a : get_or (hand_records counts right) 16 0 ≡ 1 = ap (λ (l : List ℕ). get_or l 16 0) right_bytes in
+    let b : get_or (hand_records counts left) 16 0 ≡ 3 = ap (λ (l : List ℕ). get_or l 16 0) left_bytes in
+    let c : get_or (hand_records counts right) 16 0 ≡ get_or (hand_records counts left) 16 0 = ap (λ (l : List ℕ). get_or l 16 0) e in
     omega arith
 
 -- but for sources they are one reading
-right-reading : map butSources (handReadings counts right) ≡ standard East (chi (man 1) ∷ chi (pin 4) ∷ chi (sou 7) ∷ pon White ∷ []) ∷ []
-unfolding handReadings readings standardsAt meldLists sevenPairs thirteenOrphans
-right-reading = refl
+right_reading : map but_sources (hand_readings counts right) ≡ standard East (chi (man 1) ∷ chi (pin 4) ∷ chi (sou 7) ∷ pon White ∷ []) ∷ []
+unfolding hand_readings readings standards_at meld_lists seven_pairs thirteen_orphans
+right_reading = refl
 
-left-reading : map butSources (handReadings counts left) ≡ standard East (chi (man 1) ∷ chi (pin 4) ∷ chi (sou 7) ∷ pon White ∷ []) ∷ []
-unfolding handReadings readings standardsAt meldLists sevenPairs thirteenOrphans
-left-reading = refl
+left_reading : map but_sources (hand_readings counts left) ≡ standard East (chi (man 1) ∷ chi (pin 4) ∷ chi (sou 7) ∷ pon White ∷ []) ∷ []
+unfolding hand_readings readings standards_at meld_lists seven_pairs thirteen_orphans
+left_reading = refl
 
 -- ---- three players: pon of Red from so many seats onward, pon of man 1 and pin 4 from the next player, and a closed kan
-abbrev calledFrom : ℕ → List Meld
-calledFrom seats = fromSeat seats (pon Red) ∷ fromRight (pon (man 1)) ∷ fromRight (pon (pin 4)) ∷ closedKan (sou 7) ∷ []
+abbrev called_from : ℕ → List Meld
+called_from seats = from_seat seats (pon Red) ∷ from_right (pon (man 1)) ∷ from_right (pon (pin 4)) ∷ closed_kan (sou 7) ∷ []
 
 -- from either of the two others it passes the checks
-first-other-passes : handCheckIn three counts (calls_of (calledFrom 1)) ≡ 0
-unfolding handCheckIn check
-first-other-passes = refl
+first_other_passes : hand_check_in three counts (calls_of (called_from 1)) ≡ 0
+unfolding hand_check_in check
+first_other_passes = refl
 
-second-other-passes : handCheckIn three counts (calls_of (calledFrom 2)) ≡ 0
-unfolding handCheckIn check
-second-other-passes = refl
+second_other_passes : hand_check_in three counts (calls_of (called_from 2)) ≡ 0
+unfolding hand_check_in check
+second_other_passes = refl
 
 -- and is answered alike
-pub either-other : AlikeIn three counts (calls_of (calledFrom 1)) (calls_of (calledFrom 2))
-either-other = sources-lent-in three counts (calledFrom 1) (calledFrom 2) refl tt tt
+pub either_other : AlikeIn three counts (calls_of (called_from 1)) (calls_of (called_from 2))
+either_other = sources_lent_in three counts (called_from 1) (called_from 2) refl tt tt
 
 -- there is no third, though with four players there is
-pub no-third-other : handCheckIn three counts (calls_of (calledFrom 3)) ≡ 3
-unfolding handCheckIn check
-no-third-other = refl
+pub no_third_other : hand_check_in three counts (calls_of (called_from 3)) ≡ 3
+unfolding hand_check_in check
+no_third_other = refl
 
-third-other-of-four : handCheck counts (calls_of (calledFrom 3)) ≡ 0
-unfolding handCheckIn check
-third-other-of-four = refl
+third_other_of_four : hand_check counts (calls_of (called_from 3)) ≡ 0
+unfolding hand_check_in check
+third_other_of_four = refl

@@ -6,166 +6,166 @@ use Prim.Native.Nat.{ℕ, ◌*◌}
 use lib.Dec.{eqb}
 use lib.ListN.{replicate}
 use Rattle.lists.specs.Fold.{all, any, count, one, sum}
-use Rattle.tile.specs.Tile.{isDragon, isTerminal, isTerminalOrHonor, isWind}
+use Rattle.tile.specs.Tile.{is_dragon, is_terminal, is_terminal_or_honor, is_wind}
 use Rattle.meld.specs.declared.Meld.{Meld}
-use Rattle.meld.specs.Meld.{isKan, isSequence, isTripletOrKan, butSource}
-use Rattle.meld.proofs.Sources.{all_but, any-but, count-but}
+use Rattle.meld.specs.Meld.{is_kan, is_sequence, is_triplet_or_kan, but_source}
+use Rattle.meld.proofs.Sources.{all_but, any_but, count_but}
 use Rattle.context.specs.declared.GameContext.{GameContext}
 use Rattle.hand.specs.Reading.{Reading, pairs, orphans, standard}
 use Rattle.wait.specs.Wait.{weight}
 use Rattle.wait.specs.Concealed.{concealed, spared}
 use Rattle.tile_yaku.specs.declared.TileYaku.{TileYaku}
-use Rattle.meld_yaku.specs.Melds.{run_from, setOf, anyLine}
-use Rattle.set_yaku.specs.Sets.{toitoi, kans, sanAnkou, setLines, sanshokuDoukou, suuankou, suuKantsu}
+use Rattle.meld_yaku.specs.Melds.{run_from, set_of, any_line}
+use Rattle.set_yaku.specs.Sets.{toitoi, kans, san_ankou, set_lines, sanshoku_doukou, suuankou, suu_kantsu}
 use Rattle.honor_yaku.specs.Honors.{yakuhai, dragons, winds, shousangen, daisangen, shousuushii, daisuushii}
-use Rattle.sequence_yaku.specs.Sequences.{straights, ittsu, runLines, sanshokuDoujun, starts, pairsAmong, peikou}
-use Rattle.end_yaku.specs.Ends.{endRun, chanta, junchan}
-use Rattle.yaku.specs.Tally.{oneHan, moreHan, yakuman, isYakuman, ordinary, tallies}
-use Rattle.yaku.specs.Han.{hanOf, dot, han}
-use Rattle.sources.specs.Sources.{butSources}
-use Rattle.sources.proofs.Waits.{spared-but, count-concealed, pinfu-but}
+use Rattle.sequence_yaku.specs.Sequences.{straights, ittsu, run_lines, sanshoku_doujun, starts, pairs_among, peikou}
+use Rattle.end_yaku.specs.Ends.{end_run, chanta, junchan}
+use Rattle.yaku.specs.Tally.{one_han, more_han, yakuman, is_yakuman, ordinary, tallies}
+use Rattle.yaku.specs.Han.{han_of, dot, han}
+use Rattle.sources.specs.Sources.{but_sources}
+use Rattle.sources.proofs.Waits.{spared_but, count_concealed, pinfu_but}
 
 -- lines of melds that pass a question which does not ask for the source
-lines-but :
-    (q : ℕ → Meld → Bool) → ((t : ℕ) (m : Meld) → q t (butSource m) ≡ q t m) → (ms : List Meld) (ls : List (List ℕ))
-    → anyLine q (map butSource ms) ls ≡ anyLine q ms ls
-lines-but q blind ms ls = λ i. any (λ line. all (λ t. any-but (q t) (blind t) ms i) line) ls
+lines_but :
+    (q : ℕ → Meld → Bool) → ((t : ℕ) (m : Meld) → q t (but_source m) ≡ q t m) → (ms : List Meld) (ls : List (List ℕ))
+    → any_line q (map but_source ms) ls ≡ any_line q ms ls
+lines_but q blind ms ls = λ i. any (λ line. all (λ t. any_but (q t) (blind t) ms i) line) ls
 
 module _ (ms : List Meld) where
   -- ---- triplets and kans
-  toitoi-but : toitoi (map butSource ms) ≡ toitoi ms
+  toitoi_but : toitoi (map but_source ms) ≡ toitoi ms
   unfolding toitoi
-  toitoi-but = all_but isTripletOrKan (λ m. refl) ms
+  toitoi_but = all_but is_triplet_or_kan (λ m. refl) ms
 
-  kans-but : kans (map butSource ms) ≡ kans ms
+  kans_but : kans (map but_source ms) ≡ kans ms
   unfolding kans
-  kans-but = count-but isKan (λ m. refl) ms
+  kans_but = count_but is_kan (λ m. refl) ms
 
-  suuKantsu-but : suuKantsu (map butSource ms) ≡ suuKantsu ms
-  unfolding suuKantsu
-  suuKantsu-but = ap (λ (n : ℕ). eqb n 4) kans-but
+  suu_kantsu_but_holds : suu_kantsu (map but_source ms) ≡ suu_kantsu ms
+  unfolding suu_kantsu
+  suu_kantsu_but_holds = ap (λ (n : ℕ). eqb n 4) kans_but
 
-  sanshokuDoukou-but : sanshokuDoukou (map butSource ms) ≡ sanshokuDoukou ms
-  unfolding sanshokuDoukou
-  sanshokuDoukou-but = lines-but (λ t. setOf (eqb t)) (λ t m. refl) ms setLines
+  sanshoku_doukou_but_holds : sanshoku_doukou (map but_source ms) ≡ sanshoku_doukou ms
+  unfolding sanshoku_doukou
+  sanshoku_doukou_but_holds = lines_but (λ t. set_of (eqb t)) (λ t m. refl) ms set_lines
 
   module _ (w : GameContext) where
-    sanAnkou-but : sanAnkou w (map butSource ms) ≡ sanAnkou w ms
-    unfolding sanAnkou
-    sanAnkou-but =
+    san_ankou_but_holds : san_ankou w (map but_source ms) ≡ san_ankou w ms
+    unfolding san_ankou
+    san_ankou_but_holds =
         ap (λ (n : ℕ). eqb n 3)
-        (ap (λ (kept : Bool). count (concealed w kept) (map butSource ms)) (spared-but w ms) ∙ count-concealed w (spared w ms) ms)
+        (ap (λ (kept : Bool). count (concealed w kept) (map but_source ms)) (spared_but w ms) ∙ count_concealed w (spared w ms) ms)
 
-    suuankou-but : suuankou w (map butSource ms) ≡ suuankou w ms
+    suuankou_but : suuankou w (map but_source ms) ≡ suuankou w ms
     unfolding suuankou
-    suuankou-but = ap (λ (n : ℕ). eqb n 4) (count-concealed w false ms)
+    suuankou_but = ap (λ (n : ℕ). eqb n 4) (count_concealed w false ms)
 
   -- ---- winds and dragons
-  yakuhai-but : (w : GameContext) (t : ℕ) → yakuhai w (map butSource ms) t ≡ yakuhai w ms t
+  yakuhai_but : (w : GameContext) (t : ℕ) → yakuhai w (map but_source ms) t ≡ yakuhai w ms t
   unfolding yakuhai
-  yakuhai-but w t = ap (λ (n : ℕ). n * weight w t) (count-but (setOf (eqb t)) (λ m. refl) ms)
+  yakuhai_but w t = ap (λ (n : ℕ). n * weight w t) (count_but (set_of (eqb t)) (λ m. refl) ms)
 
-  dragons-but : dragons (map butSource ms) ≡ dragons ms
+  dragons_but : dragons (map but_source ms) ≡ dragons ms
   unfolding dragons
-  dragons-but = count-but (setOf isDragon) (λ m. refl) ms
+  dragons_but = count_but (set_of is_dragon) (λ m. refl) ms
 
-  winds-but : winds (map butSource ms) ≡ winds ms
+  winds_but : winds (map but_source ms) ≡ winds ms
   unfolding winds
-  winds-but = count-but (setOf isWind) (λ m. refl) ms
+  winds_but = count_but (set_of is_wind) (λ m. refl) ms
 
-  shousangen-but : (p : ℕ) → shousangen p (map butSource ms) ≡ shousangen p ms
+  shousangen_but : (p : ℕ) → shousangen p (map but_source ms) ≡ shousangen p ms
   unfolding shousangen
-  shousangen-but p = ap (λ (n : ℕ). isDragon p && eqb n 2) dragons-but
+  shousangen_but p = ap (λ (n : ℕ). is_dragon p && eqb n 2) dragons_but
 
-  daisangen-but : daisangen (map butSource ms) ≡ daisangen ms
+  daisangen_but : daisangen (map but_source ms) ≡ daisangen ms
   unfolding daisangen
-  daisangen-but = ap (λ (n : ℕ). eqb n 3) dragons-but
+  daisangen_but = ap (λ (n : ℕ). eqb n 3) dragons_but
 
-  shousuushii-but : (p : ℕ) → shousuushii p (map butSource ms) ≡ shousuushii p ms
+  shousuushii_but : (p : ℕ) → shousuushii p (map but_source ms) ≡ shousuushii p ms
   unfolding shousuushii
-  shousuushii-but p =
-      let third = any-but (setOf (eqb p)) (λ m. refl) ms in
-      λ i. eqb (winds-but i) 3 && (isWind p && not (third i))
+  shousuushii_but p =
+      let third = any_but (set_of (eqb p)) (λ m. refl) ms in
+      λ i. eqb (winds_but i) 3 && (is_wind p && not (third i))
 
-  daisuushii-but : daisuushii (map butSource ms) ≡ daisuushii ms
+  daisuushii_but : daisuushii (map but_source ms) ≡ daisuushii ms
   unfolding daisuushii
-  daisuushii-but = ap (λ (n : ℕ). eqb n 4) winds-but
+  daisuushii_but = ap (λ (n : ℕ). eqb n 4) winds_but
 
   -- ---- sequences
-  ittsu-but : ittsu (map butSource ms) ≡ ittsu ms
+  ittsu_but : ittsu (map but_source ms) ≡ ittsu ms
   unfolding ittsu
-  ittsu-but = lines-but run_from (λ t m. refl) ms straights
+  ittsu_but = lines_but run_from (λ t m. refl) ms straights
 
-  sanshokuDoujun-but : sanshokuDoujun (map butSource ms) ≡ sanshokuDoujun ms
-  unfolding sanshokuDoujun
-  sanshokuDoujun-but = lines-but run_from (λ t m. refl) ms runLines
+  sanshoku_doujun_but_holds : sanshoku_doujun (map but_source ms) ≡ sanshoku_doujun ms
+  unfolding sanshoku_doujun
+  sanshoku_doujun_but_holds = lines_but run_from (λ t m. refl) ms run_lines
 
-  peikou-but : peikou (map butSource ms) ≡ peikou ms
+  peikou_but : peikou (map but_source ms) ≡ peikou ms
   unfolding peikou
-  peikou-but = λ i. sum (λ t. pairsAmong (count-but (run_from t) (λ m. refl) ms i)) starts
+  peikou_but = λ i. sum (λ t. pairs_among (count_but (run_from t) (λ m. refl) ms i)) starts
 
   -- ---- ends of suits, and honors, in each group
-  chanta-but : (p : ℕ) → chanta p (map butSource ms) ≡ chanta p ms
+  chanta_but : (p : ℕ) → chanta p (map but_source ms) ≡ chanta p ms
   unfolding chanta
-  chanta-but p =
-      let run = any-but isSequence (λ m. refl) ms in
-      let outer = all_but (λ m. endRun m || setOf isTerminalOrHonor m) (λ m. refl) ms in
-      λ i. isTerminalOrHonor p && (run i && outer i)
+  chanta_but p =
+      let run = any_but is_sequence (λ m. refl) ms in
+      let outer = all_but (λ m. end_run m || set_of is_terminal_or_honor m) (λ m. refl) ms in
+      λ i. is_terminal_or_honor p && (run i && outer i)
 
-  junchan-but : (p : ℕ) → junchan p (map butSource ms) ≡ junchan p ms
+  junchan_but : (p : ℕ) → junchan p (map but_source ms) ≡ junchan p ms
   unfolding junchan
-  junchan-but p =
-      let run = any-but isSequence (λ m. refl) ms in
-      let outer = all_but (λ m. endRun m || setOf isTerminal m) (λ m. refl) ms in
-      λ i. isTerminal p && (run i && outer i)
+  junchan_but p =
+      let run = any_but is_sequence (λ m. refl) ms in
+      let outer = all_but (λ m. end_run m || set_of is_terminal m) (λ m. refl) ms in
+      λ i. is_terminal p && (run i && outer i)
 
 -- ---- a reading
 module _ (w : GameContext) (opened : Bool) (s : TileYaku) where
-  yakuman-each : (r : Reading) → yakuman w opened s (butSources r) ≡ yakuman w opened s r
-  yakuman-each (pairs ps) = refl
-  yakuman-each (orphans p) = refl
-  yakuman-each (standard p ms) =
-      simp (suuankou-but ms w, daisangen-but ms, shousuushii-but ms p, daisuushii-but ms, suuKantsu-but ms)
+  yakuman_each : (r : Reading) → yakuman w opened s (but_sources r) ≡ yakuman w opened s r
+  yakuman_each (pairs ps) = refl
+  yakuman_each (orphans p) = refl
+  yakuman_each (standard p ms) =
+      simp (suuankou_but ms w, daisangen_but ms, shousuushii_but ms p, daisuushii_but ms, suu_kantsu_but_holds ms)
 
-  pub isYakuman-but : (r : Reading) → isYakuman w opened s (butSources r) ≡ isYakuman w opened s r
-  unfolding isYakuman
-  isYakuman-but r = ap (any (λ b. b)) (yakuman-each r)
+  pub is_yakuman_but_holds : (r : Reading) → is_yakuman w opened s (but_sources r) ≡ is_yakuman w opened s r
+  unfolding is_yakuman
+  is_yakuman_but_holds r = ap (any (λ b. b)) (yakuman_each r)
 
-  oneHan-but : (r : Reading) → oneHan w opened s (butSources r) ≡ oneHan w opened s r
-  unfolding oneHan
-  oneHan-but (pairs ps) = refl
-  oneHan-but (orphans p) = refl
-  oneHan-but (standard p ms) = simp (pinfu-but w opened (standard p ms), peikou-but ms, yakuhai-but ms w)
+  one_han_but_holds : (r : Reading) → one_han w opened s (but_sources r) ≡ one_han w opened s r
+  unfolding one_han
+  one_han_but_holds (pairs ps) = refl
+  one_han_but_holds (orphans p) = refl
+  one_han_but_holds (standard p ms) = simp (pinfu_but w opened (standard p ms), peikou_but ms, yakuhai_but ms w)
 
-  moreHan-but : (r : Reading) → moreHan w opened s (butSources r) ≡ moreHan w opened s r
-  unfolding moreHan
-  moreHan-but (pairs ps) = refl
-  moreHan-but (orphans p) = refl
-  moreHan-but (standard p ms) =
+  more_han_but_holds : (r : Reading) → more_han w opened s (but_sources r) ≡ more_han w opened s r
+  unfolding more_han
+  more_han_but_holds (pairs ps) = refl
+  more_han_but_holds (orphans p) = refl
+  more_han_but_holds (standard p ms) =
       simp (
-        toitoi-but ms,
-        sanshokuDoujun-but ms,
-        sanshokuDoukou-but ms,
-        ittsu-but ms,
-        chanta-but ms p,
-        sanAnkou-but ms w,
-        kans-but ms,
-        shousangen-but ms p,
-        junchan-but ms p,
-        peikou-but ms,
+        toitoi_but ms,
+        sanshoku_doujun_but_holds ms,
+        sanshoku_doukou_but_holds ms,
+        ittsu_but ms,
+        chanta_but ms p,
+        san_ankou_but_holds ms w,
+        kans_but ms,
+        shousangen_but ms p,
+        junchan_but ms p,
+        peikou_but ms,
       )
 
   -- all 47 tallies
-  pub tallies-but : (r : Reading) → tallies w opened s (butSources r) ≡ tallies w opened s r
+  pub tallies_but : (r : Reading) → tallies w opened s (but_sources r) ≡ tallies w opened s r
   unfolding tallies ordinary
-  tallies-but r =
-      let yaku = yakuman-each r in
-      let some = isYakuman-but r in
-      let less = oneHan-but r in
-      let more = moreHan-but r in
+  tallies_but r =
+      let yaku = yakuman_each r in
+      let some = is_yakuman_but_holds r in
+      let less = one_han_but_holds r in
+      let more = more_han_but_holds r in
       λ i. cond (some i) (replicate 32 0) (less i ++ more i) ++ map one (yaku i)
 
   -- and their han
-  pub han-but : (r : Reading) → han w opened s (butSources r) ≡ han w opened s r
+  pub han_but : (r : Reading) → han w opened s (but_sources r) ≡ han w opened s r
   unfolding han
-  han-but r = ap (dot (hanOf opened)) (tallies-but r)
+  han_but r = ap (dot (han_of opened)) (tallies_but r)

@@ -3,10 +3,10 @@
 use Rattle.std.specs.Prelude.{cond, ℕ, zero, suc, ◌+◌, ◌*◌, eqb}
 
 -- a bit for each of n tiles from a on, the lowest tile in the lowest bit: set where the tile is there
-unfoldable pub bitsFrom : (ℕ → ℕ) → ℕ → ℕ → ℕ
-bitsFrom c zero a = 0
-bitsFrom c (suc n) a = bitsFrom c n (suc a) * 2 + cond (eqb (c a) 0) 0 1
+unfoldable pub bits_from : (ℕ → ℕ) → ℕ → ℕ → ℕ
+bits_from c zero a = 0
+bits_from c (suc n) a = bits_from c n (suc a) * 2 + cond (eqb (c a) 0) 0 1
 
 -- the word of the 34 kinds
-unfoldable pub kindsWord : (ℕ → ℕ) → ℕ
-kindsWord c = bitsFrom c 34 0
+unfoldable pub kinds_word : (ℕ → ℕ) → ℕ
+kinds_word c = bits_from c 34 0

@@ -2,12 +2,12 @@
 ghost use Rattle.std.specs.Prelude.{◌≡◌, true, cond, ◌||◌, [], ◌∷◌, ◌+◌, ◌≤◌, ◌<◌, eqb, ltb, length};
 ghost use Rattle.std.proofs.lemmas.List.Edits.{sets};
 ghost use Rattle.lists.specs.Fold.{one, all};
-ghost use Rattle.tile.specs.Tile.{isTerminalOrHonor, tiles};
+ghost use Rattle.tile.specs.Tile.{is_terminal_or_honor, tiles};
 ghost use Rattle.hand.specs.Counts.{held};
 ghost use Rattle.hand.specs.Reading.{orphans};
-ghost use Rattle.hand.specs.Records.{recordOf, records};
-ghost use Rattle.hand.specs.Readings.{twos, isPairs, sevenPairs, isOrphans, thirteenOrphans};
-ghost use Rattle.special.specs.Kinds.{kindsWord};
+ghost use Rattle.hand.specs.Records.{record_of, records};
+ghost use Rattle.hand.specs.Readings.{twos, is_pairs, seven_pairs, is_orphans, thirteen_orphans};
+ghost use Rattle.special.specs.Kinds.{kinds_word};
 
 use lists::one_if;
 
@@ -21,7 +21,7 @@ fn bit_of(x: u8) -> u64
 // The kinds present as set bits of one word, the lowest tile in the lowest bit.
 pub fn kinds_present(counts: &[u8]) -> u64
     requires { length counts.now ≡ 34 }
-    ensures { result ≡ kindsWord (held counts.now) }
+    ensures { result ≡ kinds_word (held counts.now) }
 {
     let mut word: u64 = 0;
     let mut i = 34;
@@ -50,8 +50,8 @@ fn none_or_two(counts: &[u8]) -> bool
 
 // Are they seven pairs? `kinds` has the kinds present.
 pub fn is_chiitoitsu(counts: &[u8], kinds: u64) -> bool
-    requires { (length counts.now ≡ 34) × (kinds ≡ kindsWord (held counts.now)) }
-    ensures { result ≡ isPairs (held counts.now) }
+    requires { (length counts.now ≡ 34) × (kinds ≡ kinds_word (held counts.now)) }
+    ensures { result ≡ is_pairs (held counts.now) }
 {
     if u64::count_ones(kinds) != 7 {
         return false;
@@ -62,7 +62,7 @@ pub fn is_chiitoitsu(counts: &[u8], kinds: u64) -> bool
 // Is the tile a terminal or an honor?
 fn is_orphan(t: usize) -> bool
     requires { t < 34 }
-    ensures { result ≡ isTerminalOrHonor t }
+    ensures { result ≡ is_terminal_or_honor t }
 {
     let tile = tile::Tile((t % 256) as u8);
     tile.is_terminal_or_honor()
@@ -71,7 +71,7 @@ fn is_orphan(t: usize) -> bool
 // How many of the tile t there are in thirteen orphans with the tile p doubled.
 fn orphans_of(t: usize, p: usize) -> u8
     requires { t < 34 }
-    ensures { result ≡ one (isTerminalOrHonor t) + one (eqb t p) }
+    ensures { result ≡ one (is_terminal_or_honor t) + one (eqb t p) }
 {
     one_if(is_orphan(t)) + one_if(t == p)
 }
@@ -79,7 +79,7 @@ fn orphans_of(t: usize, p: usize) -> u8
 // Are they thirteen orphans with the tile p doubled?
 fn orphans_with(counts: &[u8], p: usize) -> bool
     requires { (length counts.now ≡ 34) × (p < 34) }
-    ensures { result ≡ isOrphans (held counts.now) p }
+    ensures { result ≡ is_orphans (held counts.now) p }
 {
     if !is_orphan(p) {
         return false;
@@ -96,8 +96,8 @@ fn orphans_with(counts: &[u8], p: usize) -> bool
 
 // The tile that is doubled in thirteen orphans, or 34 where they are none. `kinds` has the kinds present.
 pub fn check_kokushi(counts: &[u8], kinds: u64) -> usize
-    requires { (length counts.now ≡ 34) × (kinds ≡ kindsWord (held counts.now)) }
-    ensures { (thirteenOrphans (held counts.now) ≡ cond (ltb result 34) (orphans result ∷ []) []) × (result ≤ 34) }
+    requires { (length counts.now ≡ 34) × (kinds ≡ kinds_word (held counts.now)) }
+    ensures { (thirteen_orphans (held counts.now) ≡ cond (ltb result 34) (orphans result ∷ []) []) × (result ≤ 34) }
 {
     if u64::count_ones(kinds) != 13 {
         return 34;
@@ -142,8 +142,8 @@ fn write_twos(counts: &[u8], out: &mut [u8], at: usize) -> usize
 
 // Writes the record of seven pairs. Answers the place behind it.
 pub fn write_chiitoitsu(counts: &[u8], out: &mut [u8], at: usize) -> usize
-    requires { (length counts.now ≡ 34) × ((isPairs (held counts.now) ≡ true) × (at + 11 ≤ length out.old)) }
-    ensures { (result ≡ at + 11) × (out.new ≡ sets out.old at (records (sevenPairs (held counts.now)))) }
+    requires { (length counts.now ≡ 34) × ((is_pairs (held counts.now) ≡ true) × (at + 11 ≤ length out.old)) }
+    ensures { (result ≡ at + 11) × (out.new ≡ sets out.old at (records (seven_pairs (held counts.now)))) }
 {
     write_head(11, 1, out, at);
     write_twos(counts, out, at + 4)
@@ -152,7 +152,7 @@ pub fn write_chiitoitsu(counts: &[u8], out: &mut [u8], at: usize) -> usize
 // Writes the record of thirteen orphans with the tile p doubled. Answers the place behind it.
 pub fn write_kokushi(p: u8, out: &mut [u8], at: usize) -> usize
     requires { at + 5 ≤ length out.old }
-    ensures { (result ≡ at + 5) × (out.new ≡ sets out.old at (recordOf (orphans p))) }
+    ensures { (result ≡ at + 5) × (out.new ≡ sets out.old at (record_of (orphans p))) }
 {
     write_head(5, 2, out, at);
     out[at + 4] = p;

@@ -11,22 +11,22 @@ use Rattle.lists.proofs.Elements.{four}
 
 module _ {A : Type 0} where
   module _ (p : A → Bool) (l : List A) (d : A) (h : length l ≡ 4) where
-    pub all-four : (p (get_or l 0 d) && (p (get_or l 1 d) && (p (get_or l 2 d) && p (get_or l 3 d)))) ≡ all p l
-    all-four =
+    pub all_four : (p (get_or l 0 d) && (p (get_or l 1 d) && (p (get_or l 2 d) && p (get_or l 3 d)))) ≡ all p l
+    all_four =
         ap (λ (b : Bool). p (get_or l 0 d) && (p (get_or l 1 d) && (p (get_or l 2 d) && b))) (sym (and-true (p (get_or l 3 d))))
         ∙ ap (all p) (sym (four l d h))
 
-    pub any-four : (p (get_or l 0 d) || (p (get_or l 1 d) || (p (get_or l 2 d) || p (get_or l 3 d)))) ≡ any p l
-    any-four =
+    pub any_four : (p (get_or l 0 d) || (p (get_or l 1 d) || (p (get_or l 2 d) || p (get_or l 3 d)))) ≡ any p l
+    any_four =
         ap (λ (b : Bool). p (get_or l 0 d) || (p (get_or l 1 d) || (p (get_or l 2 d) || b))) (sym (or-false (p (get_or l 3 d))))
         ∙ ap (any p) (sym (four l d h))
 
   module _ (f : A → ℕ) (l : List A) (d : A) (h : length l ≡ 4) where
-    pub sum-four : f (get_or l 0 d) + (f (get_or l 1 d) + (f (get_or l 2 d) + f (get_or l 3 d))) ≡ sum f l
-    sum-four =
+    pub sum_four : f (get_or l 0 d) + (f (get_or l 1 d) + (f (get_or l 2 d) + f (get_or l 3 d))) ≡ sum f l
+    sum_four =
         ap (λ (n : ℕ). f (get_or l 0 d) + (f (get_or l 1 d) + (f (get_or l 2 d) + n))) (sym (add-zero (f (get_or l 3 d))))
         ∙ ap (sum f) (sym (four l d h))
 
   module _ (p : A → Bool) (l : List A) (d : A) (h : length l ≡ 4) where
-    pub count-four : one (p (get_or l 0 d)) + (one (p (get_or l 1 d)) + (one (p (get_or l 2 d)) + one (p (get_or l 3 d)))) ≡ count p l
-    count-four = sum-four (λ a. one (p a)) l d h
+    pub count_four : one (p (get_or l 0 d)) + (one (p (get_or l 1 d)) + (one (p (get_or l 2 d)) + one (p (get_or l 3 d)))) ≡ count p l
+    count_four = sum_four (λ a. one (p a)) l d h

@@ -17,8 +17,8 @@ module _ {A : Type 0} where
     abbrev at : ℕ → Bool
     at i = p (get_or l i d)
 
-    pub any-seven :
+    pub any_seven :
         (p (get_or l 0 d) || (p (get_or l 1 d) || (p (get_or l 2 d) || (p (get_or l 3 d) || (p (get_or l 4 d) || (p (get_or l 5 d) || p (get_or l 6 d)))))))
         ≡ any p l
-    any-seven =
+    any_seven =
         ap (λ (b : Bool). at 0 || (at 1 || (at 2 || (at 3 || (at 4 || (at 5 || b)))))) (sym (or-false (at 6))) ∙ ap (any p) (sym (seven l d h))

@@ -18,10 +18,10 @@ Short (orphans p) = Unit {0}
 Short (standard p ms) = length ms ≤ 4
 
 -- what the code's value stands for has four melds
-short-read : (s : HandStructure) (ms : List Meld) (ps : List ℕ) → length ms ≡ 4 → Short (read s ms ps)
-short-read (Standard p) ms ps h = omega arith
-short-read Chiitoitsu ms ps h = tt
-short-read (Kokushi p) ms ps h = tt
+short_read : (s : HandStructure) (ms : List Meld) (ps : List ℕ) → length ms ≡ 4 → Short (read s ms ps)
+short_read (Standard p) ms ps h = omega arith
+short_read Chiitoitsu ms ps h = tt
+short_read (Kokushi p) ms ps h = tt
 
-pub short-reading : (h : Hand) → length h.melds ≡ 4 → Short (reading_of h)
-short-reading h = short-read h.structure h.melds h.pairs
+pub short_reading : (h : Hand) → length h.melds ≡ 4 → Short (reading_of h)
+short_reading h = short_read h.structure h.melds h.pairs

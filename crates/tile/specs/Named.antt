@@ -50,5 +50,5 @@ abbrev pub sous : ℕ → List ℕ
 sous n = map sou (digits 14 n)
 
 -- one of each terminal and honor
-abbrev pub orphanTiles : List ℕ
-orphanTiles = mans 19 ++ pins 19 ++ sous 19 ++ (East ∷ South ∷ West ∷ North ∷ White ∷ Green ∷ Red ∷ [])
+abbrev pub orphan_tiles : List ℕ
+orphan_tiles = mans 19 ++ pins 19 ++ sous 19 ++ (East ∷ South ∷ West ∷ North ∷ White ∷ Green ∷ Red ∷ [])

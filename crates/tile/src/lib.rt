@@ -2,8 +2,8 @@
 // 27 to 33 East, South, West, North, White, Green, Red. A number above 33 is no tile: each question about it is answered no.
 // And renamings of tiles, a term of the scope paper: one rule for all 34 tiles, under which a hand keeps its worth.
 ghost use Rattle.std.specs.Prelude.{◌≡◌};
-ghost use Rattle.tile.specs.Tile.{isSuited, isSimple, isTerminal, isTerminalOrHonor, isHonor, isDragon, isWind, isGreen, isStart, suitOf, value_of};
-ghost use Rattle.tile.specs.Renaming.{three, orderTo, windTo, renNumber, renHonor, ren};
+ghost use Rattle.tile.specs.Tile.{is_suited, is_simple, is_terminal, is_terminal_or_honor, is_honor, is_dragon, is_wind, is_green, is_start, suit_of, value_of};
+ghost use Rattle.tile.specs.Renaming.{three, order_to, wind_to, ren_number, ren_honor, ren};
 
 #[derive(Drop)]
 pub struct Tile(pub u8);
@@ -11,70 +11,70 @@ pub struct Tile(pub u8);
 impl Tile {
     // Is this a tile of man, pin or sou?
     pub fn is_suited(self) -> bool
-        ensures { result ≡ isSuited self.0 }
+        ensures { result ≡ is_suited self.0 }
     {
         self.0 < 27
     }
 
     // Is this a simple tile (2 to 8 of any suit)?
     pub fn is_simple(self) -> bool
-        ensures { result ≡ isSimple self.0 }
+        ensures { result ≡ is_simple self.0 }
     {
         (self.0 < 27) & !((self.0 % 9 == 0) | (self.0 % 9 == 8))
     }
 
     // Is this a terminal (1 or 9 of a suit)?
     pub fn is_terminal(self) -> bool
-        ensures { result ≡ isTerminal self.0 }
+        ensures { result ≡ is_terminal self.0 }
     {
         (self.0 < 27) & ((self.0 % 9 == 0) | (self.0 % 9 == 8))
     }
 
     // Is this a terminal or an honor?
     pub fn is_terminal_or_honor(self) -> bool
-        ensures { result ≡ isTerminalOrHonor self.0 }
+        ensures { result ≡ is_terminal_or_honor self.0 }
     {
         self.is_terminal() | self.is_honor()
     }
 
     // Is this an honor (a wind or a dragon)?
     pub fn is_honor(self) -> bool
-        ensures { result ≡ isHonor self.0 }
+        ensures { result ≡ is_honor self.0 }
     {
         (27 <= self.0) & (self.0 < 34)
     }
 
     // Is this a dragon (White, Green, Red)?
     pub fn is_dragon(self) -> bool
-        ensures { result ≡ isDragon self.0 }
+        ensures { result ≡ is_dragon self.0 }
     {
         (31 <= self.0) & (self.0 < 34)
     }
 
     // Is this a wind (East, South, West, North)?
     pub fn is_wind(self) -> bool
-        ensures { result ≡ isWind self.0 }
+        ensures { result ≡ is_wind self.0 }
     {
         (27 <= self.0) & (self.0 < 31)
     }
 
     // Is this a green tile (sou 2, 3, 4, 6, 8 or Green)?
     pub fn is_green(self) -> bool
-        ensures { result ≡ isGreen self.0 }
+        ensures { result ≡ is_green self.0 }
     {
         ((19 <= self.0) & (self.0 < 22)) | ((self.0 == 23) | ((self.0 == 25) | (self.0 == 32)))
     }
 
     // Can a sequence start here (1 to 7 of a suit)?
     pub fn is_start(self) -> bool
-        ensures { result ≡ isStart self.0 }
+        ensures { result ≡ is_start self.0 }
     {
         (self.0 < 27) & (self.0 % 9 < 7)
     }
 
     // The suit: 0 man, 1 pin, 2 sou; 3 where it is of no suit.
     pub fn suit(self) -> u8
-        ensures { result ≡ suitOf self.0 }
+        ensures { result ≡ suit_of self.0 }
     {
         if self.0 < 27 { self.0 / 9 } else { 3 }
     }
@@ -128,7 +128,7 @@ fn one_of(place: u8, a: u8, b: u8, c: u8) -> u8
 impl Order {
     // The place, 0 to 2, that a place becomes.
     pub fn of(self, place: u8) -> u8
-        ensures { result ≡ orderTo self place }
+        ensures { result ≡ order_to self place }
     {
         match self {
             Order::Abc => one_of(place, 0, 1, 2),
@@ -165,7 +165,7 @@ pub struct Renaming {
 impl Numbers {
     // The tile number that a tile of a suit becomes.
     pub fn of(self, t: u8) -> u8
-        ensures { result ≡ renNumber self t }
+        ensures { result ≡ ren_number self t }
     {
         let suits = self.suits;
         let suit = suits.of(t / 9);
@@ -179,7 +179,7 @@ impl Numbers {
 impl Honors {
     // The tile number that an honor becomes: White (31) and Red (33), or South to North (28 to 30); any other stays.
     pub fn of(self, t: u8) -> u8
-        ensures { result ≡ renHonor self t }
+        ensures { result ≡ ren_honor self t }
     {
         if self.dragons & ((t == 31) | (t == 33)) {
             return 64 - t;

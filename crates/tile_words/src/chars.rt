@@ -1,17 +1,17 @@
 // The characters of words of tiles, each by itself.
 ghost use Rattle.std.specs.Prelude.{◌≡◌};
-ghost use Rattle.tile_words.specs.Chars.{isNumber, suitOf, westOrWhite, honorOf, tileOf, isSilent, isStrange};
+ghost use Rattle.tile_words.specs.Chars.{is_number, suit_of, west_or_white, honor_of, tile_of, is_silent, is_strange};
 
 // Is the character one of 0 to 9?
 pub fn is_number(c: u8) -> bool
-    ensures { result ≡ isNumber c }
+    ensures { result ≡ is_number c }
 {
     (b'0' <= c) & (c <= b'9')
 }
 
 // The suit of a letter: 0 man, 1 pin, 2 sou, 3 honors; 4 for any other character.
 pub fn suit_of(c: u8) -> u8
-    ensures { result ≡ suitOf c }
+    ensures { result ≡ suit_of c }
 {
     if (c == b'm') | (c == b'M') {
         return 0;
@@ -30,7 +30,7 @@ pub fn suit_of(c: u8) -> u8
 
 // The tile of w: White before h, else West.
 fn west_or_white(next: u8) -> u8
-    ensures { result ≡ westOrWhite next }
+    ensures { result ≡ west_or_white next }
 {
     if (next == b'h') | (next == b'H') {
         return 31;
@@ -40,7 +40,7 @@ fn west_or_white(next: u8) -> u8
 
 // The honor of a letter with the character behind it; 34 for any other character.
 pub fn honor_of(c: u8, next: u8) -> u8
-    ensures { result ≡ honorOf c next }
+    ensures { result ≡ honor_of c next }
 {
     if (c == b'e') | (c == b'E') {
         return 27;
@@ -65,7 +65,7 @@ pub fn honor_of(c: u8, next: u8) -> u8
 
 // The tile of a number in a suit; 34 where there is none. There is no 8 or 9 among the honors; 0 is how players write a red five, which is not counted.
 pub fn tile_of(c: u8, suit: u8) -> u8
-    ensures { result ≡ tileOf c suit }
+    ensures { result ≡ tile_of c suit }
 {
     if c < b'1' {
         return 34;
@@ -84,14 +84,14 @@ pub fn tile_of(c: u8, suit: u8) -> u8
 
 // Is c good behind b, though it names no tile: the letter of a suit right behind a number, or the h of wh?
 pub fn is_silent(b: u8, c: u8) -> bool
-    ensures { result ≡ isSilent b c }
+    ensures { result ≡ is_silent b c }
 {
     (is_number(b) & (suit_of(c) < 4)) | (((b == b'w') | (b == b'W')) & ((c == b'h') | (c == b'H')))
 }
 
 // Is the character neither the letter of a suit nor that of an honor? The 0 past the end of a word is no character.
 pub fn is_strange(c: u8) -> bool
-    ensures { result ≡ isStrange c }
+    ensures { result ≡ is_strange c }
 {
     (0 < c) & ((4 <= suit_of(c)) & (34 <= honor_of(c, 0)))
 }

@@ -2,7 +2,7 @@
 ghost use Rattle.std.specs.Prelude.{◌≡◌, ℕ, ◌+◌, ◌<◌, length, drop, get_or, eqb};
 ghost use Rattle.lists.specs.Fold.{one};
 ghost use Rattle.hand.specs.Counts.{held};
-ghost use Rattle.tile_words.specs.Words.{leading, behind, suitAfter, readAt, tilesIn, named_in, addTo, Counted, isGood, goodLength, charBefore, isGoodWord, faultPlace};
+ghost use Rattle.tile_words.specs.Words.{leading, behind, suit_after, read_at, tiles_in, named_in, add_to, Counted, is_good, good_length, char_before, is_good_word, fault_place};
 
 pub mod chars;
 pub mod faults;
@@ -21,7 +21,7 @@ fn char_at(word: &[u8], i: usize) -> u8
 
 // The character before a place of a word; 0 before the first.
 fn char_before(word: &[u8], i: usize) -> u8
-    ensures { result ≡ charBefore word.now i }
+    ensures { result ≡ char_before word.now i }
 {
     if i == 0 {
         return 0;
@@ -52,7 +52,7 @@ fn char_behind(word: &[u8], from: usize) -> u8
 
 // The suit of the numbers at a place of a word: that of the first character behind them. 4 where it is none.
 fn suit_after(word: &[u8], from: usize) -> u8
-    ensures { result ≡ suitAfter (drop from word.now) }
+    ensures { result ≡ suit_after (drop from word.now) }
 {
     chars::suit_of(char_behind(word, from))
 }
@@ -61,7 +61,7 @@ fn suit_after(word: &[u8], from: usize) -> u8
 
 // The tile that a word names at a place; 34 where it names none.
 pub fn tile_at(word: &[u8], i: usize) -> u8
-    ensures { result ≡ readAt (charBefore word.now i) (drop i word.now) }
+    ensures { result ≡ read_at (char_before word.now i) (drop i word.now) }
 {
     if word.len() <= i {
         return 34;
@@ -90,7 +90,7 @@ pub fn named_in(word: &[u8]) -> usize
 // Counts a tile, up to 255 of a kind.
 fn add_tile(counts: &mut [u8; 34], t: u8)
     requires { length counts.old ≡ 34 }
-    ensures { (length counts.new ≡ 34) × ((u : ℕ) → u < 34 → held counts.new u ≡ addTo (held counts.old u) (one (eqb u t))) }
+    ensures { (length counts.new ≡ 34) × ((u : ℕ) → u < 34 → held counts.new u ≡ add_to (held counts.old u) (one (eqb u t))) }
 {
     let i = t as usize;
     if 34 <= i {
@@ -104,7 +104,7 @@ fn add_tile(counts: &mut [u8; 34], t: u8)
 // Counts the tiles that a word names, up to 255 of a kind.
 pub fn add_tiles(counts: &mut [u8; 34], word: &[u8])
     requires { length counts.old ≡ 34 }
-    ensures { (length counts.new ≡ 34) × Counted counts.old (tilesIn word.now) counts.new }
+    ensures { (length counts.new ≡ 34) × Counted counts.old (tiles_in word.now) counts.new }
 {
     for i in 0..word.len() {
         add_tile(counts, tile_at(word, i));
@@ -116,14 +116,14 @@ pub fn add_tiles(counts: &mut [u8; 34], word: &[u8])
 // Is the character at a place good: does it name a tile, or is it good behind the one before it?
 fn is_good_at(word: &[u8], i: usize) -> bool
     requires { i < length word.now }
-    ensures { result ≡ isGood (charBefore word.now i) (drop i word.now) }
+    ensures { result ≡ is_good (char_before word.now i) (drop i word.now) }
 {
     (tile_at(word, i) < 34) | chars::is_silent(char_before(word, i), word[i])
 }
 
 // How many good characters a word begins with.
 fn good_length(word: &[u8]) -> usize
-    ensures { result ≡ goodLength 0 word.now }
+    ensures { result ≡ good_length 0 word.now }
 {
     let mut i = 0;
     while i < word.len() {
@@ -164,7 +164,7 @@ fn fault_of_letter(c: u8) -> u8
 
 // The first fault of a word of tiles; 0 exactly where each character is good.
 pub fn check_tiles(word: &[u8]) -> u8
-    ensures { eqb result 0 ≡ isGoodWord word.now }
+    ensures { eqb result 0 ≡ is_good_word word.now }
 {
     let i = good_length(word);
     if word.len() <= i {
@@ -178,7 +178,7 @@ pub fn check_tiles(word: &[u8]) -> u8
 
 // The place of the character at fault in a word of tiles; the word's length where it is good.
 pub fn fault_place(word: &[u8]) -> usize
-    ensures { result ≡ faultPlace word.now }
+    ensures { result ≡ fault_place word.now }
 {
     let i = good_length(word);
     let next = past_numbers(word, i);

@@ -6,9 +6,9 @@ use lib.Dec.{T}
 use Prim.Native.Nat.{ℕ}
 use Rattle.lists.specs.Fold.{keep, up_from}
 use Rattle.tile.specs.Tile.{tiles}
-use Rattle.tile.specs.Named.{man, pin, sou, East, South, West, North, White, Green, Red, mans, pins, sous, orphanTiles}
-use Rattle.hand.specs.Named.{ofTiles}
-use Rattle.tile_yaku.specs.Tiles.{tanyao, honroutou, tsuuiisou, chinroutou, ryuuiisou, honitsu, chinitsu, nineGates, pureWait}
+use Rattle.tile.specs.Named.{man, pin, sou, East, South, West, North, White, Green, Red, mans, pins, sous, orphan_tiles}
+use Rattle.hand.specs.Named.{of_tiles}
+use Rattle.tile_yaku.specs.Tiles.{tanyao, honroutou, tsuuiisou, chinroutou, ryuuiisou, honitsu, chinitsu, nine_gates, pure_wait}
 
 -- three of a tile
 abbrev three : ℕ → List ℕ
@@ -19,220 +19,220 @@ abbrev two : ℕ → List ℕ
 two t = t ∷ t ∷ []
 
 -- ---- Tanyao: 2 to 8 only
-pub tanyao-simples : T (tanyao (ofTiles (mans 234567 ++ pins 22 ++ sous 456888)))
+pub tanyao_simples : T (tanyao (of_tiles (mans 234567 ++ pins 22 ++ sous 456888)))
 unfolding tanyao
-tanyao-simples = tt
+tanyao_simples = tt
 
-pub tanyao-not-9 : T (not (tanyao (ofTiles (mans 234567 ++ pins 22 ++ sous 456789))))
+pub tanyao_not_9 : T (not (tanyao (of_tiles (mans 234567 ++ pins 22 ++ sous 456789))))
 unfolding tanyao
-tanyao-not-9 = tt
+tanyao_not_9 = tt
 
-pub tanyao-not-1 : T (not (tanyao (ofTiles (mans 123567 ++ pins 22 ++ sous 456888))))
+pub tanyao_not_1 : T (not (tanyao (of_tiles (mans 123567 ++ pins 22 ++ sous 456888))))
 unfolding tanyao
-tanyao-not-1 = tt
+tanyao_not_1 = tt
 
-pub tanyao-not-honor : T (not (tanyao (ofTiles (mans 234567 ++ sous 456888 ++ two West))))
+pub tanyao_not_honor : T (not (tanyao (of_tiles (mans 234567 ++ sous 456888 ++ two West))))
 unfolding tanyao
-tanyao-not-honor = tt
+tanyao_not_honor = tt
 
 -- ---- Honroutou: terminals and honors only
-pub honroutou-both : T (honroutou (ofTiles (mans 111999 ++ pins 111 ++ three East ++ two Red)))
+pub honroutou_both : T (honroutou (of_tiles (mans 111999 ++ pins 111 ++ three East ++ two Red)))
 unfolding honroutou
-honroutou-both = tt
+honroutou_both = tt
 
-pub honroutou-orphans : T (honroutou (ofTiles (orphanTiles ++ (man 1 ∷ []))))
+pub honroutou_orphans : T (honroutou (of_tiles (orphan_tiles ++ (man 1 ∷ []))))
 unfolding honroutou
-honroutou-orphans = tt
+honroutou_orphans = tt
 
-pub honroutou-not-8 : T (not (honroutou (ofTiles (mans 111888 ++ pins 111 ++ three East ++ two Red))))
+pub honroutou_not_8 : T (not (honroutou (of_tiles (mans 111888 ++ pins 111 ++ three East ++ two Red))))
 unfolding honroutou
-honroutou-not-8 = tt
+honroutou_not_8 = tt
 
-pub honroutou-not-run : T (not (honroutou (ofTiles (mans 111999 ++ pins 123 ++ three East ++ two Red))))
+pub honroutou_not_run : T (not (honroutou (of_tiles (mans 111999 ++ pins 123 ++ three East ++ two Red))))
 unfolding honroutou
-honroutou-not-run = tt
+honroutou_not_run = tt
 
 -- ---- Tsuuiisou: honors only
-pub tsuuiisou-honors : T (tsuuiisou (ofTiles (three East ++ three North ++ three White ++ three Green ++ two Red)))
+pub tsuuiisou_honors : T (tsuuiisou (of_tiles (three East ++ three North ++ three White ++ three Green ++ two Red)))
 unfolding tsuuiisou
-tsuuiisou-honors = tt
+tsuuiisou_honors = tt
 
-pub tsuuiisou-pairs : T (tsuuiisou (ofTiles (two East ++ two South ++ two West ++ two North ++ two White ++ two Green ++ two Red)))
+pub tsuuiisou_pairs_holds : T (tsuuiisou (of_tiles (two East ++ two South ++ two West ++ two North ++ two White ++ two Green ++ two Red)))
 unfolding tsuuiisou
-tsuuiisou-pairs = tt
+tsuuiisou_pairs_holds = tt
 
-pub tsuuiisou-not-terminal : T (not (tsuuiisou (ofTiles (three East ++ three North ++ three White ++ three Green ++ sous 99))))
+pub tsuuiisou_not_terminal : T (not (tsuuiisou (of_tiles (three East ++ three North ++ three White ++ three Green ++ sous 99))))
 unfolding tsuuiisou
-tsuuiisou-not-terminal = tt
+tsuuiisou_not_terminal = tt
 
-pub tsuuiisou-not-simple : T (not (tsuuiisou (ofTiles (three East ++ three North ++ three White ++ three Green ++ mans 55))))
+pub tsuuiisou_not_simple : T (not (tsuuiisou (of_tiles (three East ++ three North ++ three White ++ three Green ++ mans 55))))
 unfolding tsuuiisou
-tsuuiisou-not-simple = tt
+tsuuiisou_not_simple = tt
 
 -- ---- Chinroutou: terminals only
-pub chinroutou-terminals : T (chinroutou (ofTiles (mans 111999 ++ pins 111999 ++ sous 99)))
+pub chinroutou_terminals : T (chinroutou (of_tiles (mans 111999 ++ pins 111999 ++ sous 99)))
 unfolding chinroutou
-chinroutou-terminals = tt
+chinroutou_terminals = tt
 
-pub chinroutou-not-honor : T (not (chinroutou (ofTiles (mans 111999 ++ pins 111999 ++ two Red))))
+pub chinroutou_not_honor : T (not (chinroutou (of_tiles (mans 111999 ++ pins 111999 ++ two Red))))
 unfolding chinroutou
-chinroutou-not-honor = tt
+chinroutou_not_honor = tt
 
-pub chinroutou-not-run : T (not (chinroutou (ofTiles (mans 111999 ++ pins 111789 ++ sous 99))))
+pub chinroutou_not_run : T (not (chinroutou (of_tiles (mans 111999 ++ pins 111789 ++ sous 99))))
 unfolding chinroutou
-chinroutou-not-run = tt
+chinroutou_not_run = tt
 
 -- ---- Ryuuiisou: sou 2, 3, 4, 6, 8 and Green only, with Green or without
-pub ryuuiisou-with-green : T (ryuuiisou (ofTiles (sous 22334466888 ++ three Green)))
+pub ryuuiisou_with_green : T (ryuuiisou (of_tiles (sous 22334466888 ++ three Green)))
 unfolding ryuuiisou
-ryuuiisou-with-green = tt
+ryuuiisou_with_green = tt
 
-pub ryuuiisou-without-green : T (ryuuiisou (ofTiles (sous 22233344466688)))
+pub ryuuiisou_without_green : T (ryuuiisou (of_tiles (sous 22233344466688)))
 unfolding ryuuiisou
-ryuuiisou-without-green = tt
+ryuuiisou_without_green = tt
 
-pub ryuuiisou-not-5 : T (not (ryuuiisou (ofTiles (sous 22345666888 ++ three Green))))
+pub ryuuiisou_not_5 : T (not (ryuuiisou (of_tiles (sous 22345666888 ++ three Green))))
 unfolding ryuuiisou
-ryuuiisou-not-5 = tt
+ryuuiisou_not_5 = tt
 
-pub ryuuiisou-not-white : T (not (ryuuiisou (ofTiles (sous 22334466888 ++ three White))))
+pub ryuuiisou_not_white : T (not (ryuuiisou (of_tiles (sous 22334466888 ++ three White))))
 unfolding ryuuiisou
-ryuuiisou-not-white = tt
+ryuuiisou_not_white = tt
 
-pub ryuuiisou-not-pin : T (not (ryuuiisou (ofTiles (pins 22334466888 ++ three Green))))
+pub ryuuiisou_not_pin : T (not (ryuuiisou (of_tiles (pins 22334466888 ++ three Green))))
 unfolding ryuuiisou
-ryuuiisou-not-pin = tt
+ryuuiisou_not_pin = tt
 
 -- ---- Honitsu: one suit and honors
-pub honitsu-one-suit-and-honors : T (honitsu (ofTiles (mans 123456777 ++ three East ++ two White)))
+pub honitsu_one_suit_and_honors : T (honitsu (of_tiles (mans 123456777 ++ three East ++ two White)))
 unfolding honitsu
-honitsu-one-suit-and-honors = tt
+honitsu_one_suit_and_honors = tt
 
-pub honitsu-not-two-suits : T (not (honitsu (ofTiles (mans 123456 ++ pins 777 ++ three East ++ two White))))
+pub honitsu_not_two_suits : T (not (honitsu (of_tiles (mans 123456 ++ pins 777 ++ three East ++ two White))))
 unfolding honitsu
-honitsu-not-two-suits = tt
+honitsu_not_two_suits = tt
 
-pub honitsu-not-without-honors : T (not (honitsu (ofTiles (mans 12345677788899))))
+pub honitsu_not_without_honors : T (not (honitsu (of_tiles (mans 12345677788899))))
 unfolding honitsu
-honitsu-not-without-honors = tt
+honitsu_not_without_honors = tt
 
-pub honitsu-not-honors-alone : T (not (honitsu (ofTiles (three East ++ three North ++ three White ++ three Green ++ two Red))))
+pub honitsu_not_honors_alone : T (not (honitsu (of_tiles (three East ++ three North ++ three White ++ three Green ++ two Red))))
 unfolding honitsu
-honitsu-not-honors-alone = tt
+honitsu_not_honors_alone = tt
 
 -- ---- Chinitsu: one suit alone
-pub chinitsu-one-suit : T (chinitsu (ofTiles (sous 12345677788899)))
+pub chinitsu_one_suit : T (chinitsu (of_tiles (sous 12345677788899)))
 unfolding chinitsu
-chinitsu-one-suit = tt
+chinitsu_one_suit = tt
 
-pub chinitsu-not-honor : T (not (chinitsu (ofTiles (sous 123456777888 ++ two White))))
+pub chinitsu_not_honor : T (not (chinitsu (of_tiles (sous 123456777888 ++ two White))))
 unfolding chinitsu
-chinitsu-not-honor = tt
+chinitsu_not_honor = tt
 
-pub chinitsu-not-two-suits : T (not (chinitsu (ofTiles (sous 123456777888 ++ pins 99))))
+pub chinitsu_not_two_suits : T (not (chinitsu (of_tiles (sous 123456777888 ++ pins 99))))
 unfolding chinitsu
-chinitsu-not-two-suits = tt
+chinitsu_not_two_suits = tt
 
 -- ---- Chuuren poutou, nine gates: 1112345678999 of a suit and any tile of it besides
-pub gates-with-1 : T (nineGates (ofTiles (mans 11123456789991)))
-unfolding nineGates
-gates-with-1 = tt
+pub gates_with_1 : T (nine_gates (of_tiles (mans 11123456789991)))
+unfolding nine_gates
+gates_with_1 = tt
 
-pub gates-with-2 : T (nineGates (ofTiles (mans 11123456789992)))
-unfolding nineGates
-gates-with-2 = tt
+pub gates_with_2 : T (nine_gates (of_tiles (mans 11123456789992)))
+unfolding nine_gates
+gates_with_2 = tt
 
-pub gates-with-3 : T (nineGates (ofTiles (mans 11123456789993)))
-unfolding nineGates
-gates-with-3 = tt
+pub gates_with_3 : T (nine_gates (of_tiles (mans 11123456789993)))
+unfolding nine_gates
+gates_with_3 = tt
 
-pub gates-with-4 : T (nineGates (ofTiles (pins 11123456789994)))
-unfolding nineGates
-gates-with-4 = tt
+pub gates_with_4 : T (nine_gates (of_tiles (pins 11123456789994)))
+unfolding nine_gates
+gates_with_4 = tt
 
-pub gates-with-5 : T (nineGates (ofTiles (pins 11123456789995)))
-unfolding nineGates
-gates-with-5 = tt
+pub gates_with_5 : T (nine_gates (of_tiles (pins 11123456789995)))
+unfolding nine_gates
+gates_with_5 = tt
 
-pub gates-with-6 : T (nineGates (ofTiles (pins 11123456789996)))
-unfolding nineGates
-gates-with-6 = tt
+pub gates_with_6 : T (nine_gates (of_tiles (pins 11123456789996)))
+unfolding nine_gates
+gates_with_6 = tt
 
-pub gates-with-7 : T (nineGates (ofTiles (sous 11123456789997)))
-unfolding nineGates
-gates-with-7 = tt
+pub gates_with_7 : T (nine_gates (of_tiles (sous 11123456789997)))
+unfolding nine_gates
+gates_with_7 = tt
 
-pub gates-with-8 : T (nineGates (ofTiles (sous 11123456789998)))
-unfolding nineGates
-gates-with-8 = tt
+pub gates_with_8 : T (nine_gates (of_tiles (sous 11123456789998)))
+unfolding nine_gates
+gates_with_8 = tt
 
-pub gates-with-9 : T (nineGates (ofTiles (sous 11123456789999)))
-unfolding nineGates
-gates-with-9 = tt
+pub gates_with_9 : T (nine_gates (of_tiles (sous 11123456789999)))
+unfolding nine_gates
+gates_with_9 = tt
 
 -- not with only two 1s or two 9s, nor without a 5
-pub gates-not-two-1 : T (not (nineGates (ofTiles (mans 11223456789999))))
-unfolding nineGates
-gates-not-two-1 = tt
+pub gates_not_two_1 : T (not (nine_gates (of_tiles (mans 11223456789999))))
+unfolding nine_gates
+gates_not_two_1 = tt
 
-pub gates-not-two-9 : T (not (nineGates (ofTiles (mans 11123456788899))))
-unfolding nineGates
-gates-not-two-9 = tt
+pub gates_not_two_9 : T (not (nine_gates (of_tiles (mans 11123456788899))))
+unfolding nine_gates
+gates_not_two_9 = tt
 
-pub gates-not-without-5 : T (not (nineGates (ofTiles (mans 11123446678999))))
-unfolding nineGates
-gates-not-without-5 = tt
+pub gates_not_without_5 : T (not (nine_gates (of_tiles (mans 11123446678999))))
+unfolding nine_gates
+gates_not_without_5 = tt
 
 -- not with a tile of another suit or an honor
-pub gates-not-two-suits : T (not (nineGates (ofTiles (mans 1112345678999 ++ pins 5))))
-unfolding nineGates
-gates-not-two-suits = tt
+pub gates_not_two_suits : T (not (nine_gates (of_tiles (mans 1112345678999 ++ pins 5))))
+unfolding nine_gates
+gates_not_two_suits = tt
 
-pub gates-not-honor : T (not (nineGates (ofTiles (mans 1112345678999 ++ (White ∷ [])))))
-unfolding nineGates
-gates-not-honor = tt
+pub gates_not_honor : T (not (nine_gates (of_tiles (mans 1112345678999 ++ (White ∷ [])))))
+unfolding nine_gates
+gates_not_honor = tt
 
 -- not with a kan of the 1: 1111 and 2345678999 and one more are fifteen tiles
-pub gates-not-kan : T (not (nineGates (ofTiles (mans 1111 ++ mans 23456789995))))
-unfolding nineGates
-gates-not-kan = tt
+pub gates_not_kan : T (not (nine_gates (of_tiles (mans 1111 ++ mans 23456789995))))
+unfolding nine_gates
+gates_not_kan = tt
 
 -- ---- the pure wait: on the tile besides 1112345678999
-pub pure-on-5 : T (pureWait (ofTiles (mans 11123456789995)) (man 5))
-unfolding pureWait
-pure-on-5 = tt
+pub pure_on_5 : T (pure_wait (of_tiles (mans 11123456789995)) (man 5))
+unfolding pure_wait
+pure_on_5 = tt
 
-pub pure-on-1 : T (pureWait (ofTiles (pins 11123456789991)) (pin 1))
-unfolding pureWait
-pure-on-1 = tt
+pub pure_on_1 : T (pure_wait (of_tiles (pins 11123456789991)) (pin 1))
+unfolding pure_wait
+pure_on_1 = tt
 
 -- not on another of the tiles
-pub pure-not-on-4 : T (not (pureWait (ofTiles (mans 11123456789995)) (man 4)))
-unfolding pureWait
-pure-not-on-4 = tt
+pub pure_not_on_4 : T (not (pure_wait (of_tiles (mans 11123456789995)) (man 4)))
+unfolding pure_wait
+pure_not_on_4 = tt
 
-pub pure-not-on-9 : T (not (pureWait (ofTiles (mans 11123456789995)) (man 9)))
-unfolding pureWait
-pure-not-on-9 = tt
+pub pure_not_on_9 : T (not (pure_wait (of_tiles (mans 11123456789995)) (man 9)))
+unfolding pure_wait
+pure_not_on_9 = tt
 
 -- ---- the tiles that each of the five admits, asked one at a time: 2 to 8 of each suit; 1 and 9 of each suit and the seven honors; these honors;
 -- these terminals; and the six green tiles
-pub tanyao-tiles : keep (λ t. tanyao (ofTiles (t ∷ []))) tiles ≡ up_from 7 (man 2) ++ (up_from 7 (pin 2) ++ up_from 7 (sou 2))
+pub tanyao_tiles : keep (λ t. tanyao (of_tiles (t ∷ []))) tiles ≡ up_from 7 (man 2) ++ (up_from 7 (pin 2) ++ up_from 7 (sou 2))
 unfolding tanyao
-tanyao-tiles = refl
+tanyao_tiles = refl
 
-pub honroutou-tiles : keep (λ t. honroutou (ofTiles (t ∷ []))) tiles ≡ man 1 ∷ man 9 ∷ pin 1 ∷ pin 9 ∷ sou 1 ∷ sou 9 ∷ up_from 7 East
+pub honroutou_tiles : keep (λ t. honroutou (of_tiles (t ∷ []))) tiles ≡ man 1 ∷ man 9 ∷ pin 1 ∷ pin 9 ∷ sou 1 ∷ sou 9 ∷ up_from 7 East
 unfolding honroutou
-honroutou-tiles = refl
+honroutou_tiles = refl
 
-pub tsuuiisou-tiles : keep (λ t. tsuuiisou (ofTiles (t ∷ []))) tiles ≡ up_from 7 East
+pub tsuuiisou_tiles : keep (λ t. tsuuiisou (of_tiles (t ∷ []))) tiles ≡ up_from 7 East
 unfolding tsuuiisou
-tsuuiisou-tiles = refl
+tsuuiisou_tiles = refl
 
-pub chinroutou-tiles : keep (λ t. chinroutou (ofTiles (t ∷ []))) tiles ≡ man 1 ∷ man 9 ∷ pin 1 ∷ pin 9 ∷ sou 1 ∷ sou 9 ∷ []
+pub chinroutou_tiles : keep (λ t. chinroutou (of_tiles (t ∷ []))) tiles ≡ man 1 ∷ man 9 ∷ pin 1 ∷ pin 9 ∷ sou 1 ∷ sou 9 ∷ []
 unfolding chinroutou
-chinroutou-tiles = refl
+chinroutou_tiles = refl
 
-pub ryuuiisou-tiles : keep (λ t. ryuuiisou (ofTiles (t ∷ []))) tiles ≡ sou 2 ∷ sou 3 ∷ sou 4 ∷ sou 6 ∷ sou 8 ∷ Green ∷ []
+pub ryuuiisou_tiles : keep (λ t. ryuuiisou (of_tiles (t ∷ []))) tiles ≡ sou 2 ∷ sou 3 ∷ sou 4 ∷ sou 6 ∷ sou 8 ∷ Green ∷ []
 unfolding ryuuiisou
-ryuuiisou-tiles = refl
+ryuuiisou_tiles = refl

@@ -6,23 +6,23 @@ use native.Mathlib.Omega.{arith}
 use borrow.Author.Tests.{eqb-false}
 use lib.Dec.{T, T_not, not_T, eqb, leb, ltb, eqb→eq, eqb_refl, leb→le, le→leb, ltb→lt}
 use Rattle.lists.specs.Fold.{all, any, one}
-use Rattle.lists.proofs.Finite.{at, and_left, and_right, and_both, or_elim, or_left, or-skip}
-use Rattle.lists.proofs.Members.{all-mem, all-intro, any_of, any-elim}
-use Rattle.lists.proofs.Arranged.{any-mem}
-use Rattle.tile.specs.Tile.{isHonor, isSimple, isSuited, isTerminal, isTerminalOrHonor, tiles}
-use Rattle.tile.proofs.Tiles.{in-tiles, tile-lt}
-use Rattle.tile_yaku.specs.Tiles.{only, some, tanyao, honroutou, tsuuiisou, chinroutou, suits, ofSuit, oneSuit, honitsu, chinitsu}
-use Rattle.tile_yaku.proofs.Questions.{only-neither}
+use Rattle.lists.proofs.Finite.{at, and_left, and_right, and_both, or_elim, or_left, or_skip}
+use Rattle.lists.proofs.Members.{all_mem, all_intro, any_of, any_elim}
+use Rattle.lists.proofs.Arranged.{any_mem}
+use Rattle.tile.specs.Tile.{is_honor, is_simple, is_suited, is_terminal, is_terminal_or_honor, tiles}
+use Rattle.tile.proofs.Tiles.{in_tiles, tile_lt}
+use Rattle.tile_yaku.specs.Tiles.{only, some, tanyao, honroutou, tsuuiisou, chinroutou, suits, of_suit, one_suit, honitsu, chinitsu}
+use Rattle.tile_yaku.proofs.Questions.{only_neither}
 
 -- ---- each tile that is there, and some tile that is there
 module _ (c : ℕ → ℕ) where
-  pub only-each : (q : ℕ → Bool) → T (only q c) → (t : ℕ) → t < 34 → 1 ≤ c t → T (q t)
-  only-each q o t h k =
-      or_elim (eqb (c t) 0) (q t) (all-mem (λ t. eqb (c t) 0 || q t) {l = tiles} o (in-tiles t h))
+  pub only_each : (q : ℕ → Bool) → T (only q c) → (t : ℕ) → t < 34 → 1 ≤ c t → T (q t)
+  only_each q o t h k =
+      or_elim (eqb (c t) 0) (q t) (all_mem (λ t. eqb (c t) 0 || q t) {l = tiles} o (in_tiles t h))
       (λ z. let e = eqb→eq (c t) 0 z in absurd (omega arith)) (λ i. i)
 
-  pub each-only : (q : ℕ → Bool) → ((t : ℕ) → t < 34 → 1 ≤ c t → T (q t)) → T (only q c)
-  each-only q f = all-intro (λ t. eqb (c t) 0 || q t) tiles (λ t i. go t (tile-lt i) (eqb (c t) 0) refl)
+  pub each_only : (q : ℕ → Bool) → ((t : ℕ) → t < 34 → 1 ≤ c t → T (q t)) → T (only q c)
+  each_only q f = all_intro (λ t. eqb (c t) 0 || q t) tiles (λ t i. go t (tile_lt i) (eqb (c t) 0) refl)
     where
       go : (t : ℕ) → t < 34 → (b : Bool) → eqb (c t) 0 ≡ b → T (b || q t)
       go t h true e = tt
@@ -31,64 +31,64 @@ module _ (c : ℕ → ℕ) where
   -- a tile that is there and passes
   pub record There (q : ℕ → Bool) : Type 0 where
     pub tile : ℕ
-    pub isTile : tile < 34
+    pub is_tile : tile < 34
     pub held : 1 ≤ c tile
     pub passes : T (q tile)
 
-  pub some-there : (q : ℕ → Bool) → T (some q c) → There q
-  some-there q s =
-      let r = any-elim (λ t. leb 1 (c t) && q t) tiles s in
+  pub some_there : (q : ℕ → Bool) → T (some q c) → There q
+  some_there q s =
+      let r = any_elim (λ t. leb 1 (c t) && q t) tiles s in
       record {
         tile = r.0;
-        isTile = tile-lt r.1;
+        is_tile = tile_lt r.1;
         held = leb→le 1 (c r.0) (and_left (leb 1 (c r.0)) _ r.2);
         passes = and_right (leb 1 (c r.0)) _ r.2;
       }
 
-  pub there-some : (q : ℕ → Bool) (t : ℕ) → t < 34 → 1 ≤ c t → T (q t) → T (some q c)
-  there-some q t h k i = any_of (λ t. leb 1 (c t) && q t) (in-tiles t h) (and_both (leb 1 (c t)) (q t) (le→leb 1 (c t) k) i)
+  pub there_some : (q : ℕ → Bool) (t : ℕ) → t < 34 → 1 ≤ c t → T (q t) → T (some q c)
+  there_some q t h k i = any_of (λ t. leb 1 (c t) && q t) (in_tiles t h) (and_both (leb 1 (c t)) (q t) (le→leb 1 (c t) k) i)
 
   -- ---- a yaku that admits the tiles of another, and two that admit no tile in common
   only_wider : (p q : ℕ → Bool) → T (all (λ t. not (p t) || q t) tiles) → T (only p c) → T (only q c)
   only_wider p q ok o =
-      each-only q (λ t h k. or-skip (p t) (q t) (only-each p o t h k) (all-mem (λ t. not (p t) || q t) {l = tiles} ok (in-tiles t h)))
+      each_only q (λ t h k. or_skip (p t) (q t) (only_each p o t h k) (all_mem (λ t. not (p t) || q t) {l = tiles} ok (in_tiles t h)))
 
   -- where some tile is there
-  only-apart :
+  only_apart :
       (p q : ℕ → Bool) → T (all (λ t. not (p t && q t)) tiles) → (t : ℕ) → t < 34 → 1 ≤ c t → T (only p c) → T (only q c) → ⊥
-  only-apart p q ok t h k o r =
-      T_not (p t && q t) (all-mem (λ t. not (p t && q t)) {l = tiles} ok (in-tiles t h))
-      (and_both (p t) (q t) (only-each p o t h k) (only-each q r t h k))
+  only_apart p q ok t h k o r =
+      T_not (p t && q t) (all_mem (λ t. not (p t && q t)) {l = tiles} ok (in_tiles t h))
+      (and_both (p t) (q t) (only_each p o t h k) (only_each q r t h k))
 
   -- all terminals, or all honors, are terminals and honors
-  pub chinroutou-honroutou : T (chinroutou c) → T (honroutou c)
+  pub chinroutou_honroutou : T (chinroutou c) → T (honroutou c)
   unfolding chinroutou honroutou
-  chinroutou-honroutou = only_wider isTerminal isTerminalOrHonor tt
+  chinroutou_honroutou = only_wider is_terminal is_terminal_or_honor tt
 
-  pub tsuuiisou-honroutou : T (tsuuiisou c) → T (honroutou c)
+  pub tsuuiisou_honroutou : T (tsuuiisou c) → T (honroutou c)
   unfolding tsuuiisou honroutou
-  tsuuiisou-honroutou = only_wider isHonor isTerminalOrHonor tt
+  tsuuiisou_honroutou = only_wider is_honor is_terminal_or_honor tt
 
   -- Tanyao has neither, so no Honroutou, and none of these two
-  pub tanyao-not-honroutou : (t : ℕ) → t < 34 → 1 ≤ c t → T (tanyao c) → T (honroutou c) → ⊥
+  pub tanyao_not_honroutou : (t : ℕ) → t < 34 → 1 ≤ c t → T (tanyao c) → T (honroutou c) → ⊥
   unfolding tanyao honroutou
-  tanyao-not-honroutou = only-apart isSimple isTerminalOrHonor tt
+  tanyao_not_honroutou = only_apart is_simple is_terminal_or_honor tt
 
-  pub tsuuiisou-not-chinroutou : (t : ℕ) → t < 34 → 1 ≤ c t → T (tsuuiisou c) → T (chinroutou c) → ⊥
+  pub tsuuiisou_not_chinroutou : (t : ℕ) → t < 34 → 1 ≤ c t → T (tsuuiisou c) → T (chinroutou c) → ⊥
   unfolding tsuuiisou chinroutou
-  tsuuiisou-not-chinroutou = only-apart isHonor isTerminal tt
+  tsuuiisou_not_chinroutou = only_apart is_honor is_terminal tt
 
   -- ---- flushes
   -- tiles of the suit s are there, and each other tile is an honor
-  abbrev pub flushOf : ℕ → Bool
-  flushOf s = some (ofSuit s) c && only (λ t. ofSuit s t || isHonor t) c
+  abbrev pub flush_of : ℕ → Bool
+  flush_of s = some (of_suit s) c && only (λ t. of_suit s t || is_honor t) c
 
-  pub one-suit-means : oneSuit c ≡ any flushOf suits
-  one-suit-means =
-      by_three (some (ofSuit 0) c) (some (ofSuit 1) c) (some (ofSuit 2) c)
-      (only-neither (λ t. ofSuit 0 t || isHonor t) (ofSuit 1) (ofSuit 2) c tt)
-      (only-neither (λ t. ofSuit 1 t || isHonor t) (ofSuit 0) (ofSuit 2) c tt)
-      (only-neither (λ t. ofSuit 2 t || isHonor t) (ofSuit 0) (ofSuit 1) c tt)
+  pub one_suit_means : one_suit c ≡ any flush_of suits
+  one_suit_means =
+      by_three (some (of_suit 0) c) (some (of_suit 1) c) (some (of_suit 2) c)
+      (only_neither (λ t. of_suit 0 t || is_honor t) (of_suit 1) (of_suit 2) c tt)
+      (only_neither (λ t. of_suit 1 t || is_honor t) (of_suit 0) (of_suit 2) c tt)
+      (only_neither (λ t. of_suit 2 t || is_honor t) (of_suit 0) (of_suit 1) c tt)
     where
       by_three :
           (a b d : Bool) {x y z : Bool} → x ≡ (not b && not d) → y ≡ (not a && not d) → z ≡ (not a && not b)
@@ -103,58 +103,58 @@ module _ (c : ℕ → ℕ) where
       by_three false false false e f g = cc
 
   -- Honitsu has an honor and Chinitsu has none
-  pub honitsu-honor : T (honitsu c) → There isHonor
+  pub honitsu_honor : T (honitsu c) → There is_honor
   unfolding honitsu
-  honitsu-honor t = some-there isHonor (and_right (oneSuit c) _ t)
+  honitsu_honor t = some_there is_honor (and_right (one_suit c) _ t)
 
-  pub chinitsu-no-honor : T (chinitsu c) → (t : ℕ) → t < 34 → 1 ≤ c t → T (isHonor t) → ⊥
+  pub chinitsu_no_honor : T (chinitsu c) → (t : ℕ) → t < 34 → 1 ≤ c t → T (is_honor t) → ⊥
   unfolding chinitsu
-  chinitsu-no-honor f t h k i = T_not (some isHonor c) (and_right (oneSuit c) _ f) (there-some isHonor t h k i)
+  chinitsu_no_honor f t h k i = T_not (some is_honor c) (and_right (one_suit c) _ f) (there_some is_honor t h k i)
 
-  pub honitsu-not-chinitsu : T (honitsu c) → T (chinitsu c) → ⊥
-  honitsu-not-chinitsu f g = let r = honitsu-honor f in chinitsu-no-honor g r.tile r.isTile r.held r.passes
+  pub honitsu_not_chinitsu : T (honitsu c) → T (chinitsu c) → ⊥
+  honitsu_not_chinitsu f g = let r = honitsu_honor f in chinitsu_no_honor g r.tile r.is_tile r.held r.passes
 
-  pub tanyao-not-honitsu : T (tanyao c) → T (honitsu c) → ⊥
+  pub tanyao_not_honitsu : T (tanyao c) → T (honitsu c) → ⊥
   unfolding tanyao
-  tanyao-not-honitsu o f =
-      let r = honitsu-honor f in
-      T_not (isSimple r.tile && isHonor r.tile)
-      (all-mem (λ t. not (isSimple t && isHonor t)) {l = tiles} tt (in-tiles r.tile r.isTile))
-      (and_both (isSimple r.tile) _ (only-each isSimple o r.tile r.isTile r.held) r.passes)
+  tanyao_not_honitsu o f =
+      let r = honitsu_honor f in
+      T_not (is_simple r.tile && is_honor r.tile)
+      (all_mem (λ t. not (is_simple t && is_honor t)) {l = tiles} tt (in_tiles r.tile r.is_tile))
+      (and_both (is_simple r.tile) _ (only_each is_simple o r.tile r.is_tile r.held) r.passes)
 
   -- Chinitsu: every tile is of one suit, of which some are there
   pub record OneSuitAlone : Type 0 where
     pub suit : ℕ
-    pub isSuit : suit < 3
-    pub there : There (ofSuit suit)
-    pub alone : (t : ℕ) → t < 34 → 1 ≤ c t → T (ofSuit suit t)
+    pub is_suit : suit < 3
+    pub there : There (of_suit suit)
+    pub alone : (t : ℕ) → t < 34 → 1 ≤ c t → T (of_suit suit t)
 
-  pub chinitsu-means : T (chinitsu c) → OneSuitAlone
+  pub chinitsu_means : T (chinitsu c) → OneSuitAlone
   unfolding chinitsu
-  chinitsu-means f =
-      let r = any-elim flushOf suits (subst T one-suit-means (and_left (oneSuit c) _ f)) in
+  chinitsu_means f =
+      let r = any_elim flush_of suits (subst T one_suit_means (and_left (one_suit c) _ f)) in
       let s = r.0 in
       record {
         suit = s;
-        isSuit = ltb→lt s 3 (all-mem (λ s. ltb s 3) {l = suits} tt r.1);
-        there = some-there (ofSuit s) (and_left (some (ofSuit s) c) _ r.2);
+        is_suit = ltb→lt s 3 (all_mem (λ s. ltb s 3) {l = suits} tt r.1);
+        there = some_there (of_suit s) (and_left (some (of_suit s) c) _ r.2);
         alone =
             λ t h k.
-            or_elim (ofSuit s t) (isHonor t) (only-each (λ t. ofSuit s t || isHonor t) (and_right (some (ofSuit s) c) _ r.2) t h k) (λ i. i)
-            (λ i. absurd (chinitsu-no-honor f t h k i));
+            or_elim (of_suit s t) (is_honor t) (only_each (λ t. of_suit s t || is_honor t) (and_right (some (of_suit s) c) _ r.2) t h k) (λ i. i)
+            (λ i. absurd (chinitsu_no_honor f t h k i));
       }
 
-  pub means-chinitsu : OneSuitAlone → T (chinitsu c)
+  pub means_chinitsu : OneSuitAlone → T (chinitsu c)
   unfolding chinitsu
-  means-chinitsu o =
+  means_chinitsu o =
       let s = o.suit in
-      and_both (oneSuit c) _
-      (subst T (sym one-suit-means)
-      (any_of flushOf (any-mem eqb eqb→eq eqb_refl s suits (at 3 (λ s. any (eqb s) suits) tt s o.isSuit))
-      (and_both (some (ofSuit s) c) _ (there-some (ofSuit s) o.there.tile o.there.isTile o.there.held o.there.passes)
-      (each-only (λ t. ofSuit s t || isHonor t) (λ t h k. or_left (ofSuit s t) (isHonor t) (o.alone t h k))))))
-      (not_T (some isHonor c) (λ f.
-      let r = some-there isHonor f in
-      T_not (isSuited r.tile && isHonor r.tile)
-      (all-mem (λ t. not (isSuited t && isHonor t)) {l = tiles} tt (in-tiles r.tile r.isTile))
-      (and_both (isSuited r.tile) _ (and_left (isSuited r.tile) _ (o.alone r.tile r.isTile r.held)) r.passes)))
+      and_both (one_suit c) _
+      (subst T (sym one_suit_means)
+      (any_of flush_of (any_mem eqb eqb→eq eqb_refl s suits (at 3 (λ s. any (eqb s) suits) tt s o.is_suit))
+      (and_both (some (of_suit s) c) _ (there_some (of_suit s) o.there.tile o.there.is_tile o.there.held o.there.passes)
+      (each_only (λ t. of_suit s t || is_honor t) (λ t h k. or_left (of_suit s t) (is_honor t) (o.alone t h k))))))
+      (not_T (some is_honor c) (λ f.
+      let r = some_there is_honor f in
+      T_not (is_suited r.tile && is_honor r.tile)
+      (all_mem (λ t. not (is_suited t && is_honor t)) {l = tiles} tt (in_tiles r.tile r.is_tile))
+      (and_both (is_suited r.tile) _ (and_left (is_suited r.tile) _ (o.alone r.tile r.is_tile r.held)) r.passes)))

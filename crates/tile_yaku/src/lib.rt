@@ -1,9 +1,9 @@
 // Yaku that ask every tile of the hand, calls included (yaku.rs of agari): found once for a hand, whatever its readings.
 ghost use Rattle.std.specs.Prelude.{◌≡◌, not, cond, ◌<◌, eqb, leb, length};
 ghost use Rattle.lists.specs.Fold.{all_below};
-ghost use Rattle.tile.specs.Tile.{isGreen, isHonor, isSimple, isTerminal};
+ghost use Rattle.tile.specs.Tile.{is_green, is_honor, is_simple, is_terminal};
 ghost use Rattle.hand.specs.Counts.{held};
-ghost use Rattle.tile_yaku.specs.Tiles.{some, oneSuit, chinitsu, gate, nineGates, pureWait, tileYaku};
+ghost use Rattle.tile_yaku.specs.Tiles.{some, one_suit, chinitsu, gate, nine_gates, pure_wait, tile_yaku};
 
 // What all tiles together are.
 #[derive(Drop)]
@@ -32,10 +32,10 @@ pub struct Sorts {
 fn sorts_of(counts: &[u8]) -> Sorts
     requires { length counts.now ≡ 34 }
     ensures { result ≡ record {
-      simple = some isSimple (held counts.now);
-      terminal = some isTerminal (held counts.now);
-      honor = some isHonor (held counts.now);
-      other_than_green = some (λ t. not (isGreen t)) (held counts.now);
+      simple = some is_simple (held counts.now);
+      terminal = some is_terminal (held counts.now);
+      honor = some is_honor (held counts.now);
+      other_than_green = some (λ t. not (is_green t)) (held counts.now);
     } }
 {
     let mut simple = false;
@@ -63,7 +63,7 @@ fn sorts_of(counts: &[u8]) -> Sorts
 // Are there tiles of exactly one suit? It leaves both loops at the first tile of a second one.
 fn check_flush(counts: &[u8]) -> bool
     requires { length counts.now ≡ 34 }
-    ensures { result ≡ oneSuit (held counts.now) }
+    ensures { result ≡ one_suit (held counts.now) }
 {
     let mut only = 3;
     'suits: for suit in 0..3 {
@@ -114,7 +114,7 @@ fn fits_gate(count: u8, in_suit: bool, terminal: bool) -> bool
 // Nine gates: 14 tiles of one suit, at least three of each terminal and one of each other number. Only a full flush has them.
 fn check_chuuren_poutou(counts: &[u8], full_flush: bool) -> bool
     requires { (length counts.now ≡ 34) × (full_flush ≡ chinitsu (held counts.now)) }
-    ensures { result ≡ nineGates (held counts.now) }
+    ensures { result ≡ nine_gates (held counts.now) }
 {
     if !full_flush {
         return false;
@@ -128,7 +128,7 @@ fn check_chuuren_poutou(counts: &[u8], full_flush: bool) -> bool
 // Is the winning tile the one over nine gates?
 fn is_pure_wait(counts: &[u8], t: u8) -> bool
     requires { length counts.now ≡ 34 }
-    ensures { result ≡ pureWait (held counts.now) t }
+    ensures { result ≡ pure_wait (held counts.now) t }
 {
     if 34 <= t {
         return false;
@@ -144,7 +144,7 @@ fn is_pure_wait(counts: &[u8], t: u8) -> bool
 // What all tiles together are; t is the winning tile.
 pub fn tile_yaku(counts: &[u8], t: u8) -> TileYaku
     requires { length counts.now ≡ 34 }
-    ensures { result ≡ tileYaku (held counts.now) t }
+    ensures { result ≡ tile_yaku (held counts.now) t }
 {
     let sorts = sorts_of(counts);
     let simple = sorts.simple;

@@ -1,17 +1,17 @@
 // Two tables at once: a win, and the same win renamed, each scored by the unit; and whether the two answers agree.
 ghost use Rattle.std.specs.Prelude.{◌≡◌, true, ◌<◌};
-ghost use Rattle.tile.specs.Renaming.{ren, orderBack, back};
+ghost use Rattle.tile.specs.Renaming.{ren, order_back, back};
 ghost use Rattle.rules.specs.Rules.{game};
-ghost use Rattle.context.specs.Context.{renWin};
+ghost use Rattle.context.specs.Context.{ren_win};
 ghost use Rattle.hand.specs.Counts.{held};
-ghost use Rattle.renamed.specs.Renamed.{renCounts};
-ghost use Rattle.win.specs.Win.{winCheckIn, scoreWinIn, winCheck, scoreWin};
+ghost use Rattle.renamed.specs.Renamed.{ren_counts};
+ghost use Rattle.win.specs.Win.{win_check_in, score_win_in, win_check, score_win};
 ghost use Rattle.agreement.specs.Agreement.{StaysAllowed, NotGreen, Comparable};
-ghost use Rattle.twins.specs.Twins.{renCalls, levelNumber, kind_of, firstAmount, secondAmount, agrees};
+ghost use Rattle.twins.specs.Twins.{ren_calls, level_number, kind_of, first_amount, second_amount, agrees};
 
 // The order that undoes a change of places.
 fn order_back(order: tile::Order) -> tile::Order
-    ensures { result ≡ orderBack order }
+    ensures { result ≡ order_back order }
 {
     match order {
         tile::Order::Abc => tile::Order::Abc,
@@ -59,7 +59,7 @@ fn count_of(counts: &[u8], t: usize, by: tile::Renaming) -> u8
 
 // The counts renamed: the count of a tile becomes the count of its renamed tile.
 pub fn renamed_counts(counts: &[u8], by: tile::Renaming) -> [u8; 34]
-    ensures { result ≡ renCounts by counts.now }
+    ensures { result ≡ ren_counts by counts.now }
 {
     let undo = back(by);
     let mut renamed = [0u8; 34];
@@ -73,7 +73,7 @@ pub fn renamed_counts(counts: &[u8], by: tile::Renaming) -> [u8; 34]
 
 // The calls renamed, in their order.
 pub fn renamed_calls(k: checks::Calls, by: tile::Renaming) -> checks::Calls
-    ensures { result ≡ renCalls by k }
+    ensures { result ≡ ren_calls by k }
 {
     let melds = k.melds;
     let a = melds[0];
@@ -88,7 +88,7 @@ pub fn renamed_calls(k: checks::Calls, by: tile::Renaming) -> checks::Calls
 
 // A level as a number, different for each.
 fn level_number(level: scoring::ScoreLevel) -> u16
-    ensures { result ≡ levelNumber level }
+    ensures { result ≡ level_number level }
 {
     match level {
         scoring::ScoreLevel::Normal => 0,
@@ -116,7 +116,7 @@ fn kind_of(p: scoring::Payment) -> u8
 
 // What the discarder, each player, or the dealer pays.
 fn first_amount(p: scoring::Payment) -> u32
-    ensures { result ≡ firstAmount p }
+    ensures { result ≡ first_amount p }
 {
     match p {
         scoring::Payment::Ron { from_discarder } => from_discarder,
@@ -130,7 +130,7 @@ fn first_amount(p: scoring::Payment) -> u32
 
 // What each non-dealer pays beside the dealer, else 0.
 fn second_amount(p: scoring::Payment) -> u32
-    ensures { result ≡ secondAmount p }
+    ensures { result ≡ second_amount p }
 {
     match p {
         scoring::Payment::Ron { from_discarder: _ } => 0,
@@ -175,8 +175,8 @@ pub fn agree_in(
     v: rules::Variant,
     by: tile::Renaming,
 ) -> bool
-    ensures answer { result ≡ agrees (scoreWinIn (game v) (renCounts by counts.now) (renCalls by k) (renWin by w)) (scoreWinIn (game v) counts.now k w) }
-    ensures agreement { StaysAllowed (game v) by → winCheckIn (game v) counts.now k w ≡ 0 → NotGreen counts.now k → NotGreen (renCounts by counts.now) (renCalls by k) → Comparable by w → result ≡ true }
+    ensures answer { result ≡ agrees (score_win_in (game v) (ren_counts by counts.now) (ren_calls by k) (ren_win by w)) (score_win_in (game v) counts.now k w) }
+    ensures agreement { StaysAllowed (game v) by → win_check_in (game v) counts.now k w ≡ 0 → NotGreen counts.now k → NotGreen (ren_counts by counts.now) (ren_calls by k) → Comparable by w → result ≡ true }
 {
     let first = win::score_win_in(counts, k, w, v);
     let renamed = renamed_counts(counts, by);
@@ -186,8 +186,8 @@ pub fn agree_in(
 
 // With four players: where the first passes the checks, neither hand is all green and, if an indicator is shown, suits alone are exchanged, the two agree.
 pub fn agree(counts: &[u8], k: checks::Calls, w: context::GameContext, by: tile::Renaming) -> bool
-    ensures answer { result ≡ agrees (scoreWin (renCounts by counts.now) (renCalls by k) (renWin by w)) (scoreWin counts.now k w) }
-    ensures agreement { winCheck counts.now k w ≡ 0 → NotGreen counts.now k → NotGreen (renCounts by counts.now) (renCalls by k) → Comparable by w → result ≡ true }
+    ensures answer { result ≡ agrees (score_win (ren_counts by counts.now) (ren_calls by k) (ren_win by w)) (score_win counts.now k w) }
+    ensures agreement { win_check counts.now k w ≡ 0 → NotGreen counts.now k → NotGreen (ren_counts by counts.now) (ren_calls by k) → Comparable by w → result ≡ true }
 {
     agree_in(counts, k, w, rules::Variant::Yonma, by)
 }

@@ -11,41 +11,41 @@ use Rattle.lists.proofs.Stores.{sets_first}
 use borrow.Author.Tests.{eq-eqb, ne_eqb, le-leb, lt-leb}
 use Rattle.rules.specs.Rules.{Game}
 use Rattle.checks.specs.declared.Calls.{Calls}
-use Rattle.checks.specs.Checks.{handCheckIn}
+use Rattle.checks.specs.Checks.{hand_check_in}
 use Rattle.unit.specs.declared.Listing.TheVariants.{Refused, Listed}
-use Rattle.unit.specs.Listing.{handReadings, handRecords, listingIn, writtenIn}
+use Rattle.unit.specs.Listing.{hand_readings, hand_records, listing_in, written_in}
 
 module _ (g : Game) (cs : List ℕ) (k : Calls) where
   -- ---- refused by a check
-  pub refused-answer : (n room : ℕ) → n ≡ handCheckIn g cs k → (n ≡ 0 → ⊥) → Refused n ≡ listingIn g cs k room
-  unfolding listingIn
-  refused-answer n room e z = sym (simp (ne_eqb (handCheckIn g cs k) 0 (λ q. z (e ∙ q)), ← e))
+  pub refused_answer : (n room : ℕ) → n ≡ hand_check_in g cs k → (n ≡ 0 → ⊥) → Refused n ≡ listing_in g cs k room
+  unfolding listing_in
+  refused_answer n room e z = sym (simp (ne_eqb (hand_check_in g cs k) 0 (λ q. z (e ∙ q)), ← e))
 
-  pub refused-buffer : (n : ℕ) (buffer : List ℕ) → n ≡ handCheckIn g cs k → (n ≡ 0 → ⊥) → buffer ≡ writtenIn g cs k buffer
-  unfolding writtenIn
-  refused-buffer n buffer e z = sym (simp (ne_eqb (handCheckIn g cs k) 0 (λ q. z (e ∙ q))))
+  pub refused_buffer : (n : ℕ) (buffer : List ℕ) → n ≡ hand_check_in g cs k → (n ≡ 0 → ⊥) → buffer ≡ written_in g cs k buffer
+  unfolding written_in
+  refused_buffer n buffer e z = sym (simp (ne_eqb (hand_check_in g cs k) 0 (λ q. z (e ∙ q))))
 
-  module _ (passed : handCheckIn g cs k ≡ 0) where
+  module _ (passed : hand_check_in g cs k ≡ 0) where
     -- ---- refused for want of room
-    pub short-answer : (room : ℕ) → room < length (handRecords cs k) → Refused 7 ≡ listingIn g cs k room
-    unfolding listingIn
-    short-answer room h = sym (simp (eq-eqb (handCheckIn g cs k) 0 passed, lt-leb (length (handRecords cs k)) room h))
+    pub short_answer : (room : ℕ) → room < length (hand_records cs k) → Refused 7 ≡ listing_in g cs k room
+    unfolding listing_in
+    short_answer room h = sym (simp (eq-eqb (hand_check_in g cs k) 0 passed, lt-leb (length (hand_records cs k)) room h))
 
-    pub short-buffer : (buffer : List ℕ) → length buffer < length (handRecords cs k) → buffer ≡ writtenIn g cs k buffer
-    unfolding writtenIn
-    short-buffer buffer h = sym (simp (eq-eqb (handCheckIn g cs k) 0 passed, lt-leb (length (handRecords cs k)) (length buffer) h))
+    pub short_buffer : (buffer : List ℕ) → length buffer < length (hand_records cs k) → buffer ≡ written_in g cs k buffer
+    unfolding written_in
+    short_buffer buffer h = sym (simp (eq-eqb (hand_check_in g cs k) 0 passed, lt-leb (length (hand_records cs k)) (length buffer) h))
 
     -- ---- listed
     pub listed_answer :
-        (room readings bytes : ℕ) → length (handRecords cs k) ≤ room → readings ≡ length (handReadings cs k) → bytes ≡ length (handRecords cs k)
-        → Listed readings bytes ≡ listingIn g cs k room
-    unfolding listingIn
-    listed_answer room readings bytes h e f = sym (simp (eq-eqb (handCheckIn g cs k) 0 passed, le-leb (length (handRecords cs k)) room h, ← e, ← f))
+        (room readings bytes : ℕ) → length (hand_records cs k) ≤ room → readings ≡ length (hand_readings cs k) → bytes ≡ length (hand_records cs k)
+        → Listed readings bytes ≡ listing_in g cs k room
+    unfolding listing_in
+    listed_answer room readings bytes h e f = sym (simp (eq-eqb (hand_check_in g cs k) 0 passed, le-leb (length (hand_records cs k)) room h, ← e, ← f))
 
-    pub listed-buffer : (buffer out : List ℕ) → length (handRecords cs k) ≤ length buffer → out ≡ sets buffer 0 (handRecords cs k) → out ≡ writtenIn g cs k buffer
-    unfolding writtenIn
-    listed-buffer buffer out h e =
-        let accepted : eqb (handCheckIn g cs k) 0 && leb (length (handRecords cs k)) (length buffer) ≡ true =
-        simp (eq-eqb (handCheckIn g cs k) 0 passed, le-leb (length (handRecords cs k)) (length buffer) h) in
-        e ∙ sets_first buffer (handRecords cs k) h
-        ∙ ap (λ (b : Bool). cond b (handRecords cs k ++ drop (length (handRecords cs k)) buffer) buffer) (sym accepted)
+    pub listed_buffer : (buffer out : List ℕ) → length (hand_records cs k) ≤ length buffer → out ≡ sets buffer 0 (hand_records cs k) → out ≡ written_in g cs k buffer
+    unfolding written_in
+    listed_buffer buffer out h e =
+        let accepted : eqb (hand_check_in g cs k) 0 && leb (length (hand_records cs k)) (length buffer) ≡ true =
+        simp (eq-eqb (hand_check_in g cs k) 0 passed, le-leb (length (hand_records cs k)) (length buffer) h) in
+        e ∙ sets_first buffer (hand_records cs k) h
+        ∙ ap (λ (b : Bool). cond b (hand_records cs k ++ drop (length (hand_records cs k)) buffer) buffer) (sym accepted)

@@ -5,36 +5,36 @@ use Prim.Native.Nat.{ℕ, ◌-◌}
 use lib.ListN.{take}
 use Rattle.tile.specs.Named.{mans, pins, sous}
 use Rattle.hand.specs.Named.{hand}
-use Rattle.hand.specs.Records.{recordOf, standardBytes}
-use Rattle.hand.specs.Readings.{readings, sevenPairs, thirteenOrphans, standardsAt, meldLists}
+use Rattle.hand.specs.Records.{record_of, standard_bytes}
+use Rattle.hand.specs.Readings.{readings, seven_pairs, thirteen_orphans, standards_at, meld_lists}
 use Rattle.checks.specs.declared.Calls.{Calls}
-use Rattle.checks.specs.Checks.{check, handCheckIn}
+use Rattle.checks.specs.Checks.{check, hand_check_in}
 use Rattle.unit.specs.declared.Listing.TheVariants.{Refused, Listed}
-use Rattle.unit.specs.Listing.{number_of, handReadings, handRecords, listing, listingIn}
+use Rattle.unit.specs.Listing.{number_of, hand_readings, hand_records, listing, listing_in}
 
-abbrev nothingCalled : Calls
-nothingCalled = record { count = 0; melds = [] }
+abbrev nothing_called : Calls
+nothing_called = record { count = 0; melds = [] }
 
 -- the counts of 123 55 man, 456 pin, 234 678 sou: one reading, a standard one
 abbrev played : List ℕ
 played = hand (mans 12355 ++ (pins 456 ++ sous 234678))
 
 -- ---- 7: fewer bytes are lent than the records need
-pub one-byte-short : number_of (listing played nothingCalled (standardBytes - 1)) ≡ 7
-unfolding listingIn handRecords handReadings readings sevenPairs thirteenOrphans standardsAt meldLists recordOf handCheckIn check
-one-byte-short = refl
+pub one_byte_short : number_of (listing played nothing_called (standard_bytes - 1)) ≡ 7
+unfolding listing_in hand_records hand_readings readings seven_pairs thirteen_orphans standards_at meld_lists record_of hand_check_in check
+one_byte_short = refl
 
 -- just enough
-pub just_enough : listing played nothingCalled standardBytes ≡ Listed 1 standardBytes
-unfolding listingIn handRecords handReadings readings sevenPairs thirteenOrphans standardsAt meldLists recordOf handCheckIn check
+pub just_enough : listing played nothing_called standard_bytes ≡ Listed 1 standard_bytes
+unfolding listing_in hand_records hand_readings readings seven_pairs thirteen_orphans standards_at meld_lists record_of hand_check_in check
 just_enough = refl
 
 -- ---- 1: the counts are not 34 long, though there is room
-pub one-count-short : listing (take 33 played) nothingCalled standardBytes ≡ Refused 1
-unfolding listingIn handCheckIn check
-one-count-short = refl
+pub one_count_short : listing (take 33 played) nothing_called standard_bytes ≡ Refused 1
+unfolding listing_in hand_check_in check
+one_count_short = refl
 
 -- ---- two faults: the lower number
-pub one-before-seven : listing (take 33 played) nothingCalled 0 ≡ Refused 1
-unfolding listingIn handCheckIn check
-one-before-seven = refl
+pub one_before_seven : listing (take 33 played) nothing_called 0 ≡ Refused 1
+unfolding listing_in hand_check_in check
+one_before_seven = refl

@@ -10,80 +10,80 @@ use Rattle.meld.specs.declared.Meld.{Meld}
 use Rattle.meld.specs.Meld.{key, meld}
 use Rattle.hand.specs.Counts.{held}
 use Rattle.hand.specs.Reading.{Reading, orphans, pairs}
-use Rattle.hand.specs.Records.{recordOf, records}
-use Rattle.hand.specs.Readings.{isPairs, sevenPairs, thirteenOrphans, twos, uncalled}
+use Rattle.hand.specs.Records.{record_of, records}
+use Rattle.hand.specs.Readings.{is_pairs, seven_pairs, thirteen_orphans, twos, uncalled}
 use Rattle.hand.proofs.Lowest.{flat_append}
 use Rattle.search.specs.Slots.{put_all, slots_of}
-use Rattle.unit.specs.FirstPass.{putCall, orphanRecords, sevenRecords}
+use Rattle.unit.specs.FirstPass.{put_call, orphan_records, seven_records}
 
 -- ---- nothing called
 pub none_of : {A : Type 0} (l : List A) → length l ≡ 0 → l ≡ []
 none_of [] e = refl
 none_of (x ∷ l) e = absurd (omega arith)
 
-module _ (cs : List ℕ) (seven : Bool) (p : ℕ) (e : seven ≡ isPairs (held cs)) (f : thirteenOrphans (held cs) ≡ cond (ltb p 34) (orphans p ∷ []) []) where
-  seven-list : sevenPairs (held cs) ≡ cond seven (sevenPairs (held cs)) []
-  unfolding sevenPairs
-  seven-list = ap (λ (b : Bool). cond b (pairs (twos (held cs)) ∷ []) []) (sym e) ∙ again seven ∙ ap (λ (b : Bool). cond seven (cond b (pairs (twos (held cs)) ∷ []) []) []) e
+module _ (cs : List ℕ) (seven : Bool) (p : ℕ) (e : seven ≡ is_pairs (held cs)) (f : thirteen_orphans (held cs) ≡ cond (ltb p 34) (orphans p ∷ []) []) where
+  seven_list : seven_pairs (held cs) ≡ cond seven (seven_pairs (held cs)) []
+  unfolding seven_pairs
+  seven_list = ap (λ (b : Bool). cond b (pairs (twos (held cs)) ∷ []) []) (sym e) ∙ again seven ∙ ap (λ (b : Bool). cond seven (cond b (pairs (twos (held cs)) ∷ []) []) []) e
     where
       again : (b : Bool) → cond b (pairs (twos (held cs)) ∷ []) [] ≡ cond b (cond b (pairs (twos (held cs)) ∷ []) []) []
       again true = refl
       again false = refl
 
-  seven-one : length (sevenPairs (held cs)) ≡ cond seven 1 0
-  unfolding sevenPairs
-  seven-one = ap (λ (b : Bool). length (cond b (pairs (twos (held cs)) ∷ []) [])) (sym e) ∙ size seven
+  seven_one : length (seven_pairs (held cs)) ≡ cond seven 1 0
+  unfolding seven_pairs
+  seven_one = ap (λ (b : Bool). length (cond b (pairs (twos (held cs)) ∷ []) [])) (sym e) ∙ size seven
     where
       size : (b : Bool) → length (cond b (pairs (twos (held cs)) ∷ []) []) ≡ cond b 1 0
       size true = refl
       size false = refl
 
-  orphan-one : length (thirteenOrphans (held cs)) ≡ cond (ltb p 34) 1 0
-  orphan-one = ap length f ∙ size (ltb p 34)
+  orphan_one : length (thirteen_orphans (held cs)) ≡ cond (ltb p 34) 1 0
+  orphan_one = ap length f ∙ size (ltb p 34)
     where
       size : (b : Bool) → length (cond b (orphans p ∷ []) []) ≡ cond b 1 0
       size true = refl
       size false = refl
 
-  pub special-records : records (sevenPairs (held cs) ++ thirteenOrphans (held cs)) ≡ sevenRecords cs seven ++ orphanRecords p
-  special-records =
-      flat_append recordOf (sevenPairs (held cs)) (thirteenOrphans (held cs))
-      ∙ ap₂ ◌++◌ (ap records seven-list ∙ seven-part seven) (ap records f ∙ orphan-part (ltb p 34))
+  pub special_records_holds : records (seven_pairs (held cs) ++ thirteen_orphans (held cs)) ≡ seven_records cs seven ++ orphan_records p
+  special_records_holds =
+      flat_append record_of (seven_pairs (held cs)) (thirteen_orphans (held cs))
+      ∙ ap₂ ◌++◌ (ap records seven_list ∙ seven_part seven) (ap records f ∙ orphan_part (ltb p 34))
     where
-      seven-part : (b : Bool) → records (cond b (sevenPairs (held cs)) []) ≡ cond b (records (sevenPairs (held cs))) []
-      seven-part true = refl
-      seven-part false = refl
+      seven_part : (b : Bool) → records (cond b (seven_pairs (held cs)) []) ≡ cond b (records (seven_pairs (held cs))) []
+      seven_part true = refl
+      seven_part false = refl
 
-      orphan-part : (b : Bool) → records (cond b (orphans p ∷ []) []) ≡ cond b (recordOf (orphans p)) []
-      orphan-part true = append-nil (recordOf (orphans p))
-      orphan-part false = refl
+      orphan_part : (b : Bool) → records (cond b (orphans p ∷ []) []) ≡ cond b (record_of (orphans p)) []
+      orphan_part true = append-nil (record_of (orphans p))
+      orphan_part false = refl
 
-  pub special-count : length (sevenPairs (held cs) ++ thirteenOrphans (held cs)) ≡ cond seven 1 0 + cond (ltb p 34) 1 0
-  special-count = length-append (sevenPairs (held cs)) (thirteenOrphans (held cs)) ∙ ap₂ ◌+◌ seven-one orphan-one
+  pub special_count : length (seven_pairs (held cs) ++ thirteen_orphans (held cs)) ≡ cond seven 1 0 + cond (ltb p 34) 1 0
+  special_count = length-append (seven_pairs (held cs)) (thirteen_orphans (held cs)) ∙ ap₂ ◌+◌ seven_one orphan_one
 
 -- ---- uncalled, and called
-pub nothing-called : (k : List Meld) → length k ≡ 0 → (l : List Reading) → uncalled k l ≡ l
-nothing-called k e l = ap (λ (c : List Meld). uncalled c l) (none_of k e)
+pub nothing_called_holds : (k : List Meld) → length k ≡ 0 → (l : List Reading) → uncalled k l ≡ l
+nothing_called_holds k e l = ap (λ (c : List Meld). uncalled c l) (none_of k e)
 
-pub something-called : (k : List Meld) → (length k ≡ 0 → ⊥) → (l : List Reading) → uncalled k l ≡ []
-something-called [] e l = absurd (e refl)
-something-called (m ∷ k) e l = refl
+pub something_called : (k : List Meld) → (length k ≡ 0 → ⊥) → (l : List Reading) → uncalled k l ≡ []
+something_called [] e l = absurd (e refl)
+something_called (m ∷ k) e l = refl
 
 -- ---- the calls in slots
-pub slots-are : (n : ℕ) (ms : List Meld) → length ms ≡ 4 → n ≤ 4 → slots_of (take n ms)
-    ≡ putCall (ltb 3 n) (key (get_or ms 3 (meld 0 0)))
-    (putCall (ltb 2 n) (key (get_or ms 2 (meld 0 0)))
-    (putCall (ltb 1 n) (key (get_or ms 1 (meld 0 0)))
-    (putCall (ltb 0 n) (key (get_or ms 0 (meld 0 0))) (65535 ∷ 65535 ∷ 65535 ∷ 65535 ∷ []))))
+pub slots_are : (n : ℕ) (ms : List Meld) → length ms ≡ 4 → n ≤ 4 → slots_of (take n ms)
+    ≡ put_call (ltb 3 n) (key (get_or ms 3 (meld 0 0)))
+    (put_call (ltb 2 n) (key (get_or ms 2 (meld 0 0)))
+    (put_call (ltb 1 n) (key (get_or ms 1 (meld 0 0)))
+    (put_call (ltb 0 n) (key (get_or ms 0 (meld 0 0))) (65535 ∷ 65535 ∷ 65535 ∷ 65535 ∷ []))))
 unfolding slots_of put_all
-slots-are n [] e h = absurd (omega arith)
-slots-are n (a ∷ []) e h = absurd (omega arith)
-slots-are n (a ∷ b ∷ []) e h = absurd (omega arith)
-slots-are n (a ∷ b ∷ c ∷ []) e h = absurd (omega arith)
-slots-are zero (a ∷ b ∷ c ∷ d ∷ []) e h = refl
-slots-are (suc zero) (a ∷ b ∷ c ∷ d ∷ []) e h = refl
-slots-are (suc (suc zero)) (a ∷ b ∷ c ∷ d ∷ []) e h = refl
-slots-are (suc (suc (suc zero))) (a ∷ b ∷ c ∷ d ∷ []) e h = refl
-slots-are (suc (suc (suc (suc zero)))) (a ∷ b ∷ c ∷ d ∷ []) e h = refl
-slots-are (suc (suc (suc (suc (suc n))))) (a ∷ b ∷ c ∷ d ∷ []) e h = absurd (omega arith)
-slots-are n (a ∷ b ∷ c ∷ d ∷ x ∷ ms) e h = absurd (omega arith)
+slots_are n [] e h = absurd (omega arith)
+slots_are n (a ∷ []) e h = absurd (omega arith)
+slots_are n (a ∷ b ∷ []) e h = absurd (omega arith)
+slots_are n (a ∷ b ∷ c ∷ []) e h = absurd (omega arith)
+slots_are zero (a ∷ b ∷ c ∷ d ∷ []) e h = refl
+slots_are (suc zero) (a ∷ b ∷ c ∷ d ∷ []) e h = refl
+slots_are (suc (suc zero)) (a ∷ b ∷ c ∷ d ∷ []) e h = refl
+slots_are (suc (suc (suc zero))) (a ∷ b ∷ c ∷ d ∷ []) e h = refl
+slots_are (suc (suc (suc (suc zero)))) (a ∷ b ∷ c ∷ d ∷ []) e h = refl
+slots_are (suc (suc (suc (suc (suc n))))) (a ∷ b ∷ c ∷ d ∷ []) e h = absurd (omega arith)
+slots_are n (a ∷ b ∷ c ∷ d ∷ x ∷ ms) e h = absurd (omega arith)

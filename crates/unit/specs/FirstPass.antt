@@ -4,10 +4,10 @@ use Rattle.std.specs.Prelude.{◌≡◌, Bool, true, cond, List, [], ◌++◌, �
 use Rattle.tile.specs.Tile.{tiles}
 use Rattle.hand.specs.Counts.{held}
 use Rattle.hand.specs.Reading.{Reading, orphans}
-use Rattle.hand.specs.Records.{recordOf, standardBytes, records}
-use Rattle.hand.specs.Readings.{isPairs, sevenPairs, thirteenOrphans, uncalled}
+use Rattle.hand.specs.Records.{record_of, standard_bytes, records}
+use Rattle.hand.specs.Readings.{is_pairs, seven_pairs, thirteen_orphans, uncalled}
 use Rattle.search.specs.Slots.{put, slots_of}
-use Rattle.decompose.specs.Pairs.{foundWith, recordsOver}
+use Rattle.decompose.specs.Pairs.{found_with, records_over}
 use Rattle.checks.specs.declared.Calls.{Calls}
 use Rattle.checks.specs.Checks.{called}
 use Rattle.unit.specs.declared.Found.{Found}
@@ -15,49 +15,49 @@ use Rattle.unit.specs.declared.FoundSpecial.{FoundSpecial}
 
 -- the readings of seven pairs and of thirteen orphans
 unfoldable pub specials : List ℕ → Calls → List Reading
-specials cs k = uncalled (called k) (sevenPairs (held cs) ++ thirteenOrphans (held cs))
+specials cs k = uncalled (called k) (seven_pairs (held cs) ++ thirteen_orphans (held cs))
 
 -- the records of the standard readings of the counts c
-unfoldable pub standardRecords : (ℕ → ℕ) → Calls → List ℕ
-standardRecords c k = recordsOver (4 - k.count) c (slots_of (called k)) tiles
+unfoldable pub standard_records : (ℕ → ℕ) → Calls → List ℕ
+standard_records c k = records_over (4 - k.count) c (slots_of (called k)) tiles
 
 -- how many readings of seven pairs and thirteen orphans were found, and how many bytes their records need
-abbrev pub readingsIn : FoundSpecial → ℕ
-readingsIn f = cond f.seven 1 0 + cond (ltb f.orphan 34) 1 0
+abbrev pub readings_in : FoundSpecial → ℕ
+readings_in f = cond f.seven 1 0 + cond (ltb f.orphan 34) 1 0
 
-abbrev pub bytesIn : FoundSpecial → ℕ
-bytesIn f = cond f.seven 11 0 + cond (ltb f.orphan 34) 5 0
+abbrev pub bytes_in : FoundSpecial → ℕ
+bytes_in f = cond f.seven 11 0 + cond (ltb f.orphan 34) 5 0
 
 -- how many readings were found, and how many bytes their records need
-abbrev pub readingsFound : Found → ℕ
-readingsFound f = f.standard + readingsIn f.special
+abbrev pub readings_found : Found → ℕ
+readings_found f = f.standard + readings_in f.special
 
-abbrev pub bytesFound : Found → ℕ
-bytesFound f = f.standard * standardBytes + bytesIn f.special
+abbrev pub bytes_found : Found → ℕ
+bytes_found f = f.standard * standard_bytes + bytes_in f.special
 
 -- the records of seven pairs and of thirteen orphans, where they were found
-abbrev pub sevenRecords : List ℕ → Bool → List ℕ
-sevenRecords cs seven = cond seven (records (sevenPairs (held cs))) []
+abbrev pub seven_records : List ℕ → Bool → List ℕ
+seven_records cs seven = cond seven (records (seven_pairs (held cs))) []
 
-abbrev pub orphanRecords : ℕ → List ℕ
-orphanRecords p = cond (ltb p 34) (recordOf (orphans p)) []
+abbrev pub orphan_records : ℕ → List ℕ
+orphan_records p = cond (ltb p 34) (record_of (orphans p)) []
 
-unfoldable pub specialRecords : List ℕ → FoundSpecial → List ℕ
-specialRecords cs f = sevenRecords cs f.seven ++ orphanRecords f.orphan
+unfoldable pub special_records : List ℕ → FoundSpecial → List ℕ
+special_records cs f = seven_records cs f.seven ++ orphan_records f.orphan
 
 -- what was found of seven pairs and thirteen orphans is what there is
 pub record FindsSpecial (cs : List ℕ) (k : Calls) (f : FoundSpecial) : Type 0 where
   pub calls : length (called k) ≡ k.count
-  pub listed : records (specials cs k) ≡ specialRecords cs f
-  pub counted : length (specials cs k) ≡ readingsIn f
-  pub pairs : f.seven ≡ true → isPairs (held cs) ≡ true
+  pub listed : records (specials cs k) ≡ special_records cs f
+  pub counted : length (specials cs k) ≡ readings_in f
+  pub pairs : f.seven ≡ true → is_pairs (held cs) ≡ true
 
 -- what was found is what there is; `few` is far more than there can be, and keeps the code's sums in range
 pub record Finds (cs : List ℕ) (k : Calls) (f : Found) : Type 0 where
   pub special : FindsSpecial cs k f.special
-  pub standard : f.standard ≡ length (foundWith (4 - k.count) (held cs) tiles)
+  pub standard : f.standard ≡ length (found_with (4 - k.count) (held cs) tiles)
   pub few : f.standard ≤ 2176
 
 -- slots with a number put in its place, if it is there
-abbrev pub putCall : Bool → ℕ → List ℕ → List ℕ
-putCall there x slots = cond there (put x slots) slots
+abbrev pub put_call : Bool → ℕ → List ℕ → List ℕ
+put_call there x slots = cond there (put x slots) slots

@@ -6,7 +6,7 @@ use Rattle.hand.specs.Reading.{Reading}
 use Rattle.hand.specs.Records.{records}
 use Rattle.hand.specs.Readings.{readings}
 use Rattle.checks.specs.declared.Calls.{Calls}
-use Rattle.checks.specs.Checks.{called, handCheckIn}
+use Rattle.checks.specs.Checks.{called, hand_check_in}
 use Rattle.unit.specs.declared.Listing.{Listing}
 use Rattle.unit.specs.declared.Listing.TheVariants.{Refused, Listed}
 
@@ -15,38 +15,38 @@ abbrev pub number_of : Listing → ℕ
 number_of (Refused n) = n
 number_of (Listed readings bytes) = 0
 
-abbrev pub readingsOf : Listing → ℕ
-readingsOf (Refused n) = 0
-readingsOf (Listed readings bytes) = readings
+abbrev pub readings_of : Listing → ℕ
+readings_of (Refused n) = 0
+readings_of (Listed readings bytes) = readings
 
 abbrev pub bytes_of : Listing → ℕ
 bytes_of (Refused n) = 0
 bytes_of (Listed readings bytes) = bytes
 
 -- the readings of the counts with the calls, and their records
-unfoldable pub handReadings : List ℕ → Calls → List Reading
-handReadings cs k = readings (held cs) (called k)
+unfoldable pub hand_readings : List ℕ → Calls → List Reading
+hand_readings cs k = readings (held cs) (called k)
 
-unfoldable pub handRecords : List ℕ → Calls → List ℕ
-handRecords cs k = records (handReadings cs k)
+unfoldable pub hand_records : List ℕ → Calls → List ℕ
+hand_records cs k = records (hand_readings cs k)
 
 -- in the game g, where so many bytes are lent: refused by a check, refused with 7 where the records need more, or listed
-unfoldable pub listingIn : Game → List ℕ → Calls → ℕ → Listing
-listingIn g cs k room =
-    cond (eqb (handCheckIn g cs k) 0)
-    (cond (leb (length (handRecords cs k)) room) (Listed (length (handReadings cs k)) (length (handRecords cs k))) (Refused 7))
-    (Refused (handCheckIn g cs k))
+unfoldable pub listing_in : Game → List ℕ → Calls → ℕ → Listing
+listing_in g cs k room =
+    cond (eqb (hand_check_in g cs k) 0)
+    (cond (leb (length (hand_records cs k)) room) (Listed (length (hand_readings cs k)) (length (hand_records cs k))) (Refused 7))
+    (Refused (hand_check_in g cs k))
 
 -- accepted, the buffer holds the records and after them its old bytes; refused, its old bytes
-unfoldable pub writtenIn : Game → List ℕ → Calls → List ℕ → List ℕ
-writtenIn g cs k buffer =
-    cond (eqb (handCheckIn g cs k) 0 && leb (length (handRecords cs k)) (length buffer))
-    (handRecords cs k ++ drop (length (handRecords cs k)) buffer)
+unfoldable pub written_in : Game → List ℕ → Calls → List ℕ → List ℕ
+written_in g cs k buffer =
+    cond (eqb (hand_check_in g cs k) 0 && leb (length (hand_records cs k)) (length buffer))
+    (hand_records cs k ++ drop (length (hand_records cs k)) buffer)
     buffer
 
 -- with four players and all tiles
 abbrev pub listing : List ℕ → Calls → ℕ → Listing
-listing cs k room = listingIn four cs k room
+listing cs k room = listing_in four cs k room
 
 abbrev pub written : List ℕ → Calls → List ℕ → List ℕ
-written cs k buffer = writtenIn four cs k buffer
+written cs k buffer = written_in four cs k buffer

@@ -7,13 +7,13 @@ ghost use Rattle.rules.specs.Rules.{game};
 ghost use Rattle.meld.specs.Meld.{key};
 ghost use Rattle.hand.specs.Counts.{held};
 ghost use Rattle.hand.specs.Records.{records};
-ghost use Rattle.hand.specs.Readings.{isPairs, thirteenOrphans};
+ghost use Rattle.hand.specs.Readings.{is_pairs, thirteen_orphans};
 ghost use Rattle.search.specs.Slots.{slots_of};
 ghost use Rattle.decompose.specs.Packed.{in_words, Fit};
 ghost use Rattle.decompose.specs.Pairs.{OnlyAt};
-ghost use Rattle.checks.specs.Checks.{called, handCheck};
-ghost use Rattle.unit.specs.Listing.{listing, written, listingIn, writtenIn, handReadings, handRecords};
-ghost use Rattle.unit.specs.FirstPass.{specials, standardRecords, Finds, FindsSpecial, readingsIn, bytesIn, readingsFound, bytesFound, sevenRecords, orphanRecords, putCall};
+ghost use Rattle.checks.specs.Checks.{called, hand_check};
+ghost use Rattle.unit.specs.Listing.{listing, written, listing_in, written_in, hand_readings, hand_records};
+ghost use Rattle.unit.specs.FirstPass.{specials, standard_records, Finds, FindsSpecial, readings_in, bytes_in, readings_found, bytes_found, seven_records, orphan_records, put_call};
 
 // The answer to a listing: refused with a number, or listed, with the count of readings and the count of bytes written.
 #[derive(Drop)]
@@ -47,14 +47,14 @@ fn when(b: bool, n: usize) -> usize
 impl FoundSpecial {
     // How many readings they are.
     fn readings(self) -> usize
-        ensures { (result ≡ readingsIn self) × (result ≤ 2) }
+        ensures { (result ≡ readings_in self) × (result ≤ 2) }
     {
         when(self.seven, 1) + when(self.orphan < 34, 1)
     }
 
     // How many bytes their records need.
     fn bytes(self) -> usize
-        ensures { (result ≡ bytesIn self) × (result ≤ 16) }
+        ensures { (result ≡ bytes_in self) × (result ≤ 16) }
     {
         when(self.seven, 11) + when(self.orphan < 34, 5)
     }
@@ -64,7 +64,7 @@ impl Found {
     // How many readings there are.
     fn readings(self) -> usize
         requires { self.standard ≤ 2176 }
-        ensures { result ≡ readingsFound self }
+        ensures { result ≡ readings_found self }
     {
         let special = self.special;
         self.standard + special.readings()
@@ -73,7 +73,7 @@ impl Found {
     // How many bytes their records need.
     fn bytes(self) -> usize
         requires { self.standard ≤ 2176 }
-        ensures { result ≡ bytesFound self }
+        ensures { result ≡ bytes_found self }
     {
         let special = self.special;
         self.standard * hand::STANDARD_BYTES + special.bytes()
@@ -97,14 +97,14 @@ fn none_odd(counts: &[u8]) -> bool
 // May they be seven pairs or thirteen orphans? A no is certain: of pairs no count is odd, and of orphans the first tile and the last are there.
 fn may_be_special(counts: &[u8]) -> bool
     requires { length counts.now ≡ 34 }
-    ensures { (result ≡ false → isPairs (held counts.now) ≡ false) × (result ≡ false → thirteenOrphans (held counts.now) ≡ []) }
+    ensures { (result ≡ false → is_pairs (held counts.now) ≡ false) × (result ≡ false → thirteen_orphans (held counts.now) ≡ []) }
 {
     none_odd(counts) | ((counts[0] != 0) & (counts[33] != 0))
 }
 
 // Seven pairs and thirteen orphans of a hand that has passed the checks. There are none beside a call, and a cheap question tells most other hands.
 fn find_special(counts: &[u8], k: checks::Calls) -> FoundSpecial
-    requires { handCheck counts.now k ≡ 0 }
+    requires { hand_check counts.now k ≡ 0 }
     ensures { FindsSpecial counts.now k result }
 {
     let count = k.count;
@@ -134,7 +134,7 @@ fn find_readings(
     places: decompose::PairPlaces,
     k: checks::Calls,
 ) -> Found
-    requires { (handCheck counts.now k ≡ 0) × ((in_words h ≡ held counts.now) × (Fit h × OnlyAt (held counts.now) places)) }
+    requires { (hand_check counts.now k ≡ 0) × ((in_words h ≡ held counts.now) × (Fit h × OnlyAt (held counts.now) places)) }
     ensures { Finds counts.now k result }
 {
     let count = k.count;
@@ -147,7 +147,7 @@ fn find_readings(
 
 // The slots with a meld put in its place, if it is called.
 fn put_call(slots: [u16; 4], m: meld::Meld, called: bool) -> [u16; 4]
-    ensures { result ≡ putCall called (key m) slots }
+    ensures { result ≡ put_call called (key m) slots }
 {
     if called {
         return search::put_in(slots, m.key());
@@ -173,8 +173,8 @@ fn slots_of(k: checks::Calls) -> [u16; 4]
 
 // Writes the record of seven pairs where there are some. Answers the place behind it.
 fn write_seven(counts: &[u8], seven: bool, out: &mut [u8]) -> usize
-    requires { (length counts.now ≡ 34) × ((seven ≡ true → isPairs (held counts.now) ≡ true) × (length (sevenRecords counts.now seven) ≤ length out.old)) }
-    ensures { (result ≡ length (sevenRecords counts.now seven)) × (out.new ≡ sets out.old 0 (sevenRecords counts.now seven)) }
+    requires { (length counts.now ≡ 34) × ((seven ≡ true → is_pairs (held counts.now) ≡ true) × (length (seven_records counts.now seven) ≤ length out.old)) }
+    ensures { (result ≡ length (seven_records counts.now seven)) × (out.new ≡ sets out.old 0 (seven_records counts.now seven)) }
 {
     if seven {
         return special::write_chiitoitsu(counts, out, 0);
@@ -184,8 +184,8 @@ fn write_seven(counts: &[u8], seven: bool, out: &mut [u8]) -> usize
 
 // Writes the record of thirteen orphans where there are some. Answers the place behind it.
 fn write_orphan(orphan: usize, out: &mut [u8], at: usize) -> usize
-    requires { at + length (orphanRecords orphan) ≤ length out.old }
-    ensures { (result ≡ at + length (orphanRecords orphan)) × (out.new ≡ sets out.old at (orphanRecords orphan)) }
+    requires { at + length (orphan_records orphan) ≤ length out.old }
+    ensures { (result ≡ at + length (orphan_records orphan)) × (out.new ≡ sets out.old at (orphan_records orphan)) }
 {
     if orphan < 34 {
         return special::write_kokushi((orphan % 256) as u8, out, at);
@@ -202,7 +202,7 @@ pub struct WrittenSpecial {
 
 // Writes the records of seven pairs and of thirteen orphans of a hand that has passed the checks.
 fn write_special(counts: &[u8], k: checks::Calls, out: &mut [u8]) -> WrittenSpecial
-    requires { (handCheck counts.now k ≡ 0) × (length (records (specials counts.now k)) ≤ length out.old) }
+    requires { (hand_check counts.now k ≡ 0) × (length (records (specials counts.now k)) ≤ length out.old) }
     ensures { (result.readings ≡ length (specials counts.now k)) × ((result.readings ≤ 2) × ((result.end ≡ length (records (specials counts.now k))) × (out.new ≡ sets out.old 0 (records (specials counts.now k))))) }
 {
     let special = find_special(counts, k);
@@ -216,7 +216,7 @@ fn write_special(counts: &[u8], k: checks::Calls, out: &mut [u8]) -> WrittenSpec
 // The same where the first pass has found some, which is rare. They are found again, so that nothing of them is kept in between. Answers
 // the place behind them.
 fn write_found(counts: &[u8], k: checks::Calls, special: FoundSpecial, out: &mut [u8]) -> usize
-    requires { (handCheck counts.now k ≡ 0) × (FindsSpecial counts.now k special × (length (records (specials counts.now k)) ≤ length out.old)) }
+    requires { (hand_check counts.now k ≡ 0) × (FindsSpecial counts.now k special × (length (records (specials counts.now k)) ≤ length out.old)) }
     ensures { (result ≡ length (records (specials counts.now k))) × (out.new ≡ sets out.old 0 (records (specials counts.now k))) }
 {
     if special.readings() == 0 {
@@ -234,8 +234,8 @@ fn write_standards(
     out: &mut [u8],
     at: usize,
 ) -> usize
-    requires { (k.count ≤ 4) × (Fit h × (OnlyAt (in_words h) places × (at + length (standardRecords (in_words h) k) ≤ length out.old))) }
-    ensures { (result ≡ at + length (standardRecords (in_words h) k)) × (out.new ≡ sets out.old at (standardRecords (in_words h) k)) }
+    requires { (k.count ≤ 4) × (Fit h × (OnlyAt (in_words h) places × (at + length (standard_records (in_words h) k) ≤ length out.old))) }
+    ensures { (result ≡ at + length (standard_records (in_words h) k)) × (out.new ≡ sets out.old at (standard_records (in_words h) k)) }
 {
     let count = k.count;
     let needed = 4 - (count % 256) as u32;
@@ -244,8 +244,8 @@ fn write_standards(
 
 // Writes the records of all readings of a hand that has passed the checks, where the buffer has room for them. Answers how many they are.
 pub fn write_all(counts: &[u8], k: checks::Calls, out: &mut [u8]) -> usize
-    requires { (handCheck counts.now k ≡ 0) × (length (handRecords counts.now k) ≤ length out.old) }
-    ensures { (result ≡ length (handReadings counts.now k)) × ((result ≤ 2178) × (out.new ≡ sets out.old 0 (handRecords counts.now k))) }
+    requires { (hand_check counts.now k ≡ 0) × (length (hand_records counts.now k) ≤ length out.old) }
+    ensures { (result ≡ length (hand_readings counts.now k)) × ((result ≤ 2178) × (out.new ≡ sets out.old 0 (hand_records counts.now k))) }
 {
     let special = write_special(counts, k, out);
     let start = special.end;
@@ -262,8 +262,8 @@ pub fn list_readings_in(
     v: rules::Variant,
     out: &mut [u8],
 ) -> Listing
-    ensures answer { result ≡ listingIn (game v) counts.now k (length out.old) }
-    ensures buffer { out.new ≡ writtenIn (game v) counts.now k out.old }
+    ensures answer { result ≡ listing_in (game v) counts.now k (length out.old) }
+    ensures buffer { out.new ≡ written_in (game v) counts.now k out.old }
 {
     let number = checks::check_hand(counts, k, v);
     if number != 0 {

@@ -10,11 +10,11 @@ use Rattle.hand.specs.Reading.{Reading, pairs, orphans, standard}
 use Rattle.wait.specs.Wait.{weight, pinfu}
 
 module _ (n : ℕ) (d u : Indicators) (w : GameContext) where
-  pub weight-any-room : (t : ℕ) → weight (elsewhere n d u w) t ≡ weight w t
-  weight-any-room t = refl
+  pub weight_any_room : (t : ℕ) → weight (elsewhere n d u w) t ≡ weight w t
+  weight_any_room t = refl
 
-  pub pinfu-any-room : (opened : Bool) (r : Reading) → pinfu (elsewhere n d u w) opened r ≡ pinfu w opened r
+  pub pinfu_any_room : (opened : Bool) (r : Reading) → pinfu (elsewhere n d u w) opened r ≡ pinfu w opened r
   unfolding pinfu
-  pinfu-any-room opened (pairs ps) = refl
-  pinfu-any-room opened (orphans p) = refl
-  pinfu-any-room opened (standard p ms) = refl
+  pinfu_any_room opened (pairs ps) = refl
+  pinfu_any_room opened (orphans p) = refl
+  pinfu_any_room opened (standard p ms) = refl

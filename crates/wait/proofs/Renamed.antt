@@ -3,40 +3,40 @@ use mathlib.Core.Path.{◌≡◌, refl, sym, subst}
 use mathlib.Core.Bool.{Bool, ◌&&◌}
 use Prim.Native.Nat.{ℕ, ◌<◌}
 use lib.Dec.{T, eqb, ltb, leb, eqb→eq}
-use Rattle.lists.proofs.Finite.{and-cong}
+use Rattle.lists.proofs.Finite.{and_cong}
 use Rattle.tile.specs.declared.Renaming.{Renaming}
 use Rattle.tile.specs.Renaming.{ren}
 use Rattle.meld.specs.declared.Meld.{Meld}
-use Rattle.meld.specs.Meld.{isMeld, isTripletOrKan}
-use Rattle.meld.specs.Renamed.{renMeld}
-use Rattle.meld.proofs.Renamed.{meld-tile-law, onMelds, set-eqb}
-use Rattle.wait.specs.Wait.{within, twoSided, edge, middle, closedRun, closedTriplet}
+use Rattle.meld.specs.Meld.{is_meld, is_triplet_or_kan}
+use Rattle.meld.specs.Renamed.{ren_meld}
+use Rattle.meld.proofs.Renamed.{meld_tile_law, on_melds, set_eqb}
+use Rattle.wait.specs.Wait.{within, two_sided, edge, middle, closed_run, closed_triplet}
 
 -- ---- a tile and a closed sequence, each law by a test
-closed-law :
-    (p : ℕ → ℕ → Bool) → T (onMelds (λ k. eqb k 0) (λ t m. p t m.tile))
-    → (ρ : Renaming) (t : ℕ) → t < 34 → (m : Meld) → T (isMeld m) → closedRun p (ren ρ t) (renMeld ρ m) ≡ closedRun p t m
-closed-law p ok ρ t h m v = and-cong (eqb m.kind 0) (λ i. meld-tile-law (λ k. eqb k 0) (λ t m. p t m.tile) (λ t m. refl) ok ρ m v i t h)
+closed_law :
+    (p : ℕ → ℕ → Bool) → T (on_melds (λ k. eqb k 0) (λ t m. p t m.tile))
+    → (ρ : Renaming) (t : ℕ) → t < 34 → (m : Meld) → T (is_meld m) → closed_run p (ren ρ t) (ren_meld ρ m) ≡ closed_run p t m
+closed_law p ok ρ t h m v = and_cong (eqb m.kind 0) (λ i. meld_tile_law (λ k. eqb k 0) (λ t m. p t m.tile) (λ t m. refl) ok ρ m v i t h)
 
 -- how a question of a tile and a meld moves
 abbrev TileStays : (ℕ → Meld → Bool) → Type 0
-TileStays q = (ρ : Renaming) (t : ℕ) → t < 34 → (m : Meld) → T (isMeld m) → q (ren ρ t) (renMeld ρ m) ≡ q t m
+TileStays q = (ρ : Renaming) (t : ℕ) → t < 34 → (m : Meld) → T (is_meld m) → q (ren ρ t) (ren_meld ρ m) ≡ q t m
 
-pub ren-within : TileStays (closedRun within)
-ren-within = closed-law within tt
+pub ren_within : TileStays (closed_run within)
+ren_within = closed_law within tt
 
-pub ren-twoSided : TileStays (closedRun twoSided)
-ren-twoSided = closed-law twoSided tt
+pub ren_two_sided_holds : TileStays (closed_run two_sided)
+ren_two_sided_holds = closed_law two_sided tt
 
-pub ren-edge : TileStays (closedRun edge)
-ren-edge = closed-law edge tt
+pub ren_edge : TileStays (closed_run edge)
+ren_edge = closed_law edge tt
 
-pub ren-middle : TileStays (closedRun middle)
-ren-middle = closed-law middle tt
+pub ren_middle : TileStays (closed_run middle)
+ren_middle = closed_law middle tt
 
 -- ---- a tile and a closed triplet
-pub closed-set : (m : Meld) → T (eqb m.kind 2) → T (isTripletOrKan m)
-closed-set m i = subst (λ (k : ℕ). T (leb 2 k && ltb k 7)) (sym (eqb→eq m.kind 2 i)) tt
+pub closed_set_holds : (m : Meld) → T (eqb m.kind 2) → T (is_triplet_or_kan m)
+closed_set_holds m i = subst (λ (k : ℕ). T (leb 2 k && ltb k 7)) (sym (eqb→eq m.kind 2 i)) tt
 
-pub ren-triplet : TileStays closedTriplet
-ren-triplet ρ t h m v = and-cong (eqb m.kind 2) (λ i. set-eqb ρ t h m v (closed-set m i))
+pub ren_triplet : TileStays closed_triplet
+ren_triplet ρ t h m v = and_cong (eqb m.kind 2) (λ i. set_eqb ρ t h m v (closed_set_holds m i))

@@ -1,9 +1,9 @@
 // Waits (wait.rs of agari): what the winning tile completed, pinfu, and which triplets are concealed.
 ghost use Rattle.std.specs.Prelude.{◌≡◌, ◌+◌, ◌*◌, ◌≤◌, eqb};
 ghost use Rattle.lists.specs.Fold.{all, any, count, one};
-ghost use Rattle.meld.specs.Meld.{isSequence};
+ghost use Rattle.meld.specs.Meld.{is_sequence};
 ghost use Rattle.structure.specs.Structure.{reading_of};
-ghost use Rattle.wait.specs.Wait.{within, twoSided, edge, middle, closedRun, closedTriplet, waits, weight, pinfu};
+ghost use Rattle.wait.specs.Wait.{within, two_sided, edge, middle, closed_run, closed_triplet, waits, weight, pinfu};
 ghost use Rattle.wait.specs.Concealed.{spared, concealed};
 
 use lists::one_if;
@@ -24,7 +24,7 @@ fn closed_start(m: meld::Meld) -> u32
 
 // Ryanmen: is the tile at an end of a closed sequence, where a tile at the other end would have served too?
 pub fn is_ryanmen(m: meld::Meld, t: u8) -> bool
-    ensures { result ≡ closedRun twoSided t m }
+    ensures { result ≡ closed_run two_sided t m }
 {
     let s = closed_start(m);
     (((t as u32) == s) & !(t % 9 == 6)) | (((t as u32) == s + 2) & !(t % 9 == 2))
@@ -32,14 +32,14 @@ pub fn is_ryanmen(m: meld::Meld, t: u8) -> bool
 
 // Kanchan: is it in the middle of a closed sequence?
 pub fn is_kanchan(m: meld::Meld, t: u8) -> bool
-    ensures { result ≡ closedRun middle t m }
+    ensures { result ≡ closed_run middle t m }
 {
     (t as u32) == closed_start(m) + 1
 }
 
 // Penchan: is it the 7 of a closed 789 or the 3 of a closed 123?
 pub fn is_penchan(m: meld::Meld, t: u8) -> bool
-    ensures { result ≡ closedRun edge t m }
+    ensures { result ≡ closed_run edge t m }
 {
     let s = closed_start(m);
     (((t as u32) == s) & (t % 9 == 6)) | (((t as u32) == s + 2) & (t % 9 == 2))
@@ -47,14 +47,14 @@ pub fn is_penchan(m: meld::Meld, t: u8) -> bool
 
 // Shanpon: is it the tile of a closed triplet?
 pub fn is_shanpon(m: meld::Meld, t: u8) -> bool
-    ensures { result ≡ closedTriplet t m }
+    ensures { result ≡ closed_triplet t m }
 {
     (m.kind == 2) & (t == m.tile)
 }
 
 // Is it one of the three tiles of a closed sequence?
 fn holds(m: meld::Meld, t: u8) -> bool
-    ensures { result ≡ closedRun within t m }
+    ensures { result ≡ closed_run within t m }
 {
     let s = closed_start(m);
     (s <= (t as u32)) & ((t as u32) < s + 3)
@@ -77,7 +77,7 @@ pub fn is_concealed_set(m: meld::Meld, w: context::GameContext, kept: bool) -> b
 
 // How many sequences the tile can have completed with a two-sided wait.
 fn count_ryanmen(ms: [meld::Meld; 4], t: u8) -> u8
-    ensures { (result ≡ count (closedRun twoSided t) ms) × (result ≤ 4) }
+    ensures { (result ≡ count (closed_run two_sided t) ms) × (result ≤ 4) }
 {
     how_many(
         is_ryanmen(ms[0], t),
@@ -89,7 +89,7 @@ fn count_ryanmen(ms: [meld::Meld; 4], t: u8) -> u8
 
 // How many in the middle.
 fn count_kanchan(ms: [meld::Meld; 4], t: u8) -> u8
-    ensures { (result ≡ count (closedRun middle t) ms) × (result ≤ 4) }
+    ensures { (result ≡ count (closed_run middle t) ms) × (result ≤ 4) }
 {
     how_many(
         is_kanchan(ms[0], t),
@@ -101,7 +101,7 @@ fn count_kanchan(ms: [meld::Meld; 4], t: u8) -> u8
 
 // How many at an edge.
 fn count_penchan(ms: [meld::Meld; 4], t: u8) -> u8
-    ensures { (result ≡ count (closedRun edge t) ms) × (result ≤ 4) }
+    ensures { (result ≡ count (closed_run edge t) ms) × (result ≤ 4) }
 {
     how_many(
         is_penchan(ms[0], t),
@@ -113,7 +113,7 @@ fn count_penchan(ms: [meld::Meld; 4], t: u8) -> u8
 
 // How many triplets it can have completed.
 fn count_shanpon(ms: [meld::Meld; 4], t: u8) -> u8
-    ensures { (result ≡ count (closedTriplet t) ms) × (result ≤ 4) }
+    ensures { (result ≡ count (closed_triplet t) ms) × (result ≤ 4) }
 {
     how_many(
         is_shanpon(ms[0], t),
@@ -169,14 +169,14 @@ pub fn weight(w: context::GameContext, t: u8) -> u8
 
 // Are all four melds sequences?
 fn all_sequences(ms: [meld::Meld; 4]) -> bool
-    ensures { result ≡ all isSequence ms }
+    ensures { result ≡ all is_sequence ms }
 {
     ms[0].is_sequence() & (ms[1].is_sequence() & (ms[2].is_sequence() & ms[3].is_sequence()))
 }
 
 // Can the tile have completed one of the melds with a two-sided wait?
 fn any_ryanmen(ms: [meld::Meld; 4], t: u8) -> bool
-    ensures { result ≡ any (closedRun twoSided t) ms }
+    ensures { result ≡ any (closed_run two_sided t) ms }
 {
     is_ryanmen(ms[0], t) | (is_ryanmen(ms[1], t) | (is_ryanmen(ms[2], t) | is_ryanmen(ms[3], t)))
 }

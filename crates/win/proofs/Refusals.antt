@@ -9,73 +9,73 @@ use lib.Dec.{T, eqb, ltb, leb, eqb→eq, ltb→lt, leb→le, eqb_refl}
 use borrow.Author.Tests.{eq-eqb, lt-ltb, le-leb, ltb-true}
 use Rattle.lists.specs.Fold.{all, all_below, any}
 use Rattle.lists.specs.Refusals.{Answers}
-use Rattle.lists.proofs.Arranged.{any-mem}
-use Rattle.lists.proofs.Finite.{true→T, and_left, and_right, and_both, or_elim, or-skip, at}
-use Rattle.lists.proofs.Members.{all-mem, all-intro}
-use Rattle.tile.specs.Tile.{isWind}
-use Rattle.tile.proofs.Tiles.{wind-below}
+use Rattle.lists.proofs.Arranged.{any_mem}
+use Rattle.lists.proofs.Finite.{true→t, and_left, and_right, and_both, or_elim, or_skip, at}
+use Rattle.lists.proofs.Members.{all_mem, all_intro}
+use Rattle.tile.specs.Tile.{is_wind}
+use Rattle.tile.proofs.Tiles.{wind_below}
 use Rattle.rules.specs.Rules.{Game}
 use Rattle.context.specs.declared.Indicators.{Indicators}
 use Rattle.context.specs.declared.GameContext.{GameContext}
-use Rattle.context.specs.Context.{isSetting, in_range, shown, areIndicators, indicatorsIn, noneShown}
-use Rattle.context.proofs.Range.{type-in, round-in, seat-in, setting-in}
+use Rattle.context.specs.Context.{is_setting, in_range, shown, are_indicators, indicators_in, none_shown}
+use Rattle.context.proofs.Range.{type_in, round_in, seat_in, setting_in}
 use Rattle.checks.specs.declared.Calls.{Calls}
-use Rattle.checks.specs.Checks.{handCheckIn}
-use Rattle.checks.specs.Refusals.{handChecks}
-use Rattle.checks.proofs.InOrder.{next-check, then-checks, exactly}
-use Rattle.checks.proofs.Refusals.{hand-refusals}
-use Rattle.win.specs.Win.{indicatedIn, winCheckIn}
-use Rattle.win.specs.Refusals.{winTypes, winds, settings, InRange, Indicated, BothIndicated, contextChecks, winChecks}
-use Rattle.win.proofs.Checked.{or-second, refused-hand}
+use Rattle.checks.specs.Checks.{hand_check_in}
+use Rattle.checks.specs.Refusals.{hand_checks}
+use Rattle.checks.proofs.InOrder.{next_check, then_checks, exactly}
+use Rattle.checks.proofs.Refusals.{hand_refusals}
+use Rattle.win.specs.Win.{indicated_in, win_check_in}
+use Rattle.win.specs.Refusals.{win_types, winds, settings, InRange, Indicated, BothIndicated, context_checks, win_checks}
+use Rattle.win.proofs.Checked.{or_second, refused_hand}
 
 -- ---- the win type, the winds and the setting, as a test and as a fact
-type-test : T (all_below 2 (λ t. any (eqb t) winTypes))
-type-test = tt
+type_test : T (all_below 2 (λ t. any (eqb t) win_types))
+type_test = tt
 
-wind-test : T (all_below 31 (λ t. not (isWind t) || any (eqb t) winds))
-wind-test = tt
+wind_test : T (all_below 31 (λ t. not (is_wind t) || any (eqb t) winds))
+wind_test = tt
 
-is-type : (t : ℕ) → T (ltb t 2) → Memᴰ t winTypes
-is-type t h = any-mem eqb eqb→eq eqb_refl t winTypes (at 2 (λ t. any (eqb t) winTypes) type-test t (ltb→lt t 2 h))
+is_type : (t : ℕ) → T (ltb t 2) → Memᴰ t win_types
+is_type t h = any_mem eqb eqb→eq eqb_refl t win_types (at 2 (λ t. any (eqb t) win_types) type_test t (ltb→lt t 2 h))
 
-is-wind : (t : ℕ) → T (isWind t) → Memᴰ t winds
-is-wind t h =
-    any-mem eqb eqb→eq eqb_refl t winds
-    (or-skip (isWind t) (any (eqb t) winds) h
-    (at 31 (λ t. not (isWind t) || any (eqb t) winds) wind-test t (wind-below t h)))
+is_wind_holds : (t : ℕ) → T (is_wind t) → Memᴰ t winds
+is_wind_holds t h =
+    any_mem eqb eqb→eq eqb_refl t winds
+    (or_skip (is_wind t) (any (eqb t) winds) h
+    (at 31 (λ t. not (is_wind t) || any (eqb t) winds) wind_test t (wind_below t h)))
 
-is-setting : (n : ℕ) → T (isSetting n) → Memᴰ n settings
-is-setting n h =
+is_setting_holds : (n : ℕ) → T (is_setting n) → Memᴰ n settings
+is_setting_holds n h =
     or_elim (eqb n 4) (eqb n 2) h (λ e. Memᴰ.head (eqb→eq n 4 e)) (λ e. Memᴰ.tail {x = 4} (Memᴰ.head (eqb→eq n 2 e)))
 
 module _ (w : GameContext) where
-  pub in-range : T (in_range w) → InRange w
-  in-range h =
+  pub in_range_holds : T (in_range w) → InRange w
+  in_range_holds h =
       record {
-        type = is-type w.win_type (type-in w h);
-        round = is-wind w.round_wind (round-in w h);
-        seat = is-wind w.seat_wind (seat-in w h);
-        setting = is-setting w.double_wind_fu (setting-in w h);
+        type = is_type w.win_type (type_in w h);
+        round = is_wind_holds w.round_wind (round_in w h);
+        seat = is_wind_holds w.seat_wind (seat_in w h);
+        setting = is_setting_holds w.double_wind_fu (setting_in w h);
       }
 
-  pub range-test : InRange w → T (in_range w)
-  range-test r =
-      and_both (ltb w.win_type 2) _ (all-mem (λ t. ltb t 2) {l = winTypes} tt r.type)
-      (and_both (isWind w.round_wind) _ (all-mem isWind {l = winds} tt r.round)
-      (and_both (isWind w.seat_wind) _ (all-mem isWind {l = winds} tt r.seat) (all-mem isSetting {l = settings} tt r.setting)))
+  pub range_test : InRange w → T (in_range w)
+  range_test r =
+      and_both (ltb w.win_type 2) _ (all_mem (λ t. ltb t 2) {l = win_types} tt r.type)
+      (and_both (is_wind w.round_wind) _ (all_mem is_wind {l = winds} tt r.round)
+      (and_both (is_wind w.seat_wind) _ (all_mem is_wind {l = winds} tt r.seat) (all_mem is_setting {l = settings} tt r.setting)))
 
 -- ---- the indicators, as a test and as a fact
-indicated : (i : Indicators) → T (areIndicators i) → Indicated i
+indicated : (i : Indicators) → T (are_indicators i) → Indicated i
 indicated i h =
     record {
       few = leb→le i.count 10 (and_left (leb i.count 10) _ h);
-      tiles = λ t m. ltb→lt t 34 (all-mem (λ t. ltb t 34) (and_right (leb i.count 10) (all (λ t. ltb t 34) (shown i)) h) m);
+      tiles = λ t m. ltb→lt t 34 (all_mem (λ t. ltb t 34) (and_right (leb i.count 10) (all (λ t. ltb t 34) (shown i)) h) m);
     }
 
-indicated-test : (i : Indicators) → Indicated i → T (areIndicators i)
-indicated-test i r =
-    and_both (leb i.count 10) _ (true→T _ (le-leb i.count 10 r.few))
-    (all-intro (λ t. ltb t 34) (shown i) (λ t m. true→T _ (lt-ltb t 34 (r.tiles t m))))
+indicated_test : (i : Indicators) → Indicated i → T (are_indicators i)
+indicated_test i r =
+    and_both (leb i.count 10) _ (true→t _ (le-leb i.count 10 r.few))
+    (all_intro (λ t. ltb t 34) (shown i) (λ t m. true→t _ (lt-ltb t 34 (r.tiles t m))))
 
 module _ (g : Game) (w : GameContext) where
   abbrev d : Indicators
@@ -84,29 +84,29 @@ module _ (g : Game) (w : GameContext) where
   abbrev u : Indicators
   u = w.ura_dora_indicators
 
-  none-shown : T (noneShown w) → (d.count ≡ 0) × (u.count ≡ 0)
-  none-shown h = (eqb→eq d.count 0 (and_left (eqb d.count 0) _ h), eqb→eq u.count 0 (and_right (eqb d.count 0) (eqb u.count 0) h))
+  none_shown_holds : T (none_shown w) → (d.count ≡ 0) × (u.count ≡ 0)
+  none_shown_holds h = (eqb→eq d.count 0 (and_left (eqb d.count 0) _ h), eqb→eq u.count 0 (and_right (eqb d.count 0) (eqb u.count 0) h))
 
-  pub both-indicated : T (indicatedIn g w) → BothIndicated g w
-  both-indicated t =
-      let h = and_left (indicatorsIn w) _ t in
+  pub both_indicated : T (indicated_in g w) → BothIndicated g w
+  both_indicated t =
+      let h = and_left (indicators_in w) _ t in
       record {
-        dora = indicated d (and_left (areIndicators d) (areIndicators u) h);
-        ura = indicated u (and_right (areIndicators d) (areIndicators u) h);
+        dora = indicated d (and_left (are_indicators d) (are_indicators u) h);
+        ura = indicated u (and_right (are_indicators d) (are_indicators u) h);
         none = λ e.
-            or_elim g.dora _ (and_right (indicatorsIn w) _ t) (λ y. absurd (subst T e y)) none-shown;
+            or_elim g.dora _ (and_right (indicators_in w) _ t) (λ y. absurd (subst T e y)) none_shown_holds;
       }
 
-  shown-test : (b : Bool) → (b ≡ false → (d.count ≡ 0) × (u.count ≡ 0)) → T (b || noneShown w)
-  shown-test true f = tt
-  shown-test false f =
-      and_both (eqb d.count 0) (eqb u.count 0) (true→T _ (eq-eqb d.count 0 (f refl).0)) (true→T _ (eq-eqb u.count 0 (f refl).1))
+  shown_test : (b : Bool) → (b ≡ false → (d.count ≡ 0) × (u.count ≡ 0)) → T (b || none_shown w)
+  shown_test true f = tt
+  shown_test false f =
+      and_both (eqb d.count 0) (eqb u.count 0) (true→t _ (eq-eqb d.count 0 (f refl).0)) (true→t _ (eq-eqb u.count 0 (f refl).1))
 
-  pub indicators-test : BothIndicated g w → T (indicatedIn g w)
-  indicators-test r =
-      and_both (indicatorsIn w) (g.dora || noneShown w)
-      (and_both (areIndicators d) (areIndicators u) (indicated-test d r.dora) (indicated-test u r.ura))
-      (shown-test g.dora r.none)
+  pub indicators_test : BothIndicated g w → T (indicated_in g w)
+  indicators_test r =
+      and_both (indicators_in w) (g.dora || none_shown w)
+      (and_both (are_indicators d) (are_indicators u) (indicated_test d r.dora) (indicated_test u r.ura))
+      (shown_test g.dora r.none)
 
 -- ---- two tests together
 both_true : (a b : Bool) → (a && b) ≡ true → (a ≡ true) × (b ≡ true)
@@ -114,21 +114,21 @@ both_true true b e = (refl, e)
 both_true false b e = absurd (subst T (sym e) tt)
 
 both_false : (a b : Bool) → (a && b) ≡ false → a ≡ true → b ≡ true → ⊥
-both_false a b e f g = subst T e (and_both a b (true→T a f) (true→T b g))
+both_false a b e f g = subst T e (and_both a b (true→t a f) (true→t b g))
 
 -- ---- the checks of a win
 module _ (g : Game) (cs : List ℕ) (k : Calls) (w : GameContext) where
-  context-answers : handCheckIn g cs k ≡ 0 → (n : ℕ) → n ≡ winCheckIn g cs k w → Answers (contextChecks g cs w) n
-  unfolding winCheckIn
-  context-answers z n e =
-      next-check _ _ _ (e ∙ or-second (handCheckIn g cs k) _ z) (λ h. in-range w (true→T (in_range w) h)) (λ h r. subst T h (range-test w r))
-      (λ range e. next-check _ _ _ e (λ h. both-indicated g w (true→T (indicatedIn g w) h)) (λ h r. subst T h (indicators-test g w r))
-      (λ shown e. next-check _ _ _ e (λ h. let p = both_true (ltb w.winning_tile 34) _ h in record { tile = omega (arith, ltb-true); there = omega (arith, ltb-true) })
+  context_answers : hand_check_in g cs k ≡ 0 → (n : ℕ) → n ≡ win_check_in g cs k w → Answers (context_checks g cs w) n
+  unfolding win_check_in
+  context_answers z n e =
+      next_check _ _ _ (e ∙ or_second (hand_check_in g cs k) _ z) (λ h. in_range_holds w (true→t (in_range w) h)) (λ h r. subst T h (range_test w r))
+      (λ range e. next_check _ _ _ e (λ h. both_indicated g w (true→t (indicated_in g w) h)) (λ h r. subst T h (indicators_test g w r))
+      (λ shown e. next_check _ _ _ e (λ h. let p = both_true (ltb w.winning_tile 34) _ h in record { tile = omega (arith, ltb-true); there = omega (arith, ltb-true) })
       (λ h i. both_false (ltb w.winning_tile 34) _ h (lt-ltb _ _ i.tile) (lt-ltb _ _ i.there)) (λ tile e. e)))
 
   -- n is answered exactly where the checks before it pass and this one fails; 0 where all pass
-  pub win-refusals : (n : ℕ) → (winCheckIn g cs k w ≡ n) ↔ Answers (winChecks g cs k w) n
-  win-refusals =
-      exactly (winChecks g cs k w) (winCheckIn g cs k w)
-      (then-checks (handChecks g cs k) (contextChecks g cs w) tt (handCheckIn g cs k) (winCheckIn g cs k w) ((hand-refusals cs k (handCheckIn g cs k)).0 refl)
-      (λ z. sym (refused-hand g cs k w (handCheckIn g cs k) refl z)) (λ z. context-answers z (winCheckIn g cs k w) refl))
+  pub win_refusals : (n : ℕ) → (win_check_in g cs k w ≡ n) ↔ Answers (win_checks g cs k w) n
+  win_refusals =
+      exactly (win_checks g cs k w) (win_check_in g cs k w)
+      (then_checks (hand_checks g cs k) (context_checks g cs w) tt (hand_check_in g cs k) (win_check_in g cs k w) ((hand_refusals cs k (hand_check_in g cs k)).0 refl)
+      (λ z. sym (refused_hand g cs k w (hand_check_in g cs k) refl z)) (λ z. context_answers z (win_check_in g cs k w) refl))

@@ -7,17 +7,17 @@ use Rattle.rules.specs.Rules.{Game}
 use Rattle.context.specs.declared.Indicators.{Indicators}
 use Rattle.context.specs.declared.GameContext.{GameContext}
 use Rattle.context.specs.Context.{shown}
-use Rattle.context.specs.Named.{byRon, byTsumo}
+use Rattle.context.specs.Named.{by_ron, by_tsumo}
 use Rattle.hand.specs.Counts.{held}
 use Rattle.hand.specs.Reading.{Reading}
 use Rattle.checks.specs.declared.Calls.{Calls}
-use Rattle.checks.specs.Refusals.{handChecks}
-use Rattle.unit.specs.Listing.{handReadings}
-use Rattle.reading_score.specs.Score.{hasYaku}
-use Rattle.win.specs.Win.{scoreIn}
+use Rattle.checks.specs.Refusals.{hand_checks}
+use Rattle.unit.specs.Listing.{hand_readings}
+use Rattle.reading_score.specs.Score.{has_yaku}
+use Rattle.win.specs.Win.{score_in}
 
-abbrev pub winTypes : List ℕ
-winTypes = byRon ∷ byTsumo ∷ []
+abbrev pub win_types : List ℕ
+win_types = by_ron ∷ by_tsumo ∷ []
 
 abbrev pub winds : List ℕ
 winds = East ∷ South ∷ West ∷ North ∷ []
@@ -28,7 +28,7 @@ settings = 4 ∷ 2 ∷ []
 
 -- the win type is ron or tsumo, both winds are winds, and the room's setting is one
 pub record InRange (w : GameContext) : Type 0 where
-  pub type : Memᴰ w.win_type winTypes
+  pub type : Memᴰ w.win_type win_types
   pub round : Memᴰ w.round_wind winds
   pub seat : Memᴰ w.seat_wind winds
   pub setting : Memᴰ w.double_wind_fu settings
@@ -49,29 +49,29 @@ pub record InHand (cs : List ℕ) (t : ℕ) : Type 0 where
   pub tile : t < 34
   pub there : 0 < held cs t
 
-abbrev pub contextChecks : Game → List ℕ → GameContext → List Check
-contextChecks g cs w = unless 8 (InRange w) ∷ unless 14 (BothIndicated g w) ∷ unless 9 (InHand cs w.winning_tile) ∷ []
+abbrev pub context_checks : Game → List ℕ → GameContext → List Check
+context_checks g cs w = unless 8 (InRange w) ∷ unless 14 (BothIndicated g w) ∷ unless 9 (InHand cs w.winning_tile) ∷ []
 
 -- the checks of the hand, then those of the win
-abbrev pub winChecks : Game → List ℕ → Calls → GameContext → List Check
-winChecks g cs k w = handChecks g cs k ++ contextChecks g cs w
+abbrev pub win_checks : Game → List ℕ → Calls → GameContext → List Check
+win_checks g cs k w = hand_checks g cs k ++ context_checks g cs w
 
 -- a reading of the hand has a yaku
 pub record SomeYaku (cs : List ℕ) (k : Calls) (w : GameContext) : Type 0 where
   pub reading : Reading
-  pub listed : Memᴰ reading (handReadings cs k)
-  pub yaku : T (hasYaku (scoreIn cs k w reading))
+  pub listed : Memᴰ reading (hand_readings cs k)
+  pub yaku : T (has_yaku (score_in cs k w reading))
 
 -- scoring a win: there is a reading, and one has a yaku
-abbrev pub readingChecks : List ℕ → Calls → GameContext → List Check
-readingChecks cs k w = unless 10 (handReadings cs k ≢ []) ∷ unless 11 (SomeYaku cs k w) ∷ []
+abbrev pub reading_checks : List ℕ → Calls → GameContext → List Check
+reading_checks cs k w = unless 10 (hand_readings cs k ≢ []) ∷ unless 11 (SomeYaku cs k w) ∷ []
 
-abbrev pub scoreChecks : Game → List ℕ → Calls → GameContext → List Check
-scoreChecks g cs k w = winChecks g cs k w ++ readingChecks cs k w
+abbrev pub score_checks : Game → List ℕ → Calls → GameContext → List Check
+score_checks g cs k w = win_checks g cs k w ++ reading_checks cs k w
 
 -- scoring or naming the waits of reading number n, counted from 0: there are more than n readings
-abbrev pub numberCheck : List ℕ → Calls → ℕ → Check
-numberCheck cs k n = unless 12 (n < length (handReadings cs k))
+abbrev pub number_check : List ℕ → Calls → ℕ → Check
+number_check cs k n = unless 12 (n < length (hand_readings cs k))
 
-abbrev pub numberChecks : Game → List ℕ → Calls → GameContext → ℕ → List Check
-numberChecks g cs k w n = winChecks g cs k w ++ (numberCheck cs k n ∷ [])
+abbrev pub number_checks : Game → List ℕ → Calls → GameContext → ℕ → List Check
+number_checks g cs k w n = win_checks g cs k w ++ (number_check cs k n ∷ [])

@@ -2,11 +2,11 @@
 // input what is answered.
 ghost use Rattle.std.specs.Prelude.{◌≡◌, true, ◌&&◌, length};
 ghost use Rattle.rules.specs.Rules.{game};
-ghost use Rattle.meld.specs.Meld.{isOpen};
-ghost use Rattle.context.specs.Context.{indicatorsIn};
+ghost use Rattle.meld.specs.Meld.{is_open};
+ghost use Rattle.context.specs.Context.{indicators_in};
 ghost use Rattle.dora.specs.Dora.{AtMostForty};
-ghost use Rattle.checks.specs.Checks.{handCheck};
-ghost use Rattle.win.specs.Win.{isOpened, tilesTogether, doraTogether, inHand, indicatedIn, winCheckIn, scoreWinIn, scoreReadingIn, nameWaitsIn, scoreWin, scoreReading, refusedWaits, nameWaits};
+ghost use Rattle.checks.specs.Checks.{hand_check};
+ghost use Rattle.win.specs.Win.{is_opened, tiles_together, dora_together, in_hand, indicated_in, win_check_in, score_win_in, score_reading_in, name_waits_in, score_win, score_reading, refused_waits, name_waits};
 
 // The answer to naming waits: number 0 and a tally for each wait, Ryanmen, Kanchan, Penchan, Shanpon, Tanki, Kokushi13; or a refusal's number alone.
 #[derive(Drop)]
@@ -17,14 +17,14 @@ pub struct WaitsAnswer {
 
 // Is the call there, and open?
 fn is_open_call(m: meld::Meld, there: bool) -> bool
-    ensures { result ≡ (there && isOpen m) }
+    ensures { result ≡ (there && is_open m) }
 {
     there & m.is_open()
 }
 
 // Is some call made from another player? Most often nothing is called.
 pub fn is_opened(k: checks::Calls) -> bool
-    ensures { result ≡ isOpened k }
+    ensures { result ≡ is_opened k }
 {
     let melds = k.melds;
     let count = k.count;
@@ -39,7 +39,7 @@ pub fn is_opened(k: checks::Calls) -> bool
 // Is the tile in the hand?
 fn in_hand(counts: &[u8], t: u8) -> bool
     requires { length counts.now ≡ 34 }
-    ensures { result ≡ inHand counts.now t }
+    ensures { result ≡ in_hand counts.now t }
 {
     if 34 <= t {
         return false;
@@ -49,14 +49,14 @@ fn in_hand(counts: &[u8], t: u8) -> bool
 
 // Are the indicators in order, and is none shown in a game without them?
 fn is_indicated(w: context::GameContext, v: rules::Variant) -> bool
-    ensures { result ≡ indicatedIn (game v) w }
+    ensures { result ≡ indicated_in (game v) w }
 {
     w.has_indicators() & (v.allows_dora() | w.shows_none())
 }
 
 // The number of the first check that fails, or 0.
 fn check_win(counts: &[u8], k: checks::Calls, w: context::GameContext, v: rules::Variant) -> u8
-    ensures { result ≡ winCheckIn (game v) counts.now k w }
+    ensures { result ≡ win_check_in (game v) counts.now k w }
 {
     let shown = is_indicated(w, v);
     let number = checks::check_hand(counts, k, v);
@@ -77,8 +77,8 @@ fn check_win(counts: &[u8], k: checks::Calls, w: context::GameContext, v: rules:
 
 // What all tiles together are, of a hand that has passed the checks.
 fn tiles_together(counts: &[u8], k: checks::Calls, w: context::GameContext) -> tile_yaku::TileYaku
-    requires { handCheck counts.now k ≡ 0 }
-    ensures { result ≡ tilesTogether counts.now k w }
+    requires { hand_check counts.now k ≡ 0 }
+    ensures { result ≡ tiles_together counts.now k w }
 {
     let all = checks::with_calls(counts, k);
     tile_yaku::tile_yaku(&all, w.winning_tile)
@@ -86,8 +86,8 @@ fn tiles_together(counts: &[u8], k: checks::Calls, w: context::GameContext) -> t
 
 // The dora of hand and calls together, where they and the win have passed the checks. Most often none is shown.
 fn dora_together(counts: &[u8], k: checks::Calls, w: context::GameContext) -> dora::DoraCount
-    requires { (handCheck counts.now k ≡ 0) × (indicatorsIn w ≡ true) }
-    ensures { (result ≡ doraTogether counts.now k w) × AtMostForty result }
+    requires { (hand_check counts.now k ≡ 0) × (indicators_in w ≡ true) }
+    ensures { (result ≡ dora_together counts.now k w) × AtMostForty result }
 {
     if w.shows_none() {
         return dora::DoraCount { regular: 0, ura: 0 };
@@ -103,7 +103,7 @@ pub fn score_win_in(
     w: context::GameContext,
     v: rules::Variant,
 ) -> choice::ScoreAnswer
-    ensures { result ≡ scoreWinIn (game v) counts.now k w }
+    ensures { result ≡ score_win_in (game v) counts.now k w }
 {
     let number = check_win(counts, k, w, v);
     if number != 0 {
@@ -121,7 +121,7 @@ pub fn score_win_in(
 
 // Scores a win with four players.
 pub fn score_win(counts: &[u8], k: checks::Calls, w: context::GameContext) -> choice::ScoreAnswer
-    ensures { result ≡ scoreWin counts.now k w }
+    ensures { result ≡ score_win counts.now k w }
 {
     score_win_in(counts, k, w, rules::Variant::Yonma)
 }
@@ -134,7 +134,7 @@ pub fn score_reading_in(
     v: rules::Variant,
     n: usize,
 ) -> choice::ScoreAnswer
-    ensures { result ≡ scoreReadingIn (game v) counts.now k w n }
+    ensures { result ≡ score_reading_in (game v) counts.now k w n }
 {
     let number = check_win(counts, k, w, v);
     if number != 0 {
@@ -160,14 +160,14 @@ pub fn score_reading(
     w: context::GameContext,
     n: usize,
 ) -> choice::ScoreAnswer
-    ensures { result ≡ scoreReading counts.now k w n }
+    ensures { result ≡ score_reading counts.now k w n }
 {
     score_reading_in(counts, k, w, rules::Variant::Yonma, n)
 }
 
 // A refusal to name waits.
 fn refused_waits(number: u8) -> WaitsAnswer
-    ensures { result ≡ refusedWaits number }
+    ensures { result ≡ refused_waits number }
 {
     WaitsAnswer {
         number: number,
@@ -183,7 +183,7 @@ pub fn name_waits_in(
     v: rules::Variant,
     n: usize,
 ) -> WaitsAnswer
-    ensures { result ≡ nameWaitsIn (game v) counts.now k w n }
+    ensures { result ≡ name_waits_in (game v) counts.now k w n }
 {
     let number = check_win(counts, k, w, v);
     if number != 0 {
@@ -203,7 +203,7 @@ pub fn name_waits_in(
 
 // Names the waits of reading number n with four players.
 pub fn name_waits(counts: &[u8], k: checks::Calls, w: context::GameContext, n: usize) -> WaitsAnswer
-    ensures { result ≡ nameWaits counts.now k w n }
+    ensures { result ≡ name_waits counts.now k w n }
 {
     name_waits_in(counts, k, w, rules::Variant::Yonma, n)
 }

@@ -7,57 +7,57 @@ use Prim.Native.Nat.{ℕ}
 use lib.Dec.{T}
 use lib.ListN.{length}
 use Rattle.lists.specs.Fold.{any}
-use Rattle.lists.proofs.Finite.{or_elim, or_left, or_right, true→T}
+use Rattle.lists.proofs.Finite.{or_elim, or_left, or_right, true→t}
 use Rattle.lists.proofs.Members.{all_append}
-use Rattle.lists.proofs.Permuted.{map-perm, some-perm}
+use Rattle.lists.proofs.Permuted.{map_perm, some_perm}
 use Rattle.meld.specs.declared.Meld.{Meld}
-use Rattle.meld.specs.Meld.{isMeld, isOpen}
-use Rattle.meld.proofs.Melds.{closed-melds, sorted-perm}
+use Rattle.meld.specs.Meld.{is_meld, is_open}
+use Rattle.meld.proofs.Melds.{closed_melds, sorted_perm}
 use Rattle.rules.specs.Rules.{Game}
 use Rattle.context.specs.declared.GameContext.{GameContext}
 use Rattle.hand.specs.Counts.{held}
 use Rattle.hand.specs.Reading.{Reading, pairs, orphans, standard, Admits}
 use Rattle.yaku.specs.declared.names.Yaku.{Yaku}
-use Rattle.yaku.specs.Names.{hanOpen, tallied}
-use Rattle.yaku.proofs.Closed.{isOpenReading, needs-closed}
-use Rattle.reading_score.specs.Score.{result, scoreOf}
+use Rattle.yaku.specs.Names.{han_open, tallied}
+use Rattle.yaku.proofs.Closed.{is_open_reading, needs_closed}
+use Rattle.reading_score.specs.Score.{result, score_of}
 use Rattle.checks.specs.declared.Calls.{Calls}
-use Rattle.checks.specs.Checks.{called, handCheckIn}
-use Rattle.checks.proofs.Passed.{passes-four}
+use Rattle.checks.specs.Checks.{called, hand_check_in}
+use Rattle.checks.proofs.Passed.{passes_four}
 use Rattle.promises.proofs.Listing.{admitted}
-use Rattle.unit.specs.Listing.{handReadings}
-use Rattle.unit.proofs.Listed.{melds-called}
-use Rattle.win.specs.Win.{winCheckIn, isOpened, tilesTogether, scoreIn}
+use Rattle.unit.specs.Listing.{hand_readings}
+use Rattle.unit.proofs.Listed.{melds_called}
+use Rattle.win.specs.Win.{win_check_in, is_opened, tiles_together, score_in}
 use Rattle.win.proofs.Passed.{checked}
-use Rattle.win.proofs.Readings.{listed-short}
+use Rattle.win.proofs.Readings.{listed_short}
 
-any-first : (p : Meld → Bool) (l m : List Meld) → T (any p l) → T (any p (l ++ m))
-any-first p [] m t = absurd t
-any-first p (a ∷ l) m t =
-    or_elim (p a) (any p l) t (or_left (p a) (any p (l ++ m))) (λ u. or_right (p a) (any p (l ++ m)) (any-first p l m u))
+any_first : (p : Meld → Bool) (l m : List Meld) → T (any p l) → T (any p (l ++ m))
+any_first p [] m t = absurd t
+any_first p (a ∷ l) m t =
+    or_elim (p a) (any p l) t (or_left (p a) (any p (l ++ m))) (λ u. or_right (p a) (any p (l ++ m)) (any_first p l m u))
 
 -- ---- a win that passes the checks of a game; the four melds of the calls are four (an array of four in the code)
-module _ (g : Game) (cs : List ℕ) (k : Calls) (w : GameContext) (four : length k.melds ≡ 4) (passes : winCheckIn g cs k w ≡ 0) (opened : isOpened k ≡ true) where
-  hand-passes : handCheckIn g cs k ≡ 0
-  hand-passes = (checked cs k w passes).hand
+module _ (g : Game) (cs : List ℕ) (k : Calls) (w : GameContext) (four : length k.melds ≡ 4) (passes : win_check_in g cs k w ≡ 0) (opened : is_opened k ≡ true) where
+  hand_passes : hand_check_in g cs k ≡ 0
+  hand_passes = (checked cs k w passes).hand
 
-  nothing-called : called k ≡ [] → ⊥
-  nothing-called e = subst T (sym opened ∙ ap (any isOpen) e) tt
+  nothing_called_holds : called k ≡ [] → ⊥
+  nothing_called_holds e = subst T (sym opened ∙ ap (any is_open) e) tt
 
-  open-admitted : (r : Reading) → Admits (held cs) (called k) r → T (isOpenReading r)
-  open-admitted (pairs ps) a = absurd (nothing-called a.uncalled)
-  open-admitted (orphans p) a = absurd (nothing-called a.uncalled)
-  open-admitted (standard p ms) a =
-      let melds = all_append isMeld (called k) a.hand (melds-called cs k (passes-four g cs k hand-passes)) (closed-melds a.hand a.closed) in
-      let same : any isOpen ms ≡ any isOpen (called k ++ a.hand) =
-      ap (any isOpen) a.whole ∙ some-perm (map-perm isOpen (sorted-perm (called k ++ a.hand) melds)) in
-      rw same (any-first isOpen (called k) a.hand (true→T _ opened))
+  open_admitted : (r : Reading) → Admits (held cs) (called k) r → T (is_open_reading r)
+  open_admitted (pairs ps) a = absurd (nothing_called_holds a.uncalled)
+  open_admitted (orphans p) a = absurd (nothing_called_holds a.uncalled)
+  open_admitted (standard p ms) a =
+      let melds = all_append is_meld (called k) a.hand (melds_called cs k (passes_four g cs k hand_passes)) (closed_melds a.hand a.closed) in
+      let same : any is_open ms ≡ any is_open (called k ++ a.hand) =
+      ap (any is_open) a.whole ∙ some_perm (map_perm is_open (sorted_perm (called k ++ a.hand) melds)) in
+      rw same (any_first is_open (called k) a.hand (true→t _ opened))
 
-  pub open-reading : (r : Reading) → Memᴰ r (handReadings cs k) → T (isOpenReading r)
-  open-reading r i = open-admitted r (admitted g cs k four hand-passes r i)
+  pub open_reading : (r : Reading) → Memᴰ r (hand_readings cs k) → T (is_open_reading r)
+  open_reading r i = open_admitted r (admitted g cs k four hand_passes r i)
 
   -- a yaku that needs a closed hand by the table of han
-  pub needs-closed-hand : (y : Yaku) → hanOpen y ≡ 0 → (r : Reading) → Memᴰ r (handReadings cs k) → tallied y (scoreIn cs k w r).tallies ≡ 0
-  unfolding scoreIn scoreOf result
-  needs-closed-hand y z r i =
-      rw opened (needs-closed w (tilesTogether cs k w) y z r (open-reading r i) (listed-short cs k four (passes-four g cs k hand-passes) r i))
+  pub needs_closed_hand : (y : Yaku) → han_open y ≡ 0 → (r : Reading) → Memᴰ r (hand_readings cs k) → tallied y (score_in cs k w r).tallies ≡ 0
+  unfolding score_in score_of result
+  needs_closed_hand y z r i =
+      rw opened (needs_closed w (tiles_together cs k w) y z r (open_reading r i) (listed_short cs k four (passes_four g cs k hand_passes) r i))

@@ -2,78 +2,78 @@
 use lib.Dec.{T}
 use Rattle.played.specs.Row.{holds}
 use Rattle.played.proofs.Quick.{quick}
-use Rattle.worked_hands.specs.Dora.{doraOne, doraShownTwice, doraPair, doraNotShownTile, doraNineToOne, doraNorthToEast, doraRedToWhite, doraKan, doraCalled, uraRiichi, uraNoRiichi, uraDoubleRiichiAlone, uraOpen, doraYakuman, doraNoYaku, choiceYakumanFirst, choiceTotalFirst}
+use Rattle.worked_hands.specs.Dora.{dora_one, dora_shown_twice, dora_pair, dora_not_shown_tile, dora_nine_to_one, dora_north_to_east, dora_red_to_white, dora_kan, dora_called, ura_riichi, ura_no_riichi, ura_double_riichi_alone, ura_open, dora_yakuman, dora_no_yaku, choice_yakuman_first, choice_total_first}
 
 -- ---- Which tile is dora, and how often it counts
-pub dora-one : T (holds doraOne)
+pub dora_one_holds : T (holds dora_one)
 unfolding holds
-dora-one = quick doraOne tt
+dora_one_holds = quick dora_one tt
 
-pub dora-shown-twice : T (holds doraShownTwice)
+pub dora_shown_twice_holds : T (holds dora_shown_twice)
 unfolding holds
-dora-shown-twice = quick doraShownTwice tt
+dora_shown_twice_holds = quick dora_shown_twice tt
 
-pub dora-pair : T (holds doraPair)
+pub dora_pair_holds : T (holds dora_pair)
 unfolding holds
-dora-pair = quick doraPair tt
+dora_pair_holds = quick dora_pair tt
 
-pub dora-not-shown-tile : T (holds doraNotShownTile)
+pub dora_not_shown_tile_holds : T (holds dora_not_shown_tile)
 unfolding holds
-dora-not-shown-tile = quick doraNotShownTile tt
+dora_not_shown_tile_holds = quick dora_not_shown_tile tt
 
-pub dora-nine-to-one : T (holds doraNineToOne)
+pub dora_nine_to_one_holds : T (holds dora_nine_to_one)
 unfolding holds
-dora-nine-to-one = quick doraNineToOne tt
+dora_nine_to_one_holds = quick dora_nine_to_one tt
 
-pub dora-north-to-east : T (holds doraNorthToEast)
+pub dora_north_to_east_holds : T (holds dora_north_to_east)
 unfolding holds
-dora-north-to-east = quick doraNorthToEast tt
+dora_north_to_east_holds = quick dora_north_to_east tt
 
-pub dora-red-to-white : T (holds doraRedToWhite)
+pub dora_red_to_white_holds : T (holds dora_red_to_white)
 unfolding holds
-dora-red-to-white = quick doraRedToWhite tt
+dora_red_to_white_holds = quick dora_red_to_white tt
 
 -- ---- Called tiles count too
-pub dora-kan : T (holds doraKan)
+pub dora_kan_holds : T (holds dora_kan)
 unfolding holds
-dora-kan = quick doraKan tt
+dora_kan_holds = quick dora_kan tt
 
-pub dora-called : T (holds doraCalled)
+pub dora_called_holds : T (holds dora_called)
 unfolding holds
-dora-called = quick doraCalled tt
+dora_called_holds = quick dora_called tt
 
 -- ---- Ura, which count where riichi was declared
-pub ura-riichi : T (holds uraRiichi)
+pub ura_riichi_holds : T (holds ura_riichi)
 unfolding holds
-ura-riichi = quick uraRiichi tt
+ura_riichi_holds = quick ura_riichi tt
 
-pub ura-no-riichi : T (holds uraNoRiichi)
+pub ura_no_riichi_holds : T (holds ura_no_riichi)
 unfolding holds
-ura-no-riichi = quick uraNoRiichi tt
+ura_no_riichi_holds = quick ura_no_riichi tt
 
-pub ura-double-riichi-alone : T (holds uraDoubleRiichiAlone)
+pub ura_double_riichi_alone_holds : T (holds ura_double_riichi_alone)
 unfolding holds
-ura-double-riichi-alone = quick uraDoubleRiichiAlone tt
+ura_double_riichi_alone_holds = quick ura_double_riichi_alone tt
 
-pub ura-open : T (holds uraOpen)
+pub ura_open_holds : T (holds ura_open)
 unfolding holds
-ura-open = quick uraOpen tt
+ura_open_holds = quick ura_open tt
 
 -- ---- A yakuman takes no dora
-pub dora-yakuman : T (holds doraYakuman)
+pub dora_yakuman_holds : T (holds dora_yakuman)
 unfolding holds
-dora-yakuman = quick doraYakuman tt
+dora_yakuman_holds = quick dora_yakuman tt
 
 -- ---- Dora alone is no yaku: twenty han by its number, a counted yakuman, and the win is refused
-pub dora-no-yaku : T (holds doraNoYaku)
+pub dora_no_yaku_holds : T (holds dora_no_yaku)
 unfolding holds
-dora-no-yaku = quick doraNoYaku tt
+dora_no_yaku_holds = quick dora_no_yaku tt
 
 -- ---- The choice, where dora add more to han than to the total
-pub choice-yakuman-first : T (holds choiceYakumanFirst)
+pub choice_yakuman_first_holds : T (holds choice_yakuman_first)
 unfolding holds
-choice-yakuman-first = quick choiceYakumanFirst tt
+choice_yakuman_first_holds = quick choice_yakuman_first tt
 
-pub choice-total-first : T (holds choiceTotalFirst)
+pub choice_total_first_holds : T (holds choice_total_first)
 unfolding holds
-choice-total-first = quick choiceTotalFirst tt
+choice_total_first_holds = quick choice_total_first tt

@@ -2,165 +2,165 @@
 use lib.Dec.{T}
 use Rattle.played.specs.Row.{holds}
 use Rattle.played.proofs.Quick.{quick}
-use Rattle.worked_hands.specs.Fu.{fuMiddle, fuEdge, fuPair, fuPairOrSides, fuSides, fuMiddleOpen, fuCalledSequence, fuTripletRon, fuTripletTsumo, fuTripletTerminals, fuTripletHonors, fuTwoOpen, fuThreeOpen, fuSpared, fuOpenKan, fuAddedKan, fuClosedKan, fuClosedKanTerminals, fuClosedKanTsumo, fuTwoKans, fuKansAndTriplet, fuMost, fuPairTwice, fuPairTwiceAtTwo, fuPairTwiceTsumo, fuPairTwiceTsumoAtTwo, fuTripletTwiceAtTwo, fuPairOnce, fuPairNone, fuPairSeat, fuPairRound, fuPairDragons, fuPairOtherWind, fuPinfuTsumo, fuOpenRon, fuOpenTsumo, fuTsumoMiddle, fuSevenPairs, fuOrphans}
+use Rattle.worked_hands.specs.Fu.{fu_middle, fu_edge, fu_pair, fu_pair_or_sides, fu_sides, fu_middle_open, fu_called_sequence, fu_triplet_ron, fu_triplet_tsumo, fu_triplet_terminals, fu_triplet_honors, fu_two_open, fu_three_open, fu_spared, fu_open_kan, fu_added_kan, fu_closed_kan, fu_closed_kan_terminals, fu_closed_kan_tsumo, fu_two_kans, fu_kans_and_triplet, fu_most, fu_pair_twice, fu_pair_twice_at_two, fu_pair_twice_tsumo, fu_pair_twice_tsumo_at_two, fu_triplet_twice_at_two, fu_pair_once, fu_pair_none, fu_pair_seat, fu_pair_round, fu_pair_dragons, fu_pair_other_wind, fu_pinfu_tsumo, fu_open_ron, fu_open_tsumo, fu_tsumo_middle, fu_seven_pairs, fu_orphans}
 
 -- ---- The wait
-pub fu-middle : T (holds fuMiddle)
+pub fu_middle_holds : T (holds fu_middle)
 unfolding holds
-fu-middle = quick fuMiddle tt
+fu_middle_holds = quick fu_middle tt
 
-pub fu-edge : T (holds fuEdge)
+pub fu_edge_holds : T (holds fu_edge)
 unfolding holds
-fu-edge = quick fuEdge tt
+fu_edge_holds = quick fu_edge tt
 
-pub fu-pair : T (holds fuPair)
+pub fu_pair_holds : T (holds fu_pair)
 unfolding holds
-fu-pair = quick fuPair tt
+fu_pair_holds = quick fu_pair tt
 
-pub fu-pair-or-sides : T (holds fuPairOrSides)
+pub fu_pair_or_sides_holds : T (holds fu_pair_or_sides)
 unfolding holds
-fu-pair-or-sides = quick fuPairOrSides tt
+fu_pair_or_sides_holds = quick fu_pair_or_sides tt
 
-pub fu-sides : T (holds fuSides)
+pub fu_sides_holds : T (holds fu_sides)
 unfolding holds
-fu-sides = quick fuSides tt
+fu_sides_holds = quick fu_sides tt
 
-pub fu-middle-open : T (holds fuMiddleOpen)
+pub fu_middle_open_holds : T (holds fu_middle_open)
 unfolding holds
-fu-middle-open = quick fuMiddleOpen tt
+fu_middle_open_holds = quick fu_middle_open tt
 
-pub fu-called-sequence : T (holds fuCalledSequence)
+pub fu_called_sequence_holds : T (holds fu_called_sequence)
 unfolding holds
-fu-called-sequence = quick fuCalledSequence tt
+fu_called_sequence_holds = quick fu_called_sequence tt
 
 -- ---- Triplets
-pub fu-triplet-ron : T (holds fuTripletRon)
+pub fu_triplet_ron_holds : T (holds fu_triplet_ron)
 unfolding holds
-fu-triplet-ron = quick fuTripletRon tt
+fu_triplet_ron_holds = quick fu_triplet_ron tt
 
-pub fu-triplet-tsumo : T (holds fuTripletTsumo)
+pub fu_triplet_tsumo_holds : T (holds fu_triplet_tsumo)
 unfolding holds
-fu-triplet-tsumo = quick fuTripletTsumo tt
+fu_triplet_tsumo_holds = quick fu_triplet_tsumo tt
 
-pub fu-triplet-terminals : T (holds fuTripletTerminals)
+pub fu_triplet_terminals_holds : T (holds fu_triplet_terminals)
 unfolding holds
-fu-triplet-terminals = quick fuTripletTerminals tt
+fu_triplet_terminals_holds = quick fu_triplet_terminals tt
 
-pub fu-triplet-honors : T (holds fuTripletHonors)
+pub fu_triplet_honors_holds : T (holds fu_triplet_honors)
 unfolding holds
-fu-triplet-honors = quick fuTripletHonors tt
+fu_triplet_honors_holds = quick fu_triplet_honors tt
 
-pub fu-two-open : T (holds fuTwoOpen)
+pub fu_two_open_holds : T (holds fu_two_open)
 unfolding holds
-fu-two-open = quick fuTwoOpen tt
+fu_two_open_holds = quick fu_two_open tt
 
-pub fu-three-open : T (holds fuThreeOpen)
+pub fu_three_open_holds : T (holds fu_three_open)
 unfolding holds
-fu-three-open = quick fuThreeOpen tt
+fu_three_open_holds = quick fu_three_open tt
 
-pub fu-spared : T (holds fuSpared)
+pub fu_spared_holds : T (holds fu_spared)
 unfolding holds
-fu-spared = quick fuSpared tt
+fu_spared_holds = quick fu_spared tt
 
 -- ---- Kans
-pub fu-open-kan : T (holds fuOpenKan)
+pub fu_open_kan_holds : T (holds fu_open_kan)
 unfolding holds
-fu-open-kan = quick fuOpenKan tt
+fu_open_kan_holds = quick fu_open_kan tt
 
-pub fu-added-kan : T (holds fuAddedKan)
+pub fu_added_kan_holds : T (holds fu_added_kan)
 unfolding holds
-fu-added-kan = quick fuAddedKan tt
+fu_added_kan_holds = quick fu_added_kan tt
 
-pub fu-closed-kan : T (holds fuClosedKan)
+pub fu_closed_kan_holds : T (holds fu_closed_kan)
 unfolding holds
-fu-closed-kan = quick fuClosedKan tt
+fu_closed_kan_holds = quick fu_closed_kan tt
 
-pub fu-closed-kan-terminals : T (holds fuClosedKanTerminals)
+pub fu_closed_kan_terminals_holds : T (holds fu_closed_kan_terminals)
 unfolding holds
-fu-closed-kan-terminals = quick fuClosedKanTerminals tt
+fu_closed_kan_terminals_holds = quick fu_closed_kan_terminals tt
 
-pub fu-closed-kan-tsumo : T (holds fuClosedKanTsumo)
+pub fu_closed_kan_tsumo_holds : T (holds fu_closed_kan_tsumo)
 unfolding holds
-fu-closed-kan-tsumo = quick fuClosedKanTsumo tt
+fu_closed_kan_tsumo_holds = quick fu_closed_kan_tsumo tt
 
-pub fu-two-kans : T (holds fuTwoKans)
+pub fu_two_kans_holds : T (holds fu_two_kans)
 unfolding holds
-fu-two-kans = quick fuTwoKans tt
+fu_two_kans_holds = quick fu_two_kans tt
 
-pub fu-kans-and-triplet : T (holds fuKansAndTriplet)
+pub fu_kans_and_triplet_holds : T (holds fu_kans_and_triplet)
 unfolding holds
-fu-kans-and-triplet = quick fuKansAndTriplet tt
+fu_kans_and_triplet_holds = quick fu_kans_and_triplet tt
 
-pub fu-most : T (holds fuMost)
+pub fu_most_holds : T (holds fu_most)
 unfolding holds
-fu-most = quick fuMost tt
+fu_most_holds = quick fu_most tt
 
 -- ---- The pair
-pub fu-pair-twice : T (holds fuPairTwice)
+pub fu_pair_twice_holds : T (holds fu_pair_twice)
 unfolding holds
-fu-pair-twice = quick fuPairTwice tt
+fu_pair_twice_holds = quick fu_pair_twice tt
 
-pub fu-pair-twice-at-two : T (holds fuPairTwiceAtTwo)
+pub fu_pair_twice_at_two_holds : T (holds fu_pair_twice_at_two)
 unfolding holds
-fu-pair-twice-at-two = quick fuPairTwiceAtTwo tt
+fu_pair_twice_at_two_holds = quick fu_pair_twice_at_two tt
 
-pub fu-pair-twice-tsumo : T (holds fuPairTwiceTsumo)
+pub fu_pair_twice_tsumo_holds : T (holds fu_pair_twice_tsumo)
 unfolding holds
-fu-pair-twice-tsumo = quick fuPairTwiceTsumo tt
+fu_pair_twice_tsumo_holds = quick fu_pair_twice_tsumo tt
 
-pub fu-pair-twice-tsumo-at-two : T (holds fuPairTwiceTsumoAtTwo)
+pub fu_pair_twice_tsumo_at_two_holds : T (holds fu_pair_twice_tsumo_at_two)
 unfolding holds
-fu-pair-twice-tsumo-at-two = quick fuPairTwiceTsumoAtTwo tt
+fu_pair_twice_tsumo_at_two_holds = quick fu_pair_twice_tsumo_at_two tt
 
-pub fu-triplet-twice-at-two : T (holds fuTripletTwiceAtTwo)
+pub fu_triplet_twice_at_two_holds : T (holds fu_triplet_twice_at_two)
 unfolding holds
-fu-triplet-twice-at-two = quick fuTripletTwiceAtTwo tt
+fu_triplet_twice_at_two_holds = quick fu_triplet_twice_at_two tt
 
-pub fu-pair-once : T (holds fuPairOnce)
+pub fu_pair_once_holds : T (holds fu_pair_once)
 unfolding holds
-fu-pair-once = quick fuPairOnce tt
+fu_pair_once_holds = quick fu_pair_once tt
 
-pub fu-pair-none : T (holds fuPairNone)
+pub fu_pair_none_holds : T (holds fu_pair_none)
 unfolding holds
-fu-pair-none = quick fuPairNone tt
+fu_pair_none_holds = quick fu_pair_none tt
 
-pub fu-pair-seat : T (holds fuPairSeat)
+pub fu_pair_seat_holds : T (holds fu_pair_seat)
 unfolding holds
-fu-pair-seat = quick fuPairSeat tt
+fu_pair_seat_holds = quick fu_pair_seat tt
 
-pub fu-pair-round : T (holds fuPairRound)
+pub fu_pair_round_holds : T (holds fu_pair_round)
 unfolding holds
-fu-pair-round = quick fuPairRound tt
+fu_pair_round_holds = quick fu_pair_round tt
 
-pub fu-pair-dragons : T (holds fuPairDragons)
+pub fu_pair_dragons_holds : T (holds fu_pair_dragons)
 unfolding holds
-fu-pair-dragons = quick fuPairDragons tt
+fu_pair_dragons_holds = quick fu_pair_dragons tt
 
-pub fu-pair-other-wind : T (holds fuPairOtherWind)
+pub fu_pair_other_wind_holds : T (holds fu_pair_other_wind)
 unfolding holds
-fu-pair-other-wind = quick fuPairOtherWind tt
+fu_pair_other_wind_holds = quick fu_pair_other_wind tt
 
 -- ---- Pinfu by tsumo has 20, an open hand at least 30, seven pairs 25, thirteen orphans 30
-pub fu-pinfu-tsumo : T (holds fuPinfuTsumo)
+pub fu_pinfu_tsumo_holds : T (holds fu_pinfu_tsumo)
 unfolding holds
-fu-pinfu-tsumo = quick fuPinfuTsumo tt
+fu_pinfu_tsumo_holds = quick fu_pinfu_tsumo tt
 
-pub fu-open-ron : T (holds fuOpenRon)
+pub fu_open_ron_holds : T (holds fu_open_ron)
 unfolding holds
-fu-open-ron = quick fuOpenRon tt
+fu_open_ron_holds = quick fu_open_ron tt
 
-pub fu-open-tsumo : T (holds fuOpenTsumo)
+pub fu_open_tsumo_holds : T (holds fu_open_tsumo)
 unfolding holds
-fu-open-tsumo = quick fuOpenTsumo tt
+fu_open_tsumo_holds = quick fu_open_tsumo tt
 
-pub fu-tsumo-middle : T (holds fuTsumoMiddle)
+pub fu_tsumo_middle_holds : T (holds fu_tsumo_middle)
 unfolding holds
-fu-tsumo-middle = quick fuTsumoMiddle tt
+fu_tsumo_middle_holds = quick fu_tsumo_middle tt
 
-pub fu-seven-pairs : T (holds fuSevenPairs)
+pub fu_seven_pairs_holds : T (holds fu_seven_pairs)
 unfolding holds
-fu-seven-pairs = quick fuSevenPairs tt
+fu_seven_pairs_holds = quick fu_seven_pairs tt
 
-pub fu-orphans : T (holds fuOrphans)
+pub fu_orphans_holds : T (holds fu_orphans)
 unfolding holds
-fu-orphans = quick fuOrphans tt
+fu_orphans_holds = quick fu_orphans tt

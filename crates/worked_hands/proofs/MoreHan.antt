@@ -2,299 +2,299 @@
 use lib.Dec.{T}
 use Rattle.played.specs.Row.{holds}
 use Rattle.played.proofs.Quick.{quick}
-use Rattle.worked_hands.specs.MoreHan.{doubleRiichiClosed, doubleRiichiIppatsu, doubleRiichiWithoutRiichi, doubleRiichiOpen, toitoiOpen, toitoiWithKans, toitoiClosed, toitoiSequence, sanshokuClosed, sanshokuOpen, sanshokuShifted, sanshokuTwoSuits, sanshokuDoukouOpen, sanshokuDoukouKan, sanshokuDoukouClosed, sanshokuDoukouOther, sanshokuDoukouPair, ittsuClosed, ittsuOpen, ittsuTwoSuits, ittsuShifted, pairsByRon, pairsByTsumo, pairsOfSimples, pairsOfSimplesTsumo, pairsHalfFlush, pairsFullFlush, pairsTerminalsHonors, pairsFourOfAKind, pairsSevenKinds, chantaClosed, chantaOpen, chantaHonorPair, chantaMiddle, chantaSimplePair, chantaSimpleTriplet, sanAnkouClosed, sanAnkouOpen, sanAnkouKan, sanAnkouTsumo, sanAnkouRonTriplet, sanAnkouSpared, sanAnkouCalledSequence, sanAnkouPon, sanAnkouOpenKan, sanAnkouAddedKan, sanKantsuThree, sanKantsuTwo, honroutouOpen, honroutouSequence, honroutouSimple, shousangenPair, shousangenOtherPair, shousangenOneTriplet, honitsuClosed, honitsuOpen, honitsuTwoSuits, honitsuCall, junchanClosed, junchanOpen, junchanHonors, junchanMiddle, ryanpeikouClosed, ryanpeikouFourAlike, ryanpeikouThreeAlike, ryanpeikouOpen, chinitsuClosed, chinitsuOpen, chinitsuHonors, chinitsuOtherPair}
+use Rattle.worked_hands.specs.MoreHan.{double_riichi_closed, double_riichi_ippatsu, double_riichi_without_riichi, double_riichi_open, toitoi_open, toitoi_with_kans, toitoi_closed, toitoi_sequence, sanshoku_closed, sanshoku_open, sanshoku_shifted, sanshoku_two_suits, sanshoku_doukou_open, sanshoku_doukou_kan, sanshoku_doukou_closed, sanshoku_doukou_other, sanshoku_doukou_pair, ittsu_closed, ittsu_open, ittsu_two_suits, ittsu_shifted, pairs_by_ron, pairs_by_tsumo, pairs_of_simples, pairs_of_simples_tsumo, pairs_half_flush, pairs_full_flush, pairs_terminals_honors, pairs_four_of_a_kind, pairs_seven_kinds, chanta_closed, chanta_open, chanta_honor_pair, chanta_middle, chanta_simple_pair, chanta_simple_triplet, san_ankou_closed, san_ankou_open, san_ankou_kan, san_ankou_tsumo, san_ankou_ron_triplet, san_ankou_spared, san_ankou_called_sequence, san_ankou_pon, san_ankou_open_kan, san_ankou_added_kan, san_kantsu_three, san_kantsu_two, honroutou_open, honroutou_sequence, honroutou_simple, shousangen_pair, shousangen_other_pair, shousangen_one_triplet, honitsu_closed, honitsu_open, honitsu_two_suits, honitsu_call, junchan_closed, junchan_open, junchan_honors, junchan_middle, ryanpeikou_closed, ryanpeikou_four_alike, ryanpeikou_three_alike, ryanpeikou_open, chinitsu_closed, chinitsu_open, chinitsu_honors, chinitsu_other_pair}
 
 -- ---- DoubleRiichi
-pub double-riichi-closed : T (holds doubleRiichiClosed)
+pub double_riichi_closed_holds : T (holds double_riichi_closed)
 unfolding holds
-double-riichi-closed = quick doubleRiichiClosed tt
+double_riichi_closed_holds = quick double_riichi_closed tt
 
-pub double-riichi-ippatsu : T (holds doubleRiichiIppatsu)
+pub double_riichi_ippatsu_holds : T (holds double_riichi_ippatsu)
 unfolding holds
-double-riichi-ippatsu = quick doubleRiichiIppatsu tt
+double_riichi_ippatsu_holds = quick double_riichi_ippatsu tt
 
-pub double-riichi-without-riichi : T (holds doubleRiichiWithoutRiichi)
+pub double_riichi_without_riichi_holds : T (holds double_riichi_without_riichi)
 unfolding holds
-double-riichi-without-riichi = quick doubleRiichiWithoutRiichi tt
+double_riichi_without_riichi_holds = quick double_riichi_without_riichi tt
 
-pub double-riichi-open : T (holds doubleRiichiOpen)
+pub double_riichi_open_holds : T (holds double_riichi_open)
 unfolding holds
-double-riichi-open = quick doubleRiichiOpen tt
+double_riichi_open_holds = quick double_riichi_open tt
 
 -- ---- Toitoi
-pub toitoi-open : T (holds toitoiOpen)
+pub toitoi_open_holds : T (holds toitoi_open)
 unfolding holds
-toitoi-open = quick toitoiOpen tt
+toitoi_open_holds = quick toitoi_open tt
 
-pub toitoi-with-kans : T (holds toitoiWithKans)
+pub toitoi_with_kans_holds : T (holds toitoi_with_kans)
 unfolding holds
-toitoi-with-kans = quick toitoiWithKans tt
+toitoi_with_kans_holds = quick toitoi_with_kans tt
 
-pub toitoi-closed : T (holds toitoiClosed)
+pub toitoi_closed_holds : T (holds toitoi_closed)
 unfolding holds
-toitoi-closed = quick toitoiClosed tt
+toitoi_closed_holds = quick toitoi_closed tt
 
-pub toitoi-sequence : T (holds toitoiSequence)
+pub toitoi_sequence_holds : T (holds toitoi_sequence)
 unfolding holds
-toitoi-sequence = quick toitoiSequence tt
+toitoi_sequence_holds = quick toitoi_sequence tt
 
 -- ---- SanshokuDoujun
-pub sanshoku-closed : T (holds sanshokuClosed)
+pub sanshoku_closed_holds : T (holds sanshoku_closed)
 unfolding holds
-sanshoku-closed = quick sanshokuClosed tt
+sanshoku_closed_holds = quick sanshoku_closed tt
 
-pub sanshoku-open : T (holds sanshokuOpen)
+pub sanshoku_open_holds : T (holds sanshoku_open)
 unfolding holds
-sanshoku-open = quick sanshokuOpen tt
+sanshoku_open_holds = quick sanshoku_open tt
 
-pub sanshoku-shifted : T (holds sanshokuShifted)
+pub sanshoku_shifted_holds : T (holds sanshoku_shifted)
 unfolding holds
-sanshoku-shifted = quick sanshokuShifted tt
+sanshoku_shifted_holds = quick sanshoku_shifted tt
 
-pub sanshoku-two-suits : T (holds sanshokuTwoSuits)
+pub sanshoku_two_suits_holds : T (holds sanshoku_two_suits)
 unfolding holds
-sanshoku-two-suits = quick sanshokuTwoSuits tt
+sanshoku_two_suits_holds = quick sanshoku_two_suits tt
 
 -- ---- SanshokuDoukou
-pub sanshoku-doukou-open : T (holds sanshokuDoukouOpen)
+pub sanshoku_doukou_open_holds : T (holds sanshoku_doukou_open)
 unfolding holds
-sanshoku-doukou-open = quick sanshokuDoukouOpen tt
+sanshoku_doukou_open_holds = quick sanshoku_doukou_open tt
 
-pub sanshoku-doukou-kan : T (holds sanshokuDoukouKan)
+pub sanshoku_doukou_kan_holds : T (holds sanshoku_doukou_kan)
 unfolding holds
-sanshoku-doukou-kan = quick sanshokuDoukouKan tt
+sanshoku_doukou_kan_holds = quick sanshoku_doukou_kan tt
 
-pub sanshoku-doukou-closed : T (holds sanshokuDoukouClosed)
+pub sanshoku_doukou_closed_holds : T (holds sanshoku_doukou_closed)
 unfolding holds
-sanshoku-doukou-closed = quick sanshokuDoukouClosed tt
+sanshoku_doukou_closed_holds = quick sanshoku_doukou_closed tt
 
-pub sanshoku-doukou-other : T (holds sanshokuDoukouOther)
+pub sanshoku_doukou_other_holds : T (holds sanshoku_doukou_other)
 unfolding holds
-sanshoku-doukou-other = quick sanshokuDoukouOther tt
+sanshoku_doukou_other_holds = quick sanshoku_doukou_other tt
 
-pub sanshoku-doukou-pair : T (holds sanshokuDoukouPair)
+pub sanshoku_doukou_pair_holds : T (holds sanshoku_doukou_pair)
 unfolding holds
-sanshoku-doukou-pair = quick sanshokuDoukouPair tt
+sanshoku_doukou_pair_holds = quick sanshoku_doukou_pair tt
 
 -- ---- Ittsu
-pub ittsu-closed : T (holds ittsuClosed)
+pub ittsu_closed_holds : T (holds ittsu_closed)
 unfolding holds
-ittsu-closed = quick ittsuClosed tt
+ittsu_closed_holds = quick ittsu_closed tt
 
-pub ittsu-open : T (holds ittsuOpen)
+pub ittsu_open_holds : T (holds ittsu_open)
 unfolding holds
-ittsu-open = quick ittsuOpen tt
+ittsu_open_holds = quick ittsu_open tt
 
-pub ittsu-two-suits : T (holds ittsuTwoSuits)
+pub ittsu_two_suits_holds : T (holds ittsu_two_suits)
 unfolding holds
-ittsu-two-suits = quick ittsuTwoSuits tt
+ittsu_two_suits_holds = quick ittsu_two_suits tt
 
-pub ittsu-shifted : T (holds ittsuShifted)
+pub ittsu_shifted_holds : T (holds ittsu_shifted)
 unfolding holds
-ittsu-shifted = quick ittsuShifted tt
+ittsu_shifted_holds = quick ittsu_shifted tt
 
 -- ---- Chiitoitsu
-pub pairs-by-ron : T (holds pairsByRon)
+pub pairs_by_ron_holds : T (holds pairs_by_ron)
 unfolding holds
-pairs-by-ron = quick pairsByRon tt
+pairs_by_ron_holds = quick pairs_by_ron tt
 
-pub pairs-by-tsumo : T (holds pairsByTsumo)
+pub pairs_by_tsumo_holds : T (holds pairs_by_tsumo)
 unfolding holds
-pairs-by-tsumo = quick pairsByTsumo tt
+pairs_by_tsumo_holds = quick pairs_by_tsumo tt
 
-pub pairs-of-simples : T (holds pairsOfSimples)
+pub pairs_of_simples_holds : T (holds pairs_of_simples)
 unfolding holds
-pairs-of-simples = quick pairsOfSimples tt
+pairs_of_simples_holds = quick pairs_of_simples tt
 
-pub pairs-of-simples-tsumo : T (holds pairsOfSimplesTsumo)
+pub pairs_of_simples_tsumo_holds : T (holds pairs_of_simples_tsumo)
 unfolding holds
-pairs-of-simples-tsumo = quick pairsOfSimplesTsumo tt
+pairs_of_simples_tsumo_holds = quick pairs_of_simples_tsumo tt
 
-pub pairs-half-flush : T (holds pairsHalfFlush)
+pub pairs_half_flush_holds : T (holds pairs_half_flush)
 unfolding holds
-pairs-half-flush = quick pairsHalfFlush tt
+pairs_half_flush_holds = quick pairs_half_flush tt
 
-pub pairs-full-flush : T (holds pairsFullFlush)
+pub pairs_full_flush_holds : T (holds pairs_full_flush)
 unfolding holds
-pairs-full-flush = quick pairsFullFlush tt
+pairs_full_flush_holds = quick pairs_full_flush tt
 
-pub pairs-terminals-honors : T (holds pairsTerminalsHonors)
+pub pairs_terminals_honors_holds : T (holds pairs_terminals_honors)
 unfolding holds
-pairs-terminals-honors = quick pairsTerminalsHonors tt
+pairs_terminals_honors_holds = quick pairs_terminals_honors tt
 
-pub pairs-four-of-a-kind : T (holds pairsFourOfAKind)
+pub pairs_four_of_a_kind_holds : T (holds pairs_four_of_a_kind)
 unfolding holds
-pairs-four-of-a-kind = quick pairsFourOfAKind tt
+pairs_four_of_a_kind_holds = quick pairs_four_of_a_kind tt
 
-pub pairs-seven-kinds : T (holds pairsSevenKinds)
+pub pairs_seven_kinds_holds : T (holds pairs_seven_kinds)
 unfolding holds
-pairs-seven-kinds = quick pairsSevenKinds tt
+pairs_seven_kinds_holds = quick pairs_seven_kinds tt
 
 -- ---- Chanta
-pub chanta-closed : T (holds chantaClosed)
+pub chanta_closed_holds : T (holds chanta_closed)
 unfolding holds
-chanta-closed = quick chantaClosed tt
+chanta_closed_holds = quick chanta_closed tt
 
-pub chanta-open : T (holds chantaOpen)
+pub chanta_open_holds : T (holds chanta_open)
 unfolding holds
-chanta-open = quick chantaOpen tt
+chanta_open_holds = quick chanta_open tt
 
-pub chanta-honor-pair : T (holds chantaHonorPair)
+pub chanta_honor_pair_holds : T (holds chanta_honor_pair)
 unfolding holds
-chanta-honor-pair = quick chantaHonorPair tt
+chanta_honor_pair_holds = quick chanta_honor_pair tt
 
-pub chanta-middle : T (holds chantaMiddle)
+pub chanta_middle_holds : T (holds chanta_middle)
 unfolding holds
-chanta-middle = quick chantaMiddle tt
+chanta_middle_holds = quick chanta_middle tt
 
-pub chanta-simple-pair : T (holds chantaSimplePair)
+pub chanta_simple_pair_holds : T (holds chanta_simple_pair)
 unfolding holds
-chanta-simple-pair = quick chantaSimplePair tt
+chanta_simple_pair_holds = quick chanta_simple_pair tt
 
-pub chanta-simple-triplet : T (holds chantaSimpleTriplet)
+pub chanta_simple_triplet_holds : T (holds chanta_simple_triplet)
 unfolding holds
-chanta-simple-triplet = quick chantaSimpleTriplet tt
+chanta_simple_triplet_holds = quick chanta_simple_triplet tt
 
 -- ---- SanAnkou
-pub san-ankou-closed : T (holds sanAnkouClosed)
+pub san_ankou_closed_holds : T (holds san_ankou_closed)
 unfolding holds
-san-ankou-closed = quick sanAnkouClosed tt
+san_ankou_closed_holds = quick san_ankou_closed tt
 
-pub san-ankou-open : T (holds sanAnkouOpen)
+pub san_ankou_open_holds : T (holds san_ankou_open)
 unfolding holds
-san-ankou-open = quick sanAnkouOpen tt
+san_ankou_open_holds = quick san_ankou_open tt
 
-pub san-ankou-kan : T (holds sanAnkouKan)
+pub san_ankou_kan_holds : T (holds san_ankou_kan)
 unfolding holds
-san-ankou-kan = quick sanAnkouKan tt
+san_ankou_kan_holds = quick san_ankou_kan tt
 
-pub san-ankou-tsumo : T (holds sanAnkouTsumo)
+pub san_ankou_tsumo_holds : T (holds san_ankou_tsumo)
 unfolding holds
-san-ankou-tsumo = quick sanAnkouTsumo tt
+san_ankou_tsumo_holds = quick san_ankou_tsumo tt
 
-pub san-ankou-ron-triplet : T (holds sanAnkouRonTriplet)
+pub san_ankou_ron_triplet_holds : T (holds san_ankou_ron_triplet)
 unfolding holds
-san-ankou-ron-triplet = quick sanAnkouRonTriplet tt
+san_ankou_ron_triplet_holds = quick san_ankou_ron_triplet tt
 
-pub san-ankou-spared : T (holds sanAnkouSpared)
+pub san_ankou_spared_holds : T (holds san_ankou_spared)
 unfolding holds
-san-ankou-spared = quick sanAnkouSpared tt
+san_ankou_spared_holds = quick san_ankou_spared tt
 
-pub san-ankou-called-sequence : T (holds sanAnkouCalledSequence)
+pub san_ankou_called_sequence_holds : T (holds san_ankou_called_sequence)
 unfolding holds
-san-ankou-called-sequence = quick sanAnkouCalledSequence tt
+san_ankou_called_sequence_holds = quick san_ankou_called_sequence tt
 
-pub san-ankou-pon : T (holds sanAnkouPon)
+pub san_ankou_pon_holds : T (holds san_ankou_pon)
 unfolding holds
-san-ankou-pon = quick sanAnkouPon tt
+san_ankou_pon_holds = quick san_ankou_pon tt
 
-pub san-ankou-open-kan : T (holds sanAnkouOpenKan)
+pub san_ankou_open_kan_holds : T (holds san_ankou_open_kan)
 unfolding holds
-san-ankou-open-kan = quick sanAnkouOpenKan tt
+san_ankou_open_kan_holds = quick san_ankou_open_kan tt
 
-pub san-ankou-added-kan : T (holds sanAnkouAddedKan)
+pub san_ankou_added_kan_holds : T (holds san_ankou_added_kan)
 unfolding holds
-san-ankou-added-kan = quick sanAnkouAddedKan tt
+san_ankou_added_kan_holds = quick san_ankou_added_kan tt
 
 -- ---- SanKantsu
-pub san-kantsu-three : T (holds sanKantsuThree)
+pub san_kantsu_three_holds : T (holds san_kantsu_three)
 unfolding holds
-san-kantsu-three = quick sanKantsuThree tt
+san_kantsu_three_holds = quick san_kantsu_three tt
 
-pub san-kantsu-two : T (holds sanKantsuTwo)
+pub san_kantsu_two_holds : T (holds san_kantsu_two)
 unfolding holds
-san-kantsu-two = quick sanKantsuTwo tt
+san_kantsu_two_holds = quick san_kantsu_two tt
 
 -- ---- Honroutou
-pub honroutou-open : T (holds honroutouOpen)
+pub honroutou_open_holds : T (holds honroutou_open)
 unfolding holds
-honroutou-open = quick honroutouOpen tt
+honroutou_open_holds = quick honroutou_open tt
 
-pub honroutou-sequence : T (holds honroutouSequence)
+pub honroutou_sequence_holds : T (holds honroutou_sequence)
 unfolding holds
-honroutou-sequence = quick honroutouSequence tt
+honroutou_sequence_holds = quick honroutou_sequence tt
 
-pub honroutou-simple : T (holds honroutouSimple)
+pub honroutou_simple_holds : T (holds honroutou_simple)
 unfolding holds
-honroutou-simple = quick honroutouSimple tt
+honroutou_simple_holds = quick honroutou_simple tt
 
 -- ---- Shousangen
-pub shousangen-pair : T (holds shousangenPair)
+pub shousangen_pair_holds : T (holds shousangen_pair)
 unfolding holds
-shousangen-pair = quick shousangenPair tt
+shousangen_pair_holds = quick shousangen_pair tt
 
-pub shousangen-other-pair : T (holds shousangenOtherPair)
+pub shousangen_other_pair_holds : T (holds shousangen_other_pair)
 unfolding holds
-shousangen-other-pair = quick shousangenOtherPair tt
+shousangen_other_pair_holds = quick shousangen_other_pair tt
 
-pub shousangen-one-triplet : T (holds shousangenOneTriplet)
+pub shousangen_one_triplet_holds : T (holds shousangen_one_triplet)
 unfolding holds
-shousangen-one-triplet = quick shousangenOneTriplet tt
+shousangen_one_triplet_holds = quick shousangen_one_triplet tt
 
 -- ---- Honitsu
-pub honitsu-closed : T (holds honitsuClosed)
+pub honitsu_closed_holds : T (holds honitsu_closed)
 unfolding holds
-honitsu-closed = quick honitsuClosed tt
+honitsu_closed_holds = quick honitsu_closed tt
 
-pub honitsu-open : T (holds honitsuOpen)
+pub honitsu_open_holds : T (holds honitsu_open)
 unfolding holds
-honitsu-open = quick honitsuOpen tt
+honitsu_open_holds = quick honitsu_open tt
 
-pub honitsu-two-suits : T (holds honitsuTwoSuits)
+pub honitsu_two_suits_holds : T (holds honitsu_two_suits)
 unfolding holds
-honitsu-two-suits = quick honitsuTwoSuits tt
+honitsu_two_suits_holds = quick honitsu_two_suits tt
 
-pub honitsu-call : T (holds honitsuCall)
+pub honitsu_call_holds : T (holds honitsu_call)
 unfolding holds
-honitsu-call = quick honitsuCall tt
+honitsu_call_holds = quick honitsu_call tt
 
 -- ---- Junchan
-pub junchan-closed : T (holds junchanClosed)
+pub junchan_closed_holds : T (holds junchan_closed)
 unfolding holds
-junchan-closed = quick junchanClosed tt
+junchan_closed_holds = quick junchan_closed tt
 
-pub junchan-open : T (holds junchanOpen)
+pub junchan_open_holds : T (holds junchan_open)
 unfolding holds
-junchan-open = quick junchanOpen tt
+junchan_open_holds = quick junchan_open tt
 
-pub junchan-honors : T (holds junchanHonors)
+pub junchan_honors_holds : T (holds junchan_honors)
 unfolding holds
-junchan-honors = quick junchanHonors tt
+junchan_honors_holds = quick junchan_honors tt
 
-pub junchan-middle : T (holds junchanMiddle)
+pub junchan_middle_holds : T (holds junchan_middle)
 unfolding holds
-junchan-middle = quick junchanMiddle tt
+junchan_middle_holds = quick junchan_middle tt
 
 -- ---- Ryanpeikou
-pub ryanpeikou-closed : T (holds ryanpeikouClosed)
+pub ryanpeikou_closed_holds : T (holds ryanpeikou_closed)
 unfolding holds
-ryanpeikou-closed = quick ryanpeikouClosed tt
+ryanpeikou_closed_holds = quick ryanpeikou_closed tt
 
-pub ryanpeikou-four-alike : T (holds ryanpeikouFourAlike)
+pub ryanpeikou_four_alike_holds : T (holds ryanpeikou_four_alike)
 unfolding holds
-ryanpeikou-four-alike = quick ryanpeikouFourAlike tt
+ryanpeikou_four_alike_holds = quick ryanpeikou_four_alike tt
 
-pub ryanpeikou-three-alike : T (holds ryanpeikouThreeAlike)
+pub ryanpeikou_three_alike_holds : T (holds ryanpeikou_three_alike)
 unfolding holds
-ryanpeikou-three-alike = quick ryanpeikouThreeAlike tt
+ryanpeikou_three_alike_holds = quick ryanpeikou_three_alike tt
 
-pub ryanpeikou-open : T (holds ryanpeikouOpen)
+pub ryanpeikou_open_holds : T (holds ryanpeikou_open)
 unfolding holds
-ryanpeikou-open = quick ryanpeikouOpen tt
+ryanpeikou_open_holds = quick ryanpeikou_open tt
 
 -- ---- Chinitsu
-pub chinitsu-closed : T (holds chinitsuClosed)
+pub chinitsu_closed_holds : T (holds chinitsu_closed)
 unfolding holds
-chinitsu-closed = quick chinitsuClosed tt
+chinitsu_closed_holds = quick chinitsu_closed tt
 
-pub chinitsu-open : T (holds chinitsuOpen)
+pub chinitsu_open_holds : T (holds chinitsu_open)
 unfolding holds
-chinitsu-open = quick chinitsuOpen tt
+chinitsu_open_holds = quick chinitsu_open tt
 
-pub chinitsu-honors : T (holds chinitsuHonors)
+pub chinitsu_honors_holds : T (holds chinitsu_honors)
 unfolding holds
-chinitsu-honors = quick chinitsuHonors tt
+chinitsu_honors_holds = quick chinitsu_honors tt
 
-pub chinitsu-other-pair : T (holds chinitsuOtherPair)
+pub chinitsu_other_pair_holds : T (holds chinitsu_other_pair)
 unfolding holds
-chinitsu-other-pair = quick chinitsuOtherPair tt
+chinitsu_other_pair_holds = quick chinitsu_other_pair tt

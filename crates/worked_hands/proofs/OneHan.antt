@@ -2,295 +2,295 @@
 use lib.Dec.{T}
 use Rattle.played.specs.Row.{holds}
 use Rattle.played.proofs.Quick.{quick}
-use Rattle.worked_hands.specs.OneHan.{riichiClosed, riichiWithClosedKan, riichiOpen, riichiNotDeclared, ippatsuAfterRiichi, ippatsuWithoutRiichi, ippatsuAfterKan, tsumoClosed, tsumoWithClosedKan, tsumoOpen, tanyaoClosed, tanyaoOpen, tanyaoTerminal, tanyaoTerminalCalled, tanyaoHonorPair, pinfuOtherWind, pinfuOtherWindTsumo, pinfuSeatWind, pinfuRoundWind, pinfuDragonPair, pinfuMiddle, pinfuEdge, pinfuLowEdge, pinfuPairWait, pinfuTriplet, pinfuOpen, pinfuEdgeOrSides, pinfuPairOrSides, iipeikouTwice, iipeikouWithClosedKan, iipeikouOpen, iipeikouTwoSuits, yakuhaiRoundEast, yakuhaiEastElsewhere, yakuhaiSeatSouth, yakuhaiRoundSouth, yakuhaiSouthElsewhere, yakuhaiSeatWest, yakuhaiRoundWest, yakuhaiWestElsewhere, yakuhaiSeatNorth, yakuhaiRoundNorth, yakuhaiNorthElsewhere, yakuhaiEastTwice, yakuhaiSouthTwice, yakuhaiWestTwice, yakuhaiNorthTwice, yakuhaiWhite, yakuhaiWhiteAcross, yakuhaiWhiteRight, yakuhaiGreen, yakuhaiRed, yakuhaiClosedTriplet, yakuhaiKan, yakuhaiWhitePair, yakuhaiGreenPair, yakuhaiRedPair, rinshanClosed, rinshanOpen, rinshanByRon, chankanAlone, chankanClosed, chankanByTsumo, haiteiAlone, haiteiClosed, haiteiAfterKan, houteiAlone, houteiClosed, houteiAndChankan, houteiEarlier}
+use Rattle.worked_hands.specs.OneHan.{riichi_closed, riichi_with_closed_kan, riichi_open, riichi_not_declared, ippatsu_after_riichi, ippatsu_without_riichi, ippatsu_after_kan, tsumo_closed, tsumo_with_closed_kan, tsumo_open, tanyao_closed, tanyao_open, tanyao_terminal, tanyao_terminal_called, tanyao_honor_pair, pinfu_other_wind, pinfu_other_wind_tsumo, pinfu_seat_wind, pinfu_round_wind, pinfu_dragon_pair, pinfu_middle, pinfu_edge, pinfu_low_edge, pinfu_pair_wait, pinfu_triplet, pinfu_open, pinfu_edge_or_sides, pinfu_pair_or_sides, iipeikou_twice, iipeikou_with_closed_kan, iipeikou_open, iipeikou_two_suits, yakuhai_round_east, yakuhai_east_elsewhere, yakuhai_seat_south, yakuhai_round_south, yakuhai_south_elsewhere, yakuhai_seat_west, yakuhai_round_west, yakuhai_west_elsewhere, yakuhai_seat_north, yakuhai_round_north, yakuhai_north_elsewhere, yakuhai_east_twice, yakuhai_south_twice, yakuhai_west_twice, yakuhai_north_twice, yakuhai_white, yakuhai_white_across, yakuhai_white_right, yakuhai_green, yakuhai_red, yakuhai_closed_triplet, yakuhai_kan, yakuhai_white_pair, yakuhai_green_pair, yakuhai_red_pair, rinshan_closed, rinshan_open, rinshan_by_ron, chankan_alone, chankan_closed, chankan_by_tsumo, haitei_alone, haitei_closed, haitei_after_kan, houtei_alone, houtei_closed, houtei_and_chankan, houtei_earlier}
 
 -- ---- Riichi
-pub riichi-closed : T (holds riichiClosed)
+pub riichi_closed_holds : T (holds riichi_closed)
 unfolding holds
-riichi-closed = quick riichiClosed tt
+riichi_closed_holds = quick riichi_closed tt
 
-pub riichi-with-closed-kan : T (holds riichiWithClosedKan)
+pub riichi_with_closed_kan_holds : T (holds riichi_with_closed_kan)
 unfolding holds
-riichi-with-closed-kan = quick riichiWithClosedKan tt
+riichi_with_closed_kan_holds = quick riichi_with_closed_kan tt
 
-pub riichi-open : T (holds riichiOpen)
+pub riichi_open_holds : T (holds riichi_open)
 unfolding holds
-riichi-open = quick riichiOpen tt
+riichi_open_holds = quick riichi_open tt
 
-pub riichi-not-declared : T (holds riichiNotDeclared)
+pub riichi_not_declared_holds : T (holds riichi_not_declared)
 unfolding holds
-riichi-not-declared = quick riichiNotDeclared tt
+riichi_not_declared_holds = quick riichi_not_declared tt
 
 -- ---- Ippatsu
-pub ippatsu-after-riichi : T (holds ippatsuAfterRiichi)
+pub ippatsu_after_riichi_holds : T (holds ippatsu_after_riichi)
 unfolding holds
-ippatsu-after-riichi = quick ippatsuAfterRiichi tt
+ippatsu_after_riichi_holds = quick ippatsu_after_riichi tt
 
-pub ippatsu-without-riichi : T (holds ippatsuWithoutRiichi)
+pub ippatsu_without_riichi_holds : T (holds ippatsu_without_riichi)
 unfolding holds
-ippatsu-without-riichi = quick ippatsuWithoutRiichi tt
+ippatsu_without_riichi_holds = quick ippatsu_without_riichi tt
 
-pub ippatsu-after-kan : T (holds ippatsuAfterKan)
+pub ippatsu_after_kan_holds : T (holds ippatsu_after_kan)
 unfolding holds
-ippatsu-after-kan = quick ippatsuAfterKan tt
+ippatsu_after_kan_holds = quick ippatsu_after_kan tt
 
 -- ---- MenzenTsumo
-pub tsumo-closed : T (holds tsumoClosed)
+pub tsumo_closed_holds : T (holds tsumo_closed)
 unfolding holds
-tsumo-closed = quick tsumoClosed tt
+tsumo_closed_holds = quick tsumo_closed tt
 
-pub tsumo-with-closed-kan : T (holds tsumoWithClosedKan)
+pub tsumo_with_closed_kan_holds : T (holds tsumo_with_closed_kan)
 unfolding holds
-tsumo-with-closed-kan = quick tsumoWithClosedKan tt
+tsumo_with_closed_kan_holds = quick tsumo_with_closed_kan tt
 
-pub tsumo-open : T (holds tsumoOpen)
+pub tsumo_open_holds : T (holds tsumo_open)
 unfolding holds
-tsumo-open = quick tsumoOpen tt
+tsumo_open_holds = quick tsumo_open tt
 
 -- ---- Tanyao
-pub tanyao-closed : T (holds tanyaoClosed)
+pub tanyao_closed_holds : T (holds tanyao_closed)
 unfolding holds
-tanyao-closed = quick tanyaoClosed tt
+tanyao_closed_holds = quick tanyao_closed tt
 
-pub tanyao-open : T (holds tanyaoOpen)
+pub tanyao_open_holds : T (holds tanyao_open)
 unfolding holds
-tanyao-open = quick tanyaoOpen tt
+tanyao_open_holds = quick tanyao_open tt
 
-pub tanyao-terminal : T (holds tanyaoTerminal)
+pub tanyao_terminal_holds : T (holds tanyao_terminal)
 unfolding holds
-tanyao-terminal = quick tanyaoTerminal tt
+tanyao_terminal_holds = quick tanyao_terminal tt
 
-pub tanyao-terminal-called : T (holds tanyaoTerminalCalled)
+pub tanyao_terminal_called_holds : T (holds tanyao_terminal_called)
 unfolding holds
-tanyao-terminal-called = quick tanyaoTerminalCalled tt
+tanyao_terminal_called_holds = quick tanyao_terminal_called tt
 
-pub tanyao-honor-pair : T (holds tanyaoHonorPair)
+pub tanyao_honor_pair_holds : T (holds tanyao_honor_pair)
 unfolding holds
-tanyao-honor-pair = quick tanyaoHonorPair tt
+tanyao_honor_pair_holds = quick tanyao_honor_pair tt
 
 -- ---- Pinfu
-pub pinfu-other-wind : T (holds pinfuOtherWind)
+pub pinfu_other_wind_holds : T (holds pinfu_other_wind)
 unfolding holds
-pinfu-other-wind = quick pinfuOtherWind tt
+pinfu_other_wind_holds = quick pinfu_other_wind tt
 
-pub pinfu-other-wind-tsumo : T (holds pinfuOtherWindTsumo)
+pub pinfu_other_wind_tsumo_holds : T (holds pinfu_other_wind_tsumo)
 unfolding holds
-pinfu-other-wind-tsumo = quick pinfuOtherWindTsumo tt
+pinfu_other_wind_tsumo_holds = quick pinfu_other_wind_tsumo tt
 
-pub pinfu-seat-wind : T (holds pinfuSeatWind)
+pub pinfu_seat_wind_holds : T (holds pinfu_seat_wind)
 unfolding holds
-pinfu-seat-wind = quick pinfuSeatWind tt
+pinfu_seat_wind_holds = quick pinfu_seat_wind tt
 
-pub pinfu-round-wind : T (holds pinfuRoundWind)
+pub pinfu_round_wind_holds : T (holds pinfu_round_wind)
 unfolding holds
-pinfu-round-wind = quick pinfuRoundWind tt
+pinfu_round_wind_holds = quick pinfu_round_wind tt
 
-pub pinfu-dragon-pair : T (holds pinfuDragonPair)
+pub pinfu_dragon_pair_holds : T (holds pinfu_dragon_pair)
 unfolding holds
-pinfu-dragon-pair = quick pinfuDragonPair tt
+pinfu_dragon_pair_holds = quick pinfu_dragon_pair tt
 
-pub pinfu-middle : T (holds pinfuMiddle)
+pub pinfu_middle_holds : T (holds pinfu_middle)
 unfolding holds
-pinfu-middle = quick pinfuMiddle tt
+pinfu_middle_holds = quick pinfu_middle tt
 
-pub pinfu-edge : T (holds pinfuEdge)
+pub pinfu_edge_holds : T (holds pinfu_edge)
 unfolding holds
-pinfu-edge = quick pinfuEdge tt
+pinfu_edge_holds = quick pinfu_edge tt
 
-pub pinfu-low-edge : T (holds pinfuLowEdge)
+pub pinfu_low_edge_holds : T (holds pinfu_low_edge)
 unfolding holds
-pinfu-low-edge = quick pinfuLowEdge tt
+pinfu_low_edge_holds = quick pinfu_low_edge tt
 
-pub pinfu-pair-wait : T (holds pinfuPairWait)
+pub pinfu_pair_wait_holds : T (holds pinfu_pair_wait)
 unfolding holds
-pinfu-pair-wait = quick pinfuPairWait tt
+pinfu_pair_wait_holds = quick pinfu_pair_wait tt
 
-pub pinfu-triplet : T (holds pinfuTriplet)
+pub pinfu_triplet_holds : T (holds pinfu_triplet)
 unfolding holds
-pinfu-triplet = quick pinfuTriplet tt
+pinfu_triplet_holds = quick pinfu_triplet tt
 
-pub pinfu-open : T (holds pinfuOpen)
+pub pinfu_open_holds : T (holds pinfu_open)
 unfolding holds
-pinfu-open = quick pinfuOpen tt
+pinfu_open_holds = quick pinfu_open tt
 
-pub pinfu-edge-or-sides : T (holds pinfuEdgeOrSides)
+pub pinfu_edge_or_sides_holds : T (holds pinfu_edge_or_sides)
 unfolding holds
-pinfu-edge-or-sides = quick pinfuEdgeOrSides tt
+pinfu_edge_or_sides_holds = quick pinfu_edge_or_sides tt
 
-pub pinfu-pair-or-sides : T (holds pinfuPairOrSides)
+pub pinfu_pair_or_sides_holds : T (holds pinfu_pair_or_sides)
 unfolding holds
-pinfu-pair-or-sides = quick pinfuPairOrSides tt
+pinfu_pair_or_sides_holds = quick pinfu_pair_or_sides tt
 
 -- ---- Iipeikou
-pub iipeikou-twice : T (holds iipeikouTwice)
+pub iipeikou_twice_holds : T (holds iipeikou_twice)
 unfolding holds
-iipeikou-twice = quick iipeikouTwice tt
+iipeikou_twice_holds = quick iipeikou_twice tt
 
-pub iipeikou-with-closed-kan : T (holds iipeikouWithClosedKan)
+pub iipeikou_with_closed_kan_holds : T (holds iipeikou_with_closed_kan)
 unfolding holds
-iipeikou-with-closed-kan = quick iipeikouWithClosedKan tt
+iipeikou_with_closed_kan_holds = quick iipeikou_with_closed_kan tt
 
-pub iipeikou-open : T (holds iipeikouOpen)
+pub iipeikou_open_holds : T (holds iipeikou_open)
 unfolding holds
-iipeikou-open = quick iipeikouOpen tt
+iipeikou_open_holds = quick iipeikou_open tt
 
-pub iipeikou-two-suits : T (holds iipeikouTwoSuits)
+pub iipeikou_two_suits_holds : T (holds iipeikou_two_suits)
 unfolding holds
-iipeikou-two-suits = quick iipeikouTwoSuits tt
+iipeikou_two_suits_holds = quick iipeikou_two_suits tt
 
 -- ---- Yakuhai
-pub yakuhai-round-east : T (holds yakuhaiRoundEast)
+pub yakuhai_round_east_holds : T (holds yakuhai_round_east)
 unfolding holds
-yakuhai-round-east = quick yakuhaiRoundEast tt
+yakuhai_round_east_holds = quick yakuhai_round_east tt
 
-pub yakuhai-east-elsewhere : T (holds yakuhaiEastElsewhere)
+pub yakuhai_east_elsewhere_holds : T (holds yakuhai_east_elsewhere)
 unfolding holds
-yakuhai-east-elsewhere = quick yakuhaiEastElsewhere tt
+yakuhai_east_elsewhere_holds = quick yakuhai_east_elsewhere tt
 
-pub yakuhai-seat-south : T (holds yakuhaiSeatSouth)
+pub yakuhai_seat_south_holds : T (holds yakuhai_seat_south)
 unfolding holds
-yakuhai-seat-south = quick yakuhaiSeatSouth tt
+yakuhai_seat_south_holds = quick yakuhai_seat_south tt
 
-pub yakuhai-round-south : T (holds yakuhaiRoundSouth)
+pub yakuhai_round_south_holds : T (holds yakuhai_round_south)
 unfolding holds
-yakuhai-round-south = quick yakuhaiRoundSouth tt
+yakuhai_round_south_holds = quick yakuhai_round_south tt
 
-pub yakuhai-south-elsewhere : T (holds yakuhaiSouthElsewhere)
+pub yakuhai_south_elsewhere_holds : T (holds yakuhai_south_elsewhere)
 unfolding holds
-yakuhai-south-elsewhere = quick yakuhaiSouthElsewhere tt
+yakuhai_south_elsewhere_holds = quick yakuhai_south_elsewhere tt
 
-pub yakuhai-seat-west : T (holds yakuhaiSeatWest)
+pub yakuhai_seat_west_holds : T (holds yakuhai_seat_west)
 unfolding holds
-yakuhai-seat-west = quick yakuhaiSeatWest tt
+yakuhai_seat_west_holds = quick yakuhai_seat_west tt
 
-pub yakuhai-round-west : T (holds yakuhaiRoundWest)
+pub yakuhai_round_west_holds : T (holds yakuhai_round_west)
 unfolding holds
-yakuhai-round-west = quick yakuhaiRoundWest tt
+yakuhai_round_west_holds = quick yakuhai_round_west tt
 
-pub yakuhai-west-elsewhere : T (holds yakuhaiWestElsewhere)
+pub yakuhai_west_elsewhere_holds : T (holds yakuhai_west_elsewhere)
 unfolding holds
-yakuhai-west-elsewhere = quick yakuhaiWestElsewhere tt
+yakuhai_west_elsewhere_holds = quick yakuhai_west_elsewhere tt
 
-pub yakuhai-seat-north : T (holds yakuhaiSeatNorth)
+pub yakuhai_seat_north_holds : T (holds yakuhai_seat_north)
 unfolding holds
-yakuhai-seat-north = quick yakuhaiSeatNorth tt
+yakuhai_seat_north_holds = quick yakuhai_seat_north tt
 
-pub yakuhai-round-north : T (holds yakuhaiRoundNorth)
+pub yakuhai_round_north_holds : T (holds yakuhai_round_north)
 unfolding holds
-yakuhai-round-north = quick yakuhaiRoundNorth tt
+yakuhai_round_north_holds = quick yakuhai_round_north tt
 
-pub yakuhai-north-elsewhere : T (holds yakuhaiNorthElsewhere)
+pub yakuhai_north_elsewhere_holds : T (holds yakuhai_north_elsewhere)
 unfolding holds
-yakuhai-north-elsewhere = quick yakuhaiNorthElsewhere tt
+yakuhai_north_elsewhere_holds = quick yakuhai_north_elsewhere tt
 
-pub yakuhai-east-twice : T (holds yakuhaiEastTwice)
+pub yakuhai_east_twice_holds : T (holds yakuhai_east_twice)
 unfolding holds
-yakuhai-east-twice = quick yakuhaiEastTwice tt
+yakuhai_east_twice_holds = quick yakuhai_east_twice tt
 
-pub yakuhai-south-twice : T (holds yakuhaiSouthTwice)
+pub yakuhai_south_twice_holds : T (holds yakuhai_south_twice)
 unfolding holds
-yakuhai-south-twice = quick yakuhaiSouthTwice tt
+yakuhai_south_twice_holds = quick yakuhai_south_twice tt
 
-pub yakuhai-west-twice : T (holds yakuhaiWestTwice)
+pub yakuhai_west_twice_holds : T (holds yakuhai_west_twice)
 unfolding holds
-yakuhai-west-twice = quick yakuhaiWestTwice tt
+yakuhai_west_twice_holds = quick yakuhai_west_twice tt
 
-pub yakuhai-north-twice : T (holds yakuhaiNorthTwice)
+pub yakuhai_north_twice_holds : T (holds yakuhai_north_twice)
 unfolding holds
-yakuhai-north-twice = quick yakuhaiNorthTwice tt
+yakuhai_north_twice_holds = quick yakuhai_north_twice tt
 
-pub yakuhai-white : T (holds yakuhaiWhite)
+pub yakuhai_white_holds : T (holds yakuhai_white)
 unfolding holds
-yakuhai-white = quick yakuhaiWhite tt
+yakuhai_white_holds = quick yakuhai_white tt
 
-pub yakuhai-white-across : T (holds yakuhaiWhiteAcross)
+pub yakuhai_white_across_holds : T (holds yakuhai_white_across)
 unfolding holds
-yakuhai-white-across = quick yakuhaiWhiteAcross tt
+yakuhai_white_across_holds = quick yakuhai_white_across tt
 
-pub yakuhai-white-right : T (holds yakuhaiWhiteRight)
+pub yakuhai_white_right_holds : T (holds yakuhai_white_right)
 unfolding holds
-yakuhai-white-right = quick yakuhaiWhiteRight tt
+yakuhai_white_right_holds = quick yakuhai_white_right tt
 
-pub yakuhai-green : T (holds yakuhaiGreen)
+pub yakuhai_green_holds : T (holds yakuhai_green)
 unfolding holds
-yakuhai-green = quick yakuhaiGreen tt
+yakuhai_green_holds = quick yakuhai_green tt
 
-pub yakuhai-red : T (holds yakuhaiRed)
+pub yakuhai_red_holds : T (holds yakuhai_red)
 unfolding holds
-yakuhai-red = quick yakuhaiRed tt
+yakuhai_red_holds = quick yakuhai_red tt
 
-pub yakuhai-closed-triplet : T (holds yakuhaiClosedTriplet)
+pub yakuhai_closed_triplet_holds : T (holds yakuhai_closed_triplet)
 unfolding holds
-yakuhai-closed-triplet = quick yakuhaiClosedTriplet tt
+yakuhai_closed_triplet_holds = quick yakuhai_closed_triplet tt
 
-pub yakuhai-kan : T (holds yakuhaiKan)
+pub yakuhai_kan_holds : T (holds yakuhai_kan)
 unfolding holds
-yakuhai-kan = quick yakuhaiKan tt
+yakuhai_kan_holds = quick yakuhai_kan tt
 
-pub yakuhai-white-pair : T (holds yakuhaiWhitePair)
+pub yakuhai_white_pair_holds : T (holds yakuhai_white_pair)
 unfolding holds
-yakuhai-white-pair = quick yakuhaiWhitePair tt
+yakuhai_white_pair_holds = quick yakuhai_white_pair tt
 
-pub yakuhai-green-pair : T (holds yakuhaiGreenPair)
+pub yakuhai_green_pair_holds : T (holds yakuhai_green_pair)
 unfolding holds
-yakuhai-green-pair = quick yakuhaiGreenPair tt
+yakuhai_green_pair_holds = quick yakuhai_green_pair tt
 
-pub yakuhai-red-pair : T (holds yakuhaiRedPair)
+pub yakuhai_red_pair_holds : T (holds yakuhai_red_pair)
 unfolding holds
-yakuhai-red-pair = quick yakuhaiRedPair tt
+yakuhai_red_pair_holds = quick yakuhai_red_pair tt
 
 -- ---- RinshanKaihou
-pub rinshan-closed : T (holds rinshanClosed)
+pub rinshan_closed_holds : T (holds rinshan_closed)
 unfolding holds
-rinshan-closed = quick rinshanClosed tt
+rinshan_closed_holds = quick rinshan_closed tt
 
-pub rinshan-open : T (holds rinshanOpen)
+pub rinshan_open_holds : T (holds rinshan_open)
 unfolding holds
-rinshan-open = quick rinshanOpen tt
+rinshan_open_holds = quick rinshan_open tt
 
-pub rinshan-by-ron : T (holds rinshanByRon)
+pub rinshan_by_ron_holds : T (holds rinshan_by_ron)
 unfolding holds
-rinshan-by-ron = quick rinshanByRon tt
+rinshan_by_ron_holds = quick rinshan_by_ron tt
 
 -- ---- Chankan
-pub chankan-alone : T (holds chankanAlone)
+pub chankan_alone_holds : T (holds chankan_alone)
 unfolding holds
-chankan-alone = quick chankanAlone tt
+chankan_alone_holds = quick chankan_alone tt
 
-pub chankan-closed : T (holds chankanClosed)
+pub chankan_closed_holds : T (holds chankan_closed)
 unfolding holds
-chankan-closed = quick chankanClosed tt
+chankan_closed_holds = quick chankan_closed tt
 
-pub chankan-by-tsumo : T (holds chankanByTsumo)
+pub chankan_by_tsumo_holds : T (holds chankan_by_tsumo)
 unfolding holds
-chankan-by-tsumo = quick chankanByTsumo tt
+chankan_by_tsumo_holds = quick chankan_by_tsumo tt
 
 -- ---- HaiteiRaoyue
-pub haitei-alone : T (holds haiteiAlone)
+pub haitei_alone_holds : T (holds haitei_alone)
 unfolding holds
-haitei-alone = quick haiteiAlone tt
+haitei_alone_holds = quick haitei_alone tt
 
-pub haitei-closed : T (holds haiteiClosed)
+pub haitei_closed_holds : T (holds haitei_closed)
 unfolding holds
-haitei-closed = quick haiteiClosed tt
+haitei_closed_holds = quick haitei_closed tt
 
-pub haitei-after-kan : T (holds haiteiAfterKan)
+pub haitei_after_kan_holds : T (holds haitei_after_kan)
 unfolding holds
-haitei-after-kan = quick haiteiAfterKan tt
+haitei_after_kan_holds = quick haitei_after_kan tt
 
 -- ---- HouteiRaoyui
-pub houtei-alone : T (holds houteiAlone)
+pub houtei_alone_holds : T (holds houtei_alone)
 unfolding holds
-houtei-alone = quick houteiAlone tt
+houtei_alone_holds = quick houtei_alone tt
 
-pub houtei-closed : T (holds houteiClosed)
+pub houtei_closed_holds : T (holds houtei_closed)
 unfolding holds
-houtei-closed = quick houteiClosed tt
+houtei_closed_holds = quick houtei_closed tt
 
-pub houtei-and-chankan : T (holds houteiAndChankan)
+pub houtei_and_chankan_holds : T (holds houtei_and_chankan)
 unfolding holds
-houtei-and-chankan = quick houteiAndChankan tt
+houtei_and_chankan_holds = quick houtei_and_chankan tt
 
-pub houtei-earlier : T (holds houteiEarlier)
+pub houtei_earlier_holds : T (holds houtei_earlier)
 unfolding holds
-houtei-earlier = quick houteiEarlier tt
+houtei_earlier_holds = quick houtei_earlier tt

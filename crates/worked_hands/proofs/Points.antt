@@ -2,179 +2,179 @@
 use lib.Dec.{T}
 use Rattle.played.specs.Row.{holds}
 use Rattle.played.proofs.Quick.{quick}
-use Rattle.worked_hands.specs.Points.{limitBelowMangan, limitBelowManganDealer, limitFourTwenty, limitThreeSixty, limitThreeSeventy, limitFourForty, limitMangan, limitHaneman, limitBaiman, limitSanbaiman, limitCounted, dealerRon, dealerTsumo, dealerMangan, han1Fu30, han1Fu30Ron, han1Fu30DealerRon, han1Fu30Tsumo, han1Fu30DealerTsumo, han1Fu110Ron, han2Fu20Tsumo, han3Fu25Tsumo, han3Fu30Ron, han3Fu30DealerRon, han4Fu25Ron, han4Fu25DealerRon, han2Fu130, han5Fu30, han6Fu30, han7Fu30DealerRon, han8Fu30, han10Fu30DealerTsumo, han11Fu30, han12Fu30Tsumo, han13Fu30, han26Fu30, han26Fu30Yakuman, han39Fu30DealerTsumo, han5Fu30Yakuman, han25Fu30Yakuman, han255Fu255Yakuman, han255Fu255, han0Fu0}
+use Rattle.worked_hands.specs.Points.{limit_below_mangan, limit_below_mangan_dealer, limit_four_twenty, limit_three_sixty, limit_three_seventy, limit_four_forty, limit_mangan, limit_haneman, limit_baiman, limit_sanbaiman, limit_counted, dealer_ron, dealer_tsumo, dealer_mangan, han1_fu30, han1_fu30_ron, han1_fu30_dealer_ron, han1_fu30_tsumo, han1_fu30_dealer_tsumo, han1_fu110_ron, han2_fu20_tsumo, han3_fu25_tsumo, han3_fu30_ron, han3_fu30_dealer_ron, han4_fu25_ron, han4_fu25_dealer_ron, han2_fu130, han5_fu30, han6_fu30, han7_fu30_dealer_ron, han8_fu30, han10_fu30_dealer_tsumo, han11_fu30, han12_fu30_tsumo, han13_fu30, han26_fu30, han26_fu30_yakuman, han39_fu30_dealer_tsumo, han5_fu30_yakuman, han25_fu30_yakuman, han255_fu255_yakuman, han255_fu255, han0_fu0}
 
 -- ---- Limits
-pub limit-below-mangan : T (holds limitBelowMangan)
+pub limit_below_mangan_holds : T (holds limit_below_mangan)
 unfolding holds
-limit-below-mangan = quick limitBelowMangan tt
+limit_below_mangan_holds = quick limit_below_mangan tt
 
-pub limit-below-mangan-dealer : T (holds limitBelowManganDealer)
+pub limit_below_mangan_dealer_holds : T (holds limit_below_mangan_dealer)
 unfolding holds
-limit-below-mangan-dealer = quick limitBelowManganDealer tt
+limit_below_mangan_dealer_holds = quick limit_below_mangan_dealer tt
 
-pub limit-four-twenty : T (holds limitFourTwenty)
+pub limit_four_twenty_holds : T (holds limit_four_twenty)
 unfolding holds
-limit-four-twenty = quick limitFourTwenty tt
+limit_four_twenty_holds = quick limit_four_twenty tt
 
-pub limit-three-sixty : T (holds limitThreeSixty)
+pub limit_three_sixty_holds : T (holds limit_three_sixty)
 unfolding holds
-limit-three-sixty = quick limitThreeSixty tt
+limit_three_sixty_holds = quick limit_three_sixty tt
 
-pub limit-three-seventy : T (holds limitThreeSeventy)
+pub limit_three_seventy_holds : T (holds limit_three_seventy)
 unfolding holds
-limit-three-seventy = quick limitThreeSeventy tt
+limit_three_seventy_holds = quick limit_three_seventy tt
 
-pub limit-four-forty : T (holds limitFourForty)
+pub limit_four_forty_holds : T (holds limit_four_forty)
 unfolding holds
-limit-four-forty = quick limitFourForty tt
+limit_four_forty_holds = quick limit_four_forty tt
 
-pub limit-mangan : T (holds limitMangan)
+pub limit_mangan_holds : T (holds limit_mangan)
 unfolding holds
-limit-mangan = quick limitMangan tt
+limit_mangan_holds = quick limit_mangan tt
 
-pub limit-haneman : T (holds limitHaneman)
+pub limit_haneman_holds : T (holds limit_haneman)
 unfolding holds
-limit-haneman = quick limitHaneman tt
+limit_haneman_holds = quick limit_haneman tt
 
-pub limit-baiman : T (holds limitBaiman)
+pub limit_baiman_holds : T (holds limit_baiman)
 unfolding holds
-limit-baiman = quick limitBaiman tt
+limit_baiman_holds = quick limit_baiman tt
 
-pub limit-sanbaiman : T (holds limitSanbaiman)
+pub limit_sanbaiman_holds : T (holds limit_sanbaiman)
 unfolding holds
-limit-sanbaiman = quick limitSanbaiman tt
+limit_sanbaiman_holds = quick limit_sanbaiman tt
 
-pub limit-counted : T (holds limitCounted)
+pub limit_counted_holds : T (holds limit_counted)
 unfolding holds
-limit-counted = quick limitCounted tt
+limit_counted_holds = quick limit_counted tt
 
 -- ---- The dealer
-pub dealer-ron : T (holds dealerRon)
+pub dealer_ron_holds : T (holds dealer_ron)
 unfolding holds
-dealer-ron = quick dealerRon tt
+dealer_ron_holds = quick dealer_ron tt
 
-pub dealer-tsumo : T (holds dealerTsumo)
+pub dealer_tsumo_holds : T (holds dealer_tsumo)
 unfolding holds
-dealer-tsumo = quick dealerTsumo tt
+dealer_tsumo_holds = quick dealer_tsumo tt
 
-pub dealer-mangan : T (holds dealerMangan)
+pub dealer_mangan_holds : T (holds dealer_mangan)
 unfolding holds
-dealer-mangan = quick dealerMangan tt
+dealer_mangan_holds = quick dealer_mangan tt
 
 -- ---- Points
-pub han1-fu30 : T (holds han1Fu30)
+pub han1_fu30_holds : T (holds han1_fu30)
 unfolding holds
-han1-fu30 = quick han1Fu30 tt
+han1_fu30_holds = quick han1_fu30 tt
 
-pub han1-fu30-ron : T (holds han1Fu30Ron)
+pub han1_fu30_ron_holds : T (holds han1_fu30_ron)
 unfolding holds
-han1-fu30-ron = quick han1Fu30Ron tt
+han1_fu30_ron_holds = quick han1_fu30_ron tt
 
-pub han1-fu30-dealer-ron : T (holds han1Fu30DealerRon)
+pub han1_fu30_dealer_ron_holds : T (holds han1_fu30_dealer_ron)
 unfolding holds
-han1-fu30-dealer-ron = quick han1Fu30DealerRon tt
+han1_fu30_dealer_ron_holds = quick han1_fu30_dealer_ron tt
 
-pub han1-fu30-tsumo : T (holds han1Fu30Tsumo)
+pub han1_fu30_tsumo_holds : T (holds han1_fu30_tsumo)
 unfolding holds
-han1-fu30-tsumo = quick han1Fu30Tsumo tt
+han1_fu30_tsumo_holds = quick han1_fu30_tsumo tt
 
-pub han1-fu30-dealer-tsumo : T (holds han1Fu30DealerTsumo)
+pub han1_fu30_dealer_tsumo_holds : T (holds han1_fu30_dealer_tsumo)
 unfolding holds
-han1-fu30-dealer-tsumo = quick han1Fu30DealerTsumo tt
+han1_fu30_dealer_tsumo_holds = quick han1_fu30_dealer_tsumo tt
 
-pub han1-fu110-ron : T (holds han1Fu110Ron)
+pub han1_fu110_ron_holds : T (holds han1_fu110_ron)
 unfolding holds
-han1-fu110-ron = quick han1Fu110Ron tt
+han1_fu110_ron_holds = quick han1_fu110_ron tt
 
-pub han2-fu20-tsumo : T (holds han2Fu20Tsumo)
+pub han2_fu20_tsumo_holds : T (holds han2_fu20_tsumo)
 unfolding holds
-han2-fu20-tsumo = quick han2Fu20Tsumo tt
+han2_fu20_tsumo_holds = quick han2_fu20_tsumo tt
 
-pub han3-fu25-tsumo : T (holds han3Fu25Tsumo)
+pub han3_fu25_tsumo_holds : T (holds han3_fu25_tsumo)
 unfolding holds
-han3-fu25-tsumo = quick han3Fu25Tsumo tt
+han3_fu25_tsumo_holds = quick han3_fu25_tsumo tt
 
-pub han3-fu30-ron : T (holds han3Fu30Ron)
+pub han3_fu30_ron_holds : T (holds han3_fu30_ron)
 unfolding holds
-han3-fu30-ron = quick han3Fu30Ron tt
+han3_fu30_ron_holds = quick han3_fu30_ron tt
 
-pub han3-fu30-dealer-ron : T (holds han3Fu30DealerRon)
+pub han3_fu30_dealer_ron_holds : T (holds han3_fu30_dealer_ron)
 unfolding holds
-han3-fu30-dealer-ron = quick han3Fu30DealerRon tt
+han3_fu30_dealer_ron_holds = quick han3_fu30_dealer_ron tt
 
-pub han4-fu25-ron : T (holds han4Fu25Ron)
+pub han4_fu25_ron_holds : T (holds han4_fu25_ron)
 unfolding holds
-han4-fu25-ron = quick han4Fu25Ron tt
+han4_fu25_ron_holds = quick han4_fu25_ron tt
 
-pub han4-fu25-dealer-ron : T (holds han4Fu25DealerRon)
+pub han4_fu25_dealer_ron_holds : T (holds han4_fu25_dealer_ron)
 unfolding holds
-han4-fu25-dealer-ron = quick han4Fu25DealerRon tt
+han4_fu25_dealer_ron_holds = quick han4_fu25_dealer_ron tt
 
-pub han2-fu130 : T (holds han2Fu130)
+pub han2_fu130_holds : T (holds han2_fu130)
 unfolding holds
-han2-fu130 = quick han2Fu130 tt
+han2_fu130_holds = quick han2_fu130 tt
 
-pub han5-fu30 : T (holds han5Fu30)
+pub han5_fu30_holds : T (holds han5_fu30)
 unfolding holds
-han5-fu30 = quick han5Fu30 tt
+han5_fu30_holds = quick han5_fu30 tt
 
-pub han6-fu30 : T (holds han6Fu30)
+pub han6_fu30_holds : T (holds han6_fu30)
 unfolding holds
-han6-fu30 = quick han6Fu30 tt
+han6_fu30_holds = quick han6_fu30 tt
 
-pub han7-fu30-dealer-ron : T (holds han7Fu30DealerRon)
+pub han7_fu30_dealer_ron_holds : T (holds han7_fu30_dealer_ron)
 unfolding holds
-han7-fu30-dealer-ron = quick han7Fu30DealerRon tt
+han7_fu30_dealer_ron_holds = quick han7_fu30_dealer_ron tt
 
-pub han8-fu30 : T (holds han8Fu30)
+pub han8_fu30_holds : T (holds han8_fu30)
 unfolding holds
-han8-fu30 = quick han8Fu30 tt
+han8_fu30_holds = quick han8_fu30 tt
 
-pub han10-fu30-dealer-tsumo : T (holds han10Fu30DealerTsumo)
+pub han10_fu30_dealer_tsumo_holds : T (holds han10_fu30_dealer_tsumo)
 unfolding holds
-han10-fu30-dealer-tsumo = quick han10Fu30DealerTsumo tt
+han10_fu30_dealer_tsumo_holds = quick han10_fu30_dealer_tsumo tt
 
-pub han11-fu30 : T (holds han11Fu30)
+pub han11_fu30_holds : T (holds han11_fu30)
 unfolding holds
-han11-fu30 = quick han11Fu30 tt
+han11_fu30_holds = quick han11_fu30 tt
 
-pub han12-fu30-tsumo : T (holds han12Fu30Tsumo)
+pub han12_fu30_tsumo_holds : T (holds han12_fu30_tsumo)
 unfolding holds
-han12-fu30-tsumo = quick han12Fu30Tsumo tt
+han12_fu30_tsumo_holds = quick han12_fu30_tsumo tt
 
-pub han13-fu30 : T (holds han13Fu30)
+pub han13_fu30_holds : T (holds han13_fu30)
 unfolding holds
-han13-fu30 = quick han13Fu30 tt
+han13_fu30_holds = quick han13_fu30 tt
 
-pub han26-fu30 : T (holds han26Fu30)
+pub han26_fu30_holds : T (holds han26_fu30)
 unfolding holds
-han26-fu30 = quick han26Fu30 tt
+han26_fu30_holds = quick han26_fu30 tt
 
-pub han26-fu30-yakuman : T (holds han26Fu30Yakuman)
+pub han26_fu30_yakuman_holds : T (holds han26_fu30_yakuman)
 unfolding holds
-han26-fu30-yakuman = quick han26Fu30Yakuman tt
+han26_fu30_yakuman_holds = quick han26_fu30_yakuman tt
 
-pub han39-fu30-dealer-tsumo : T (holds han39Fu30DealerTsumo)
+pub han39_fu30_dealer_tsumo_holds : T (holds han39_fu30_dealer_tsumo)
 unfolding holds
-han39-fu30-dealer-tsumo = quick han39Fu30DealerTsumo tt
+han39_fu30_dealer_tsumo_holds = quick han39_fu30_dealer_tsumo tt
 
-pub han5-fu30-yakuman : T (holds han5Fu30Yakuman)
+pub han5_fu30_yakuman_holds : T (holds han5_fu30_yakuman)
 unfolding holds
-han5-fu30-yakuman = quick han5Fu30Yakuman tt
+han5_fu30_yakuman_holds = quick han5_fu30_yakuman tt
 
-pub han25-fu30-yakuman : T (holds han25Fu30Yakuman)
+pub han25_fu30_yakuman_holds : T (holds han25_fu30_yakuman)
 unfolding holds
-han25-fu30-yakuman = quick han25Fu30Yakuman tt
+han25_fu30_yakuman_holds = quick han25_fu30_yakuman tt
 
-pub han255-fu255-yakuman : T (holds han255Fu255Yakuman)
+pub han255_fu255_yakuman_holds : T (holds han255_fu255_yakuman)
 unfolding holds
-han255-fu255-yakuman = quick han255Fu255Yakuman tt
+han255_fu255_yakuman_holds = quick han255_fu255_yakuman tt
 
-pub han255-fu255 : T (holds han255Fu255)
+pub han255_fu255_holds : T (holds han255_fu255)
 unfolding holds
-han255-fu255 = quick han255Fu255 tt
+han255_fu255_holds = quick han255_fu255 tt
 
-pub han0-fu0 : T (holds han0Fu0)
+pub han0_fu0_holds : T (holds han0_fu0)
 unfolding holds
-han0-fu0 = quick han0Fu0 tt
+han0_fu0_holds = quick han0_fu0 tt

@@ -2,128 +2,128 @@
 use lib.Dec.{T}
 use Rattle.played.specs.Row.{holds}
 use Rattle.played.proofs.Quick.{quick}
-use Rattle.worked_hands.specs.Readings.{choiceTriplets, choicePairsDealer, choiceMoreHan, choiceMoreFu, choiceEarlier, choiceCounted, choiceYakuman, choiceYakumanOrNone, choiceWithYaku, choiceOrder, fourAsTripletAndSequence, fourAsPair, fourAsKan, callsFour, callsNoPairs, callsNoOrphans, waitsTwoSides, waitsMiddle, waitsHighEdge, waitsLowEdge, waitsTriplet, waitsPair, waitsSeveral, waitsTwice, waitsOfTwoReadings, waitsCalled, waitsCalledTriplet, waitsSevenPairs, waitsOrphansPair, waitsOrphansOther}
+use Rattle.worked_hands.specs.Readings.{choice_triplets, choice_pairs_dealer, choice_more_han, choice_more_fu, choice_earlier, choice_counted, choice_yakuman, choice_yakuman_or_none, choice_with_yaku, choice_order, four_as_triplet_and_sequence, four_as_pair, four_as_kan, calls_four, calls_no_pairs, calls_no_orphans, waits_two_sides, waits_middle, waits_high_edge, waits_low_edge, waits_triplet, waits_pair, waits_several, waits_twice, waits_of_two_readings, waits_called, waits_called_triplet, waits_seven_pairs, waits_orphans_pair, waits_orphans_other}
 
 -- ---- The reading that pays most is chosen; then one with more han, then with more fu, then the earlier
-pub choice-triplets : T (holds choiceTriplets)
+pub choice_triplets_holds : T (holds choice_triplets)
 unfolding holds
-choice-triplets = quick choiceTriplets tt
+choice_triplets_holds = quick choice_triplets tt
 
-pub choice-pairs-dealer : T (holds choicePairsDealer)
+pub choice_pairs_dealer_holds : T (holds choice_pairs_dealer)
 unfolding holds
-choice-pairs-dealer = quick choicePairsDealer tt
+choice_pairs_dealer_holds = quick choice_pairs_dealer tt
 
-pub choice-more-han : T (holds choiceMoreHan)
+pub choice_more_han_holds : T (holds choice_more_han)
 unfolding holds
-choice-more-han = quick choiceMoreHan tt
+choice_more_han_holds = quick choice_more_han tt
 
-pub choice-more-fu : T (holds choiceMoreFu)
+pub choice_more_fu_holds : T (holds choice_more_fu)
 unfolding holds
-choice-more-fu = quick choiceMoreFu tt
+choice_more_fu_holds = quick choice_more_fu tt
 
-pub choice-earlier : T (holds choiceEarlier)
+pub choice_earlier_holds : T (holds choice_earlier)
 unfolding holds
-choice-earlier = quick choiceEarlier tt
+choice_earlier_holds = quick choice_earlier tt
 
-pub choice-counted : T (holds choiceCounted)
+pub choice_counted_holds : T (holds choice_counted)
 unfolding holds
-choice-counted = quick choiceCounted tt
+choice_counted_holds = quick choice_counted tt
 
-pub choice-yakuman : T (holds choiceYakuman)
+pub choice_yakuman_holds : T (holds choice_yakuman)
 unfolding holds
-choice-yakuman = quick choiceYakuman tt
+choice_yakuman_holds = quick choice_yakuman tt
 
-pub choice-yakuman-or-none : T (holds choiceYakumanOrNone)
+pub choice_yakuman_or_none_holds : T (holds choice_yakuman_or_none)
 unfolding holds
-choice-yakuman-or-none = quick choiceYakumanOrNone tt
+choice_yakuman_or_none_holds = quick choice_yakuman_or_none tt
 
-pub choice-with-yaku : T (holds choiceWithYaku)
+pub choice_with_yaku_holds : T (holds choice_with_yaku)
 unfolding holds
-choice-with-yaku = quick choiceWithYaku tt
+choice_with_yaku_holds = quick choice_with_yaku tt
 
-pub choice-order : T (holds choiceOrder)
+pub choice_order_holds : T (holds choice_order)
 unfolding holds
-choice-order = quick choiceOrder tt
+choice_order_holds = quick choice_order tt
 
 -- ---- Four of one tile
-pub four-as-triplet-and-sequence : T (holds fourAsTripletAndSequence)
+pub four_as_triplet_and_sequence_holds : T (holds four_as_triplet_and_sequence)
 unfolding holds
-four-as-triplet-and-sequence = quick fourAsTripletAndSequence tt
+four_as_triplet_and_sequence_holds = quick four_as_triplet_and_sequence tt
 
-pub four-as-pair : T (holds fourAsPair)
+pub four_as_pair_holds : T (holds four_as_pair)
 unfolding holds
-four-as-pair = quick fourAsPair tt
+four_as_pair_holds = quick four_as_pair tt
 
-pub four-as-kan : T (holds fourAsKan)
+pub four_as_kan_holds : T (holds four_as_kan)
 unfolding holds
-four-as-kan = quick fourAsKan tt
+four_as_kan_holds = quick four_as_kan tt
 
 -- ---- Calls
-pub calls-four : T (holds callsFour)
+pub calls_four_holds : T (holds calls_four)
 unfolding holds
-calls-four = quick callsFour tt
+calls_four_holds = quick calls_four tt
 
-pub calls-no-pairs : T (holds callsNoPairs)
+pub calls_no_pairs_holds : T (holds calls_no_pairs)
 unfolding holds
-calls-no-pairs = quick callsNoPairs tt
+calls_no_pairs_holds = quick calls_no_pairs tt
 
-pub calls-no-orphans : T (holds callsNoOrphans)
+pub calls_no_orphans_holds : T (holds calls_no_orphans)
 unfolding holds
-calls-no-orphans = quick callsNoOrphans tt
+calls_no_orphans_holds = quick calls_no_orphans tt
 
 -- ---- Waits
-pub waits-two-sides : T (holds waitsTwoSides)
+pub waits_two_sides_holds : T (holds waits_two_sides)
 unfolding holds
-waits-two-sides = quick waitsTwoSides tt
+waits_two_sides_holds = quick waits_two_sides tt
 
-pub waits-middle : T (holds waitsMiddle)
+pub waits_middle_holds : T (holds waits_middle)
 unfolding holds
-waits-middle = quick waitsMiddle tt
+waits_middle_holds = quick waits_middle tt
 
-pub waits-high-edge : T (holds waitsHighEdge)
+pub waits_high_edge_holds : T (holds waits_high_edge)
 unfolding holds
-waits-high-edge = quick waitsHighEdge tt
+waits_high_edge_holds = quick waits_high_edge tt
 
-pub waits-low-edge : T (holds waitsLowEdge)
+pub waits_low_edge_holds : T (holds waits_low_edge)
 unfolding holds
-waits-low-edge = quick waitsLowEdge tt
+waits_low_edge_holds = quick waits_low_edge tt
 
-pub waits-triplet : T (holds waitsTriplet)
+pub waits_triplet_holds : T (holds waits_triplet)
 unfolding holds
-waits-triplet = quick waitsTriplet tt
+waits_triplet_holds = quick waits_triplet tt
 
-pub waits-pair : T (holds waitsPair)
+pub waits_pair_holds : T (holds waits_pair)
 unfolding holds
-waits-pair = quick waitsPair tt
+waits_pair_holds = quick waits_pair tt
 
-pub waits-several : T (holds waitsSeveral)
+pub waits_several_holds : T (holds waits_several)
 unfolding holds
-waits-several = quick waitsSeveral tt
+waits_several_holds = quick waits_several tt
 
-pub waits-twice : T (holds waitsTwice)
+pub waits_twice_holds : T (holds waits_twice)
 unfolding holds
-waits-twice = quick waitsTwice tt
+waits_twice_holds = quick waits_twice tt
 
-pub waits-of-two-readings : T (holds waitsOfTwoReadings)
+pub waits_of_two_readings_holds : T (holds waits_of_two_readings)
 unfolding holds
-waits-of-two-readings = quick waitsOfTwoReadings tt
+waits_of_two_readings_holds = quick waits_of_two_readings tt
 
-pub waits-called : T (holds waitsCalled)
+pub waits_called_holds : T (holds waits_called)
 unfolding holds
-waits-called = quick waitsCalled tt
+waits_called_holds = quick waits_called tt
 
-pub waits-called-triplet : T (holds waitsCalledTriplet)
+pub waits_called_triplet_holds : T (holds waits_called_triplet)
 unfolding holds
-waits-called-triplet = quick waitsCalledTriplet tt
+waits_called_triplet_holds = quick waits_called_triplet tt
 
-pub waits-seven-pairs : T (holds waitsSevenPairs)
+pub waits_seven_pairs_holds : T (holds waits_seven_pairs)
 unfolding holds
-waits-seven-pairs = quick waitsSevenPairs tt
+waits_seven_pairs_holds = quick waits_seven_pairs tt
 
-pub waits-orphans-pair : T (holds waitsOrphansPair)
+pub waits_orphans_pair_holds : T (holds waits_orphans_pair)
 unfolding holds
-waits-orphans-pair = quick waitsOrphansPair tt
+waits_orphans_pair_holds = quick waits_orphans_pair tt
 
-pub waits-orphans-other : T (holds waitsOrphansOther)
+pub waits_orphans_other_holds : T (holds waits_orphans_other)
 unfolding holds
-waits-orphans-other = quick waitsOrphansOther tt
+waits_orphans_other_holds = quick waits_orphans_other tt

@@ -2,143 +2,143 @@
 use lib.Dec.{T}
 use Rattle.played.specs.Row.{holds}
 use Rattle.played.proofs.Quick.{quick}
-use Rattle.worked_hands.specs.Refusals.{fiveCalls, fiveCallsFiveTiles, sequenceFromEight, sequenceOfHonors, sequenceFromRight, sequenceFromAcross, closedKanFromLeft, fiveInHand, fiveWithCalls, fiveWithKan, fifteenTiles, elevenTiles, kanThreePlaces, elevenTilesNoSetting, noSuchWinType, whiteAsSeat, whiteAsRound, noSetting, settingThree, settingBeforeTile, seatBeforeTile, indicatorAbove33, uraAbove33, indicatorBeforeTile, seatBeforeIndicator, tileNotInHand, tileInCallOnly, tileAbove33, noReading, oneTileAway, closedWithoutYaku, basicWinType}
+use Rattle.worked_hands.specs.Refusals.{five_calls, five_calls_five_tiles, sequence_from_eight, sequence_of_honors, sequence_from_right, sequence_from_across, closed_kan_from_left, five_in_hand, five_with_calls, five_with_kan, fifteen_tiles, eleven_tiles, kan_three_places, eleven_tiles_no_setting, no_such_win_type, white_as_seat, white_as_round, no_setting, setting_three, setting_before_tile, seat_before_tile, indicator_above33, ura_above33, indicator_before_tile, seat_before_indicator, tile_not_in_hand, tile_in_call_only, tile_above33, no_reading, one_tile_away, closed_without_yaku, basic_win_type}
 
 -- ---- 2 more than four calls
-pub five-calls : T (holds fiveCalls)
+pub five_calls_holds : T (holds five_calls)
 unfolding holds
-five-calls = quick fiveCalls tt
+five_calls_holds = quick five_calls tt
 
-pub five-calls-five-tiles : T (holds fiveCallsFiveTiles)
+pub five_calls_five_tiles_holds : T (holds five_calls_five_tiles)
 unfolding holds
-five-calls-five-tiles = quick fiveCallsFiveTiles tt
+five_calls_five_tiles_holds = quick five_calls_five_tiles tt
 
 -- ---- 3 a call's tile or source does not fit its kind
-pub sequence-from-eight : T (holds sequenceFromEight)
+pub sequence_from_eight_holds : T (holds sequence_from_eight)
 unfolding holds
-sequence-from-eight = quick sequenceFromEight tt
+sequence_from_eight_holds = quick sequence_from_eight tt
 
-pub sequence-of-honors : T (holds sequenceOfHonors)
+pub sequence_of_honors_holds : T (holds sequence_of_honors)
 unfolding holds
-sequence-of-honors = quick sequenceOfHonors tt
+sequence_of_honors_holds = quick sequence_of_honors tt
 
-pub sequence-from-right : T (holds sequenceFromRight)
+pub sequence_from_right_holds : T (holds sequence_from_right)
 unfolding holds
-sequence-from-right = quick sequenceFromRight tt
+sequence_from_right_holds = quick sequence_from_right tt
 
-pub sequence-from-across : T (holds sequenceFromAcross)
+pub sequence_from_across_holds : T (holds sequence_from_across)
 unfolding holds
-sequence-from-across = quick sequenceFromAcross tt
+sequence_from_across_holds = quick sequence_from_across tt
 
-pub closed-kan-from-left : T (holds closedKanFromLeft)
+pub closed_kan_from_left_holds : T (holds closed_kan_from_left)
 unfolding holds
-closed-kan-from-left = quick closedKanFromLeft tt
+closed_kan_from_left_holds = quick closed_kan_from_left tt
 
 -- ---- 4 a count above four
-pub five-in-hand : T (holds fiveInHand)
+pub five_in_hand_holds : T (holds five_in_hand)
 unfolding holds
-five-in-hand = quick fiveInHand tt
+five_in_hand_holds = quick five_in_hand tt
 
 -- ---- 5 more than four of a kind in hand and calls together
-pub five-with-calls : T (holds fiveWithCalls)
+pub five_with_calls_holds : T (holds five_with_calls)
 unfolding holds
-five-with-calls = quick fiveWithCalls tt
+five_with_calls_holds = quick five_with_calls tt
 
-pub five-with-kan : T (holds fiveWithKan)
+pub five_with_kan_holds : T (holds five_with_kan)
 unfolding holds
-five-with-kan = quick fiveWithKan tt
+five_with_kan_holds = quick five_with_kan tt
 
 -- ---- 6 another number of tiles than 14 less 3 for each call
-pub fifteen-tiles : T (holds fifteenTiles)
+pub fifteen_tiles_holds : T (holds fifteen_tiles)
 unfolding holds
-fifteen-tiles = quick fifteenTiles tt
+fifteen_tiles_holds = quick fifteen_tiles tt
 
-pub eleven-tiles : T (holds elevenTiles)
+pub eleven_tiles_holds : T (holds eleven_tiles)
 unfolding holds
-eleven-tiles = quick elevenTiles tt
+eleven_tiles_holds = quick eleven_tiles tt
 
-pub kan-three-places : T (holds kanThreePlaces)
+pub kan_three_places_holds : T (holds kan_three_places)
 unfolding holds
-kan-three-places = quick kanThreePlaces tt
+kan_three_places_holds = quick kan_three_places tt
 
-pub eleven-tiles-no-setting : T (holds elevenTilesNoSetting)
+pub eleven_tiles_no_setting_holds : T (holds eleven_tiles_no_setting)
 unfolding holds
-eleven-tiles-no-setting = quick elevenTilesNoSetting tt
+eleven_tiles_no_setting_holds = quick eleven_tiles_no_setting tt
 
 -- ---- 8 a win type, a wind or the room's setting out of range
-pub no-such-win-type : T (holds noSuchWinType)
+pub no_such_win_type_holds : T (holds no_such_win_type)
 unfolding holds
-no-such-win-type = quick noSuchWinType tt
+no_such_win_type_holds = quick no_such_win_type tt
 
-pub white-as-seat : T (holds whiteAsSeat)
+pub white_as_seat_holds : T (holds white_as_seat)
 unfolding holds
-white-as-seat = quick whiteAsSeat tt
+white_as_seat_holds = quick white_as_seat tt
 
-pub white-as-round : T (holds whiteAsRound)
+pub white_as_round_holds : T (holds white_as_round)
 unfolding holds
-white-as-round = quick whiteAsRound tt
+white_as_round_holds = quick white_as_round tt
 
-pub no-setting : T (holds noSetting)
+pub no_setting_holds : T (holds no_setting)
 unfolding holds
-no-setting = quick noSetting tt
+no_setting_holds = quick no_setting tt
 
-pub setting-three : T (holds settingThree)
+pub setting_three_holds : T (holds setting_three)
 unfolding holds
-setting-three = quick settingThree tt
+setting_three_holds = quick setting_three tt
 
-pub setting-before-tile : T (holds settingBeforeTile)
+pub setting_before_tile_holds : T (holds setting_before_tile)
 unfolding holds
-setting-before-tile = quick settingBeforeTile tt
+setting_before_tile_holds = quick setting_before_tile tt
 
-pub seat-before-tile : T (holds seatBeforeTile)
+pub seat_before_tile_holds : T (holds seat_before_tile)
 unfolding holds
-seat-before-tile = quick seatBeforeTile tt
+seat_before_tile_holds = quick seat_before_tile tt
 
 -- ---- 14 an indicator is above 33, or there are more than ten
-pub indicator-above33 : T (holds indicatorAbove33)
+pub indicator_above33_holds : T (holds indicator_above33)
 unfolding holds
-indicator-above33 = quick indicatorAbove33 tt
+indicator_above33_holds = quick indicator_above33 tt
 
-pub ura-above33 : T (holds uraAbove33)
+pub ura_above33_holds : T (holds ura_above33)
 unfolding holds
-ura-above33 = quick uraAbove33 tt
+ura_above33_holds = quick ura_above33 tt
 
-pub indicator-before-tile : T (holds indicatorBeforeTile)
+pub indicator_before_tile_holds : T (holds indicator_before_tile)
 unfolding holds
-indicator-before-tile = quick indicatorBeforeTile tt
+indicator_before_tile_holds = quick indicator_before_tile tt
 
-pub seat-before-indicator : T (holds seatBeforeIndicator)
+pub seat_before_indicator_holds : T (holds seat_before_indicator)
 unfolding holds
-seat-before-indicator = quick seatBeforeIndicator tt
+seat_before_indicator_holds = quick seat_before_indicator tt
 
 -- ---- 9 the winning tile is no tile or not in the hand
-pub tile-not-in-hand : T (holds tileNotInHand)
+pub tile_not_in_hand_holds : T (holds tile_not_in_hand)
 unfolding holds
-tile-not-in-hand = quick tileNotInHand tt
+tile_not_in_hand_holds = quick tile_not_in_hand tt
 
-pub tile-in-call-only : T (holds tileInCallOnly)
+pub tile_in_call_only_holds : T (holds tile_in_call_only)
 unfolding holds
-tile-in-call-only = quick tileInCallOnly tt
+tile_in_call_only_holds = quick tile_in_call_only tt
 
-pub tile-above33 : T (holds tileAbove33)
+pub tile_above33_holds : T (holds tile_above33)
 unfolding holds
-tile-above33 = quick tileAbove33 tt
+tile_above33_holds = quick tile_above33 tt
 
 -- ---- 10 no reading
-pub no-reading : T (holds noReading)
+pub no_reading_holds : T (holds no_reading)
 unfolding holds
-no-reading = quick noReading tt
+no_reading_holds = quick no_reading tt
 
-pub one-tile-away : T (holds oneTileAway)
+pub one_tile_away_holds : T (holds one_tile_away)
 unfolding holds
-one-tile-away = quick oneTileAway tt
+one_tile_away_holds = quick one_tile_away tt
 
 -- ---- 11 no reading has a yaku
-pub closed-without-yaku : T (holds closedWithoutYaku)
+pub closed_without_yaku_holds : T (holds closed_without_yaku)
 unfolding holds
-closed-without-yaku = quick closedWithoutYaku tt
+closed_without_yaku_holds = quick closed_without_yaku tt
 
 -- ---- Payment alone
-pub basic-win-type : T (holds basicWinType)
+pub basic_win_type_holds : T (holds basic_win_type)
 unfolding holds
-basic-win-type = quick basicWinType tt
+basic_win_type_holds = quick basic_win_type tt

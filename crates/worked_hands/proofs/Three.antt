@@ -3,89 +3,89 @@ use mathlib.Core.Path.{◌≡◌, refl}
 use lib.Dec.{T}
 use Rattle.rules.specs.Rules.{three}
 use Rattle.scoring.specs.declared.Payment.TheVariants.{DealerTsumo, Tsumo}
-use Rattle.scoring.specs.Payment.{totalAt}
-use Rattle.played.specs.Row.{holdsIn, holds}
-use Rattle.played.proofs.Quick.{quick-in, quick}
-use Rattle.worked_hands.specs.Three.{threeDealerTsumo, threeTsumo, threeRon, threeTerminalsAndHonors, threeTerminals, threeOrphans, threeNorth, threeNorthPair, threeNorthPairAtTwo, threeSequence, threeAbsentCalled, threeFromLeft, threeAbsentHeld, threeIndicator, threeUra, threeAbsentWon}
+use Rattle.scoring.specs.Payment.{total_at}
+use Rattle.played.specs.Row.{holds_in, holds}
+use Rattle.played.proofs.Quick.{quick_in, quick}
+use Rattle.worked_hands.specs.Three.{three_dealer_tsumo, three_tsumo, three_ron, three_terminals_and_honors, three_terminals, three_orphans, three_north, three_north_pair, three_north_pair_at_two, three_sequence, three_absent_called, three_from_left, three_absent_held, three_indicator, three_ura, three_absent_won}
 
 -- ---- Who pays
-pub three-dealer-tsumo : T (holdsIn three threeDealerTsumo)
-unfolding holdsIn
-three-dealer-tsumo = quick-in three threeDealerTsumo tt
+pub three_dealer_tsumo_holds : T (holds_in three three_dealer_tsumo)
+unfolding holds_in
+three_dealer_tsumo_holds = quick_in three three_dealer_tsumo tt
 
 -- all that the winner receives
-pub three-dealer-tsumo-total : totalAt 3 (DealerTsumo 4000) ≡ 8000
-three-dealer-tsumo-total = refl
+pub three_dealer_tsumo_total : total_at 3 (DealerTsumo 4000) ≡ 8000
+three_dealer_tsumo_total = refl
 
-pub three-tsumo : T (holdsIn three threeTsumo)
-unfolding holdsIn
-three-tsumo = quick-in three threeTsumo tt
+pub three_tsumo_holds : T (holds_in three three_tsumo)
+unfolding holds_in
+three_tsumo_holds = quick_in three three_tsumo tt
 
-pub three-tsumo-total : totalAt 3 (Tsumo 4000 2000) ≡ 6000
-three-tsumo-total = refl
+pub three_tsumo_total : total_at 3 (Tsumo 4000 2000) ≡ 6000
+three_tsumo_total = refl
 
-pub three-ron : T (holdsIn three threeRon)
-unfolding holdsIn
-three-ron = quick-in three threeRon tt
+pub three_ron_holds : T (holds_in three three_ron)
+unfolding holds_in
+three_ron_holds = quick_in three three_ron tt
 
-pub four-ron : T (holds threeRon)
+pub four_ron : T (holds three_ron)
 unfolding holds
-four-ron = quick threeRon tt
+four_ron = quick three_ron tt
 
 -- ---- Man 1 and man 9 are there
-pub three-terminals-and-honors : T (holdsIn three threeTerminalsAndHonors)
-unfolding holdsIn
-three-terminals-and-honors = quick-in three threeTerminalsAndHonors tt
+pub three_terminals_and_honors_holds : T (holds_in three three_terminals_and_honors)
+unfolding holds_in
+three_terminals_and_honors_holds = quick_in three three_terminals_and_honors tt
 
-pub three-terminals : T (holdsIn three threeTerminals)
-unfolding holdsIn
-three-terminals = quick-in three threeTerminals tt
+pub three_terminals_holds : T (holds_in three three_terminals)
+unfolding holds_in
+three_terminals_holds = quick_in three three_terminals tt
 
-pub three-orphans : T (holdsIn three threeOrphans)
-unfolding holdsIn
-three-orphans = quick-in three threeOrphans tt
+pub three_orphans_holds : T (holds_in three three_orphans)
+unfolding holds_in
+three_orphans_holds = quick_in three three_orphans tt
 
 -- ---- North is a wind like the others
-pub three-north : T (holdsIn three threeNorth)
-unfolding holdsIn
-three-north = quick-in three threeNorth tt
+pub three_north_holds : T (holds_in three three_north)
+unfolding holds_in
+three_north_holds = quick_in three three_north tt
 
-pub three-north-pair : T (holdsIn three threeNorthPair)
-unfolding holdsIn
-three-north-pair = quick-in three threeNorthPair tt
+pub three_north_pair_holds : T (holds_in three three_north_pair)
+unfolding holds_in
+three_north_pair_holds = quick_in three three_north_pair tt
 
-pub three-north-pair-at-two : T (holdsIn three threeNorthPairAtTwo)
-unfolding holdsIn
-three-north-pair-at-two = quick-in three threeNorthPairAtTwo tt
+pub three_north_pair_at_two_holds : T (holds_in three three_north_pair_at_two)
+unfolding holds_in
+three_north_pair_at_two_holds = quick_in three three_north_pair_at_two tt
 
 -- ---- 3 what is not called with three players
-pub three-sequence : T (holdsIn three threeSequence)
-unfolding holdsIn
-three-sequence = quick-in three threeSequence tt
+pub three_sequence_holds : T (holds_in three three_sequence)
+unfolding holds_in
+three_sequence_holds = quick_in three three_sequence tt
 
-pub three-absent-called : T (holdsIn three threeAbsentCalled)
-unfolding holdsIn
-three-absent-called = quick-in three threeAbsentCalled tt
+pub three_absent_called_holds : T (holds_in three three_absent_called)
+unfolding holds_in
+three_absent_called_holds = quick_in three three_absent_called tt
 
-pub three-from-left : T (holdsIn three threeFromLeft)
-unfolding holdsIn
-three-from-left = quick-in three threeFromLeft tt
+pub three_from_left_holds : T (holds_in three three_from_left)
+unfolding holds_in
+three_from_left_holds = quick_in three three_from_left tt
 
 -- ---- 4 an absent tile in the hand
-pub three-absent-held : T (holdsIn three threeAbsentHeld)
-unfolding holdsIn
-three-absent-held = quick-in three threeAbsentHeld tt
+pub three_absent_held_holds : T (holds_in three three_absent_held)
+unfolding holds_in
+three_absent_held_holds = quick_in three three_absent_held tt
 
 -- ---- 14 an indicator is shown
-pub three-indicator : T (holdsIn three threeIndicator)
-unfolding holdsIn
-three-indicator = quick-in three threeIndicator tt
+pub three_indicator_holds : T (holds_in three three_indicator)
+unfolding holds_in
+three_indicator_holds = quick_in three three_indicator tt
 
-pub three-ura : T (holdsIn three threeUra)
-unfolding holdsIn
-three-ura = quick-in three threeUra tt
+pub three_ura_holds : T (holds_in three three_ura)
+unfolding holds_in
+three_ura_holds = quick_in three three_ura tt
 
 -- ---- 9 an absent tile as the winning tile
-pub three-absent-won : T (holdsIn three threeAbsentWon)
-unfolding holdsIn
-three-absent-won = quick-in three threeAbsentWon tt
+pub three_absent_won_holds : T (holds_in three three_absent_won)
+unfolding holds_in
+three_absent_won_holds = quick_in three three_absent_won tt

@@ -2,236 +2,236 @@
 use lib.Dec.{T}
 use Rattle.played.specs.Row.{holds}
 use Rattle.played.proofs.Quick.{quick}
-use Rattle.worked_hands.specs.Yakuman.{tenhouDealer, tenhouNonDealer, tenhouByRon, tenhouOpen, tenhouClosedKan, chiihouNonDealer, chiihouDealer, chiihouByRon, chiihouOpen, kokushiByTsumo, kokushiTwelveKinds, kokushiSimple, kokushiOtherKinds, suuankouTsumo, suuankouClosedKan, suuankouRon, suuankouPon, daisangenPon, daisangenKan, daisangenPair, shousuushiiPair, shousuushiiOtherPair, daisuushiiPon, daisuushiiPair, tsuuiisouOpen, tsuuiisouPairs, tsuuiisouTerminals, chinroutouOpen, chinroutouHonors, chinroutouSequence, ryuuiisouClosed, ryuuiisouNoGreen, ryuuiisouFive, ryuuiisouRed, chuurenOther, chuurenWithoutTwo, chuurenOpen, chuurenKan, suuKantsuFour, suuKantsuThree, kokushiThirteen, kokushiThirteenDealer, kokushiOneWait, suuankouTankiRon, suuankouTankiTsumo, suuankouOnTriplet, junseiFive, junseiNine, windsAndHonors, windsConcealed, windsFourKans, windsFourKansDealer, yakumanWithRiichi, yakumanWithPairs}
+use Rattle.worked_hands.specs.Yakuman.{tenhou_dealer, tenhou_non_dealer, tenhou_by_ron, tenhou_open, tenhou_closed_kan, chiihou_non_dealer, chiihou_dealer, chiihou_by_ron, chiihou_open, kokushi_by_tsumo, kokushi_twelve_kinds, kokushi_simple, kokushi_other_kinds, suuankou_tsumo, suuankou_closed_kan, suuankou_ron, suuankou_pon, daisangen_pon, daisangen_kan, daisangen_pair, shousuushii_pair, shousuushii_other_pair, daisuushii_pon, daisuushii_pair, tsuuiisou_open, tsuuiisou_pairs, tsuuiisou_terminals, chinroutou_open, chinroutou_honors, chinroutou_sequence, ryuuiisou_closed, ryuuiisou_no_green, ryuuiisou_five, ryuuiisou_red, chuuren_other, chuuren_without_two, chuuren_open, chuuren_kan, suu_kantsu_four, suu_kantsu_three, kokushi_thirteen, kokushi_thirteen_dealer, kokushi_one_wait, suuankou_tanki_ron, suuankou_tanki_tsumo, suuankou_on_triplet, junsei_five, junsei_nine, winds_and_honors, winds_concealed, winds_four_kans, winds_four_kans_dealer, yakuman_with_riichi, yakuman_with_pairs}
 
 -- ---- Tenhou
-pub tenhou-dealer : T (holds tenhouDealer)
+pub tenhou_dealer_holds : T (holds tenhou_dealer)
 unfolding holds
-tenhou-dealer = quick tenhouDealer tt
+tenhou_dealer_holds = quick tenhou_dealer tt
 
-pub tenhou-non-dealer : T (holds tenhouNonDealer)
+pub tenhou_non_dealer_holds : T (holds tenhou_non_dealer)
 unfolding holds
-tenhou-non-dealer = quick tenhouNonDealer tt
+tenhou_non_dealer_holds = quick tenhou_non_dealer tt
 
-pub tenhou-by-ron : T (holds tenhouByRon)
+pub tenhou_by_ron_holds : T (holds tenhou_by_ron)
 unfolding holds
-tenhou-by-ron = quick tenhouByRon tt
+tenhou_by_ron_holds = quick tenhou_by_ron tt
 
-pub tenhou-open : T (holds tenhouOpen)
+pub tenhou_open_holds : T (holds tenhou_open)
 unfolding holds
-tenhou-open = quick tenhouOpen tt
+tenhou_open_holds = quick tenhou_open tt
 
-pub tenhou-closed-kan : T (holds tenhouClosedKan)
+pub tenhou_closed_kan_holds : T (holds tenhou_closed_kan)
 unfolding holds
-tenhou-closed-kan = quick tenhouClosedKan tt
+tenhou_closed_kan_holds = quick tenhou_closed_kan tt
 
 -- ---- Chiihou
-pub chiihou-non-dealer : T (holds chiihouNonDealer)
+pub chiihou_non_dealer_holds : T (holds chiihou_non_dealer)
 unfolding holds
-chiihou-non-dealer = quick chiihouNonDealer tt
+chiihou_non_dealer_holds = quick chiihou_non_dealer tt
 
-pub chiihou-dealer : T (holds chiihouDealer)
+pub chiihou_dealer_holds : T (holds chiihou_dealer)
 unfolding holds
-chiihou-dealer = quick chiihouDealer tt
+chiihou_dealer_holds = quick chiihou_dealer tt
 
-pub chiihou-by-ron : T (holds chiihouByRon)
+pub chiihou_by_ron_holds : T (holds chiihou_by_ron)
 unfolding holds
-chiihou-by-ron = quick chiihouByRon tt
+chiihou_by_ron_holds = quick chiihou_by_ron tt
 
-pub chiihou-open : T (holds chiihouOpen)
+pub chiihou_open_holds : T (holds chiihou_open)
 unfolding holds
-chiihou-open = quick chiihouOpen tt
+chiihou_open_holds = quick chiihou_open tt
 
 -- ---- KokushiMusou
-pub kokushi-by-tsumo : T (holds kokushiByTsumo)
+pub kokushi_by_tsumo_holds : T (holds kokushi_by_tsumo)
 unfolding holds
-kokushi-by-tsumo = quick kokushiByTsumo tt
+kokushi_by_tsumo_holds = quick kokushi_by_tsumo tt
 
-pub kokushi-twelve-kinds : T (holds kokushiTwelveKinds)
+pub kokushi_twelve_kinds_holds : T (holds kokushi_twelve_kinds)
 unfolding holds
-kokushi-twelve-kinds = quick kokushiTwelveKinds tt
+kokushi_twelve_kinds_holds = quick kokushi_twelve_kinds tt
 
-pub kokushi-simple : T (holds kokushiSimple)
+pub kokushi_simple_holds : T (holds kokushi_simple)
 unfolding holds
-kokushi-simple = quick kokushiSimple tt
+kokushi_simple_holds = quick kokushi_simple tt
 
-pub kokushi-other-kinds : T (holds kokushiOtherKinds)
+pub kokushi_other_kinds_holds : T (holds kokushi_other_kinds)
 unfolding holds
-kokushi-other-kinds = quick kokushiOtherKinds tt
+kokushi_other_kinds_holds = quick kokushi_other_kinds tt
 
 -- ---- Suuankou
-pub suuankou-tsumo : T (holds suuankouTsumo)
+pub suuankou_tsumo_holds : T (holds suuankou_tsumo)
 unfolding holds
-suuankou-tsumo = quick suuankouTsumo tt
+suuankou_tsumo_holds = quick suuankou_tsumo tt
 
-pub suuankou-closed-kan : T (holds suuankouClosedKan)
+pub suuankou_closed_kan_holds : T (holds suuankou_closed_kan)
 unfolding holds
-suuankou-closed-kan = quick suuankouClosedKan tt
+suuankou_closed_kan_holds = quick suuankou_closed_kan tt
 
-pub suuankou-ron : T (holds suuankouRon)
+pub suuankou_ron_holds : T (holds suuankou_ron)
 unfolding holds
-suuankou-ron = quick suuankouRon tt
+suuankou_ron_holds = quick suuankou_ron tt
 
-pub suuankou-pon : T (holds suuankouPon)
+pub suuankou_pon_holds : T (holds suuankou_pon)
 unfolding holds
-suuankou-pon = quick suuankouPon tt
+suuankou_pon_holds = quick suuankou_pon tt
 
 -- ---- Daisangen
-pub daisangen-pon : T (holds daisangenPon)
+pub daisangen_pon_holds : T (holds daisangen_pon)
 unfolding holds
-daisangen-pon = quick daisangenPon tt
+daisangen_pon_holds = quick daisangen_pon tt
 
-pub daisangen-kan : T (holds daisangenKan)
+pub daisangen_kan_holds : T (holds daisangen_kan)
 unfolding holds
-daisangen-kan = quick daisangenKan tt
+daisangen_kan_holds = quick daisangen_kan tt
 
-pub daisangen-pair : T (holds daisangenPair)
+pub daisangen_pair_holds : T (holds daisangen_pair)
 unfolding holds
-daisangen-pair = quick daisangenPair tt
+daisangen_pair_holds = quick daisangen_pair tt
 
 -- ---- Shousuushii
-pub shousuushii-pair : T (holds shousuushiiPair)
+pub shousuushii_pair_holds : T (holds shousuushii_pair)
 unfolding holds
-shousuushii-pair = quick shousuushiiPair tt
+shousuushii_pair_holds = quick shousuushii_pair tt
 
-pub shousuushii-other-pair : T (holds shousuushiiOtherPair)
+pub shousuushii_other_pair_holds : T (holds shousuushii_other_pair)
 unfolding holds
-shousuushii-other-pair = quick shousuushiiOtherPair tt
+shousuushii_other_pair_holds = quick shousuushii_other_pair tt
 
 -- ---- Daisuushii
-pub daisuushii-pon : T (holds daisuushiiPon)
+pub daisuushii_pon_holds : T (holds daisuushii_pon)
 unfolding holds
-daisuushii-pon = quick daisuushiiPon tt
+daisuushii_pon_holds = quick daisuushii_pon tt
 
-pub daisuushii-pair : T (holds daisuushiiPair)
+pub daisuushii_pair_holds : T (holds daisuushii_pair)
 unfolding holds
-daisuushii-pair = quick daisuushiiPair tt
+daisuushii_pair_holds = quick daisuushii_pair tt
 
 -- ---- Tsuuiisou
-pub tsuuiisou-open : T (holds tsuuiisouOpen)
+pub tsuuiisou_open_holds : T (holds tsuuiisou_open)
 unfolding holds
-tsuuiisou-open = quick tsuuiisouOpen tt
+tsuuiisou_open_holds = quick tsuuiisou_open tt
 
-pub tsuuiisou-pairs : T (holds tsuuiisouPairs)
+pub tsuuiisou_pairs_holds : T (holds tsuuiisou_pairs)
 unfolding holds
-tsuuiisou-pairs = quick tsuuiisouPairs tt
+tsuuiisou_pairs_holds = quick tsuuiisou_pairs tt
 
-pub tsuuiisou-terminals : T (holds tsuuiisouTerminals)
+pub tsuuiisou_terminals_holds : T (holds tsuuiisou_terminals)
 unfolding holds
-tsuuiisou-terminals = quick tsuuiisouTerminals tt
+tsuuiisou_terminals_holds = quick tsuuiisou_terminals tt
 
 -- ---- Chinroutou
-pub chinroutou-open : T (holds chinroutouOpen)
+pub chinroutou_open_holds : T (holds chinroutou_open)
 unfolding holds
-chinroutou-open = quick chinroutouOpen tt
+chinroutou_open_holds = quick chinroutou_open tt
 
-pub chinroutou-honors : T (holds chinroutouHonors)
+pub chinroutou_honors_holds : T (holds chinroutou_honors)
 unfolding holds
-chinroutou-honors = quick chinroutouHonors tt
+chinroutou_honors_holds = quick chinroutou_honors tt
 
-pub chinroutou-sequence : T (holds chinroutouSequence)
+pub chinroutou_sequence_holds : T (holds chinroutou_sequence)
 unfolding holds
-chinroutou-sequence = quick chinroutouSequence tt
+chinroutou_sequence_holds = quick chinroutou_sequence tt
 
 -- ---- Ryuuiisou
-pub ryuuiisou-closed : T (holds ryuuiisouClosed)
+pub ryuuiisou_closed_holds : T (holds ryuuiisou_closed)
 unfolding holds
-ryuuiisou-closed = quick ryuuiisouClosed tt
+ryuuiisou_closed_holds = quick ryuuiisou_closed tt
 
-pub ryuuiisou-no-green : T (holds ryuuiisouNoGreen)
+pub ryuuiisou_no_green_holds : T (holds ryuuiisou_no_green)
 unfolding holds
-ryuuiisou-no-green = quick ryuuiisouNoGreen tt
+ryuuiisou_no_green_holds = quick ryuuiisou_no_green tt
 
-pub ryuuiisou-five : T (holds ryuuiisouFive)
+pub ryuuiisou_five_holds : T (holds ryuuiisou_five)
 unfolding holds
-ryuuiisou-five = quick ryuuiisouFive tt
+ryuuiisou_five_holds = quick ryuuiisou_five tt
 
-pub ryuuiisou-red : T (holds ryuuiisouRed)
+pub ryuuiisou_red_holds : T (holds ryuuiisou_red)
 unfolding holds
-ryuuiisou-red = quick ryuuiisouRed tt
+ryuuiisou_red_holds = quick ryuuiisou_red tt
 
 -- ---- ChuurenPoutou
-pub chuuren-other : T (holds chuurenOther)
+pub chuuren_other_holds : T (holds chuuren_other)
 unfolding holds
-chuuren-other = quick chuurenOther tt
+chuuren_other_holds = quick chuuren_other tt
 
-pub chuuren-without-two : T (holds chuurenWithoutTwo)
+pub chuuren_without_two_holds : T (holds chuuren_without_two)
 unfolding holds
-chuuren-without-two = quick chuurenWithoutTwo tt
+chuuren_without_two_holds = quick chuuren_without_two tt
 
-pub chuuren-open : T (holds chuurenOpen)
+pub chuuren_open_holds : T (holds chuuren_open)
 unfolding holds
-chuuren-open = quick chuurenOpen tt
+chuuren_open_holds = quick chuuren_open tt
 
-pub chuuren-kan : T (holds chuurenKan)
+pub chuuren_kan_holds : T (holds chuuren_kan)
 unfolding holds
-chuuren-kan = quick chuurenKan tt
+chuuren_kan_holds = quick chuuren_kan tt
 
 -- ---- SuuKantsu
-pub suu-kantsu-four : T (holds suuKantsuFour)
+pub suu_kantsu_four_holds : T (holds suu_kantsu_four)
 unfolding holds
-suu-kantsu-four = quick suuKantsuFour tt
+suu_kantsu_four_holds = quick suu_kantsu_four tt
 
-pub suu-kantsu-three : T (holds suuKantsuThree)
+pub suu_kantsu_three_holds : T (holds suu_kantsu_three)
 unfolding holds
-suu-kantsu-three = quick suuKantsuThree tt
+suu_kantsu_three_holds = quick suu_kantsu_three tt
 
 -- ---- Kokushi13Wait
-pub kokushi-thirteen : T (holds kokushiThirteen)
+pub kokushi_thirteen_holds : T (holds kokushi_thirteen)
 unfolding holds
-kokushi-thirteen = quick kokushiThirteen tt
+kokushi_thirteen_holds = quick kokushi_thirteen tt
 
-pub kokushi-thirteen-dealer : T (holds kokushiThirteenDealer)
+pub kokushi_thirteen_dealer_holds : T (holds kokushi_thirteen_dealer)
 unfolding holds
-kokushi-thirteen-dealer = quick kokushiThirteenDealer tt
+kokushi_thirteen_dealer_holds = quick kokushi_thirteen_dealer tt
 
-pub kokushi-one-wait : T (holds kokushiOneWait)
+pub kokushi_one_wait_holds : T (holds kokushi_one_wait)
 unfolding holds
-kokushi-one-wait = quick kokushiOneWait tt
+kokushi_one_wait_holds = quick kokushi_one_wait tt
 
 -- ---- SuuankouTanki
-pub suuankou-tanki-ron : T (holds suuankouTankiRon)
+pub suuankou_tanki_ron_holds : T (holds suuankou_tanki_ron)
 unfolding holds
-suuankou-tanki-ron = quick suuankouTankiRon tt
+suuankou_tanki_ron_holds = quick suuankou_tanki_ron tt
 
-pub suuankou-tanki-tsumo : T (holds suuankouTankiTsumo)
+pub suuankou_tanki_tsumo_holds : T (holds suuankou_tanki_tsumo)
 unfolding holds
-suuankou-tanki-tsumo = quick suuankouTankiTsumo tt
+suuankou_tanki_tsumo_holds = quick suuankou_tanki_tsumo tt
 
-pub suuankou-on-triplet : T (holds suuankouOnTriplet)
+pub suuankou_on_triplet_holds : T (holds suuankou_on_triplet)
 unfolding holds
-suuankou-on-triplet = quick suuankouOnTriplet tt
+suuankou_on_triplet_holds = quick suuankou_on_triplet tt
 
 -- ---- JunseiChuurenPoutou
-pub junsei-five : T (holds junseiFive)
+pub junsei_five_holds : T (holds junsei_five)
 unfolding holds
-junsei-five = quick junseiFive tt
+junsei_five_holds = quick junsei_five tt
 
-pub junsei-nine : T (holds junseiNine)
+pub junsei_nine_holds : T (holds junsei_nine)
 unfolding holds
-junsei-nine = quick junseiNine tt
+junsei_nine_holds = quick junsei_nine tt
 
 -- ---- Several at once add up
-pub winds-and-honors : T (holds windsAndHonors)
+pub winds_and_honors_holds : T (holds winds_and_honors)
 unfolding holds
-winds-and-honors = quick windsAndHonors tt
+winds_and_honors_holds = quick winds_and_honors tt
 
-pub winds-concealed : T (holds windsConcealed)
+pub winds_concealed_holds : T (holds winds_concealed)
 unfolding holds
-winds-concealed = quick windsConcealed tt
+winds_concealed_holds = quick winds_concealed tt
 
-pub winds-four-kans : T (holds windsFourKans)
+pub winds_four_kans_holds : T (holds winds_four_kans)
 unfolding holds
-winds-four-kans = quick windsFourKans tt
+winds_four_kans_holds = quick winds_four_kans tt
 
-pub winds-four-kans-dealer : T (holds windsFourKansDealer)
+pub winds_four_kans_dealer_holds : T (holds winds_four_kans_dealer)
 unfolding holds
-winds-four-kans-dealer = quick windsFourKansDealer tt
+winds_four_kans_dealer_holds = quick winds_four_kans_dealer tt
 
-pub yakuman-with-riichi : T (holds yakumanWithRiichi)
+pub yakuman_with_riichi_holds : T (holds yakuman_with_riichi)
 unfolding holds
-yakuman-with-riichi = quick yakumanWithRiichi tt
+yakuman_with_riichi_holds = quick yakuman_with_riichi tt
 
-pub yakuman-with-pairs : T (holds yakumanWithPairs)
+pub yakuman_with_pairs_holds : T (holds yakuman_with_pairs)
 unfolding holds
-yakuman-with-pairs = quick yakumanWithPairs tt
+yakuman_with_pairs_holds = quick yakuman_with_pairs tt

@@ -4,21 +4,21 @@ use mathlib.Core.Bool.{Bool, true, false, ◌||◌}
 use mathlib.Core.List.{List, [], ◌∷◌}
 use Prim.Native.Nat.{ℕ}
 use Rattle.tile.specs.Named.{man, pin, sou, East, South, West, North, White, Green, Red}
-use Rattle.meld.specs.Named.{run, triplet, chi, pon, closedKan, openKan, addedKan}
+use Rattle.meld.specs.Named.{run, triplet, chi, pon, closed_kan, open_kan, added_kan}
 use Rattle.context.specs.declared.GameContext.{GameContext}
-use Rattle.context.specs.Named.{Flag, riichi, doubleRiichi, ippatsu, rinshan, chankan, lastTile, tenhou, chiihou, southWins, dealerWins, ron, tsumo, byRon, byTsumo}
+use Rattle.context.specs.Named.{Flag, riichi, doubleRiichi, ippatsu, rinshan, chankan, lastTile, tenhou, chiihou, south_wins, dealer_wins, ron, tsumo, by_ron, by_tsumo}
 use Rattle.hand.specs.Reading.{Reading, pairs, orphans, standard}
 use Rattle.wait.specs.Wait.{pinfu}
 use Rattle.tile_yaku.specs.declared.TileYaku.{TileYaku}
-use Rattle.set_yaku.specs.Sets.{toitoi, kans, sanAnkou, sanshokuDoukou, suuankou, suuKantsu}
+use Rattle.set_yaku.specs.Sets.{toitoi, kans, san_ankou, sanshoku_doukou, suuankou, suu_kantsu}
 use Rattle.honor_yaku.specs.Honors.{yakuhai, dragons, winds, shousangen, daisangen, shousuushii, daisuushii}
-use Rattle.sequence_yaku.specs.Sequences.{ittsu, sanshokuDoujun, peikou}
+use Rattle.sequence_yaku.specs.Sequences.{ittsu, sanshoku_doujun, peikou}
 use Rattle.end_yaku.specs.Ends.{chanta, junchan}
 use Rattle.yaku.specs.declared.names.Yaku.{Yaku}
 use Rattle.yaku.specs.declared.names.Yaku.TheVariants.{Riichi, Ippatsu, MenzenTsumo, Tanyao, Pinfu, Iipeikou, RinshanKaihou, Chankan, HaiteiRaoyue, HouteiRaoyui, DoubleRiichi, Toitoi, Chiitoitsu, Chanta, SanAnkou, SanKantsu, Honroutou, Honitsu, Junchan, Ryanpeikou, Chinitsu, Tenhou, Chiihou, KokushiMusou, Suuankou, Tsuuiisou, Chinroutou, Ryuuiisou, ChuurenPoutou, SuuKantsu, Kokushi13Wait, SuuankouTanki, JunseiChuurenPoutou}
-use Rattle.yaku.specs.Names.{names, tallied, yakuhaiName}
-use Rattle.yaku.specs.Tally.{oneHan, moreHan, isYakuman, ordinary, tallies}
-use Rattle.yaku.specs.Han.{hanOf, han}
+use Rattle.yaku.specs.Names.{names, tallied, yakuhai_name}
+use Rattle.yaku.specs.Tally.{one_han, more_han, is_yakuman, ordinary, tallies}
+use Rattle.yaku.specs.Han.{han_of, han}
 use Rattle.yaku.proofs.HanTable.{among}
 
 -- ---- what the examples are about
@@ -30,8 +30,8 @@ abbrev pub called : Bool
 called = true
 
 -- the tiles alone show these yaku and no other
-abbrev tilesShow : List Yaku → TileYaku
-tilesShow ys =
+abbrev tiles_show : List Yaku → TileYaku
+tiles_show ys =
     record {
       tanyao = among ys Tanyao;
       honroutou = among ys Honroutou;
@@ -46,637 +46,637 @@ tilesShow ys =
 
 -- how often the yaku counts in a reading whose tiles show the yaku ys
 unfoldable pub counts : Yaku → GameContext → Bool → List Yaku → Reading → ℕ
-unfolding tallies isYakuman ordinary oneHan moreHan pinfu toitoi kans yakuhai dragons winds sanAnkou ittsu sanshokuDoujun sanshokuDoukou peikou chanta junchan shousangen suuankou daisangen shousuushii daisuushii suuKantsu
-counts y w opened ys r = tallied y (tallies w opened (tilesShow ys) r)
+unfolding tallies is_yakuman ordinary one_han more_han pinfu toitoi kans yakuhai dragons winds san_ankou ittsu sanshoku_doujun sanshoku_doukou peikou chanta junchan shousangen suuankou daisangen shousuushii daisuushii suu_kantsu
+counts y w opened ys r = tallied y (tallies w opened (tiles_show ys) r)
 
 -- and the han of all yaku together
-unfoldable pub hanIn : GameContext → Bool → List Yaku → Reading → ℕ
-unfolding counts han hanOf names
-hanIn w opened ys r = han w opened (tilesShow ys) r
+unfoldable pub han_in : GameContext → Bool → List Yaku → Reading → ℕ
+unfolding counts han han_of names
+han_in w opened ys r = han w opened (tiles_show ys) r
 
 -- 55p 234m 567m 234s 678s
 abbrev pub runs : Reading
 runs = standard (pin 5) (run (man 2) ∷ run (man 5) ∷ run (sou 2) ∷ run (sou 6) ∷ [])
 
 -- the same with its first sequence called
-abbrev pub runsCalled : Reading
-runsCalled = standard (pin 5) (chi (man 2) ∷ run (man 5) ∷ run (sou 2) ∷ run (sou 6) ∷ [])
+abbrev pub runs_called : Reading
+runs_called = standard (pin 5) (chi (man 2) ∷ run (man 5) ∷ run (sou 2) ∷ run (sou 6) ∷ [])
 
 -- 2233m 44p 5566s 88s EE
-abbrev pub sevenPairs : Reading
-sevenPairs = pairs (man 2 ∷ man 3 ∷ pin 4 ∷ sou 5 ∷ sou 6 ∷ sou 8 ∷ East ∷ [])
+abbrev pub seven_pairs : Reading
+seven_pairs = pairs (man 2 ∷ man 3 ∷ pin 4 ∷ sou 5 ∷ sou 6 ∷ sou 8 ∷ East ∷ [])
 
 -- how often a yaku of the win alone counts: won by ron or tsumo of 8s with these flags, by South, in the closed and in the called hand
-unfoldable pub closedHand : ℕ → List Flag → Yaku → ℕ
+unfoldable pub closed_hand : ℕ → List Flag → Yaku → ℕ
 unfolding counts
-closedHand how fs y = counts y (southWins how (sou 8) fs) closed [] runs
+closed_hand how fs y = counts y (south_wins how (sou 8) fs) closed [] runs
 
-unfoldable pub openHand : ℕ → List Flag → Yaku → ℕ
+unfoldable pub open_hand : ℕ → List Flag → Yaku → ℕ
 unfolding counts
-openHand how fs y = counts y (southWins how (sou 8) fs) called [] runsCalled
+open_hand how fs y = counts y (south_wins how (sou 8) fs) called [] runs_called
 
 -- ---- Riichi: declared, in a closed hand
 -- declared
-pub riichi-declared : closedHand byRon (riichi ∷ []) Riichi ≡ 1
-unfolding closedHand
-riichi-declared = refl
+pub riichi_declared : closed_hand by_ron (riichi ∷ []) Riichi ≡ 1
+unfolding closed_hand
+riichi_declared = refl
 
 -- not declared
-pub riichi-undeclared : closedHand byRon [] Riichi ≡ 0
-unfolding closedHand
-riichi-undeclared = refl
+pub riichi_undeclared : closed_hand by_ron [] Riichi ≡ 0
+unfolding closed_hand
+riichi_undeclared = refl
 
 -- not in an open hand
-pub riichi-open : openHand byRon (riichi ∷ []) Riichi ≡ 0
-unfolding openHand
-riichi-open = refl
+pub riichi_open_holds : open_hand by_ron (riichi ∷ []) Riichi ≡ 0
+unfolding open_hand
+riichi_open_holds = refl
 
 -- ---- DoubleRiichi: riichi with the first discard; it counts instead of Riichi
 -- with the first discard
-pub double-riichi-first : closedHand byRon (riichi ∷ doubleRiichi ∷ []) DoubleRiichi ≡ 1
-unfolding closedHand
-double-riichi-first = refl
+pub double_riichi_first : closed_hand by_ron (riichi ∷ doubleRiichi ∷ []) DoubleRiichi ≡ 1
+unfolding closed_hand
+double_riichi_first = refl
 
 -- then Riichi does not count
-pub double-riichi-no-riichi : closedHand byRon (riichi ∷ doubleRiichi ∷ []) Riichi ≡ 0
-unfolding closedHand
-double-riichi-no-riichi = refl
+pub double_riichi_no_riichi : closed_hand by_ron (riichi ∷ doubleRiichi ∷ []) Riichi ≡ 0
+unfolding closed_hand
+double_riichi_no_riichi = refl
 
 -- not without riichi
-pub double-riichi-undeclared : closedHand byRon (doubleRiichi ∷ []) DoubleRiichi ≡ 0
-unfolding closedHand
-double-riichi-undeclared = refl
+pub double_riichi_undeclared : closed_hand by_ron (doubleRiichi ∷ []) DoubleRiichi ≡ 0
+unfolding closed_hand
+double_riichi_undeclared = refl
 
 -- not in an open hand
-pub double-riichi-open : openHand byRon (riichi ∷ doubleRiichi ∷ []) DoubleRiichi ≡ 0
-unfolding openHand
-double-riichi-open = refl
+pub double_riichi_open_holds : open_hand by_ron (riichi ∷ doubleRiichi ∷ []) DoubleRiichi ≡ 0
+unfolding open_hand
+double_riichi_open_holds = refl
 
 -- not for riichi later
-pub double-riichi-later : closedHand byRon (riichi ∷ []) DoubleRiichi ≡ 0
-unfolding closedHand
-double-riichi-later = refl
+pub double_riichi_later : closed_hand by_ron (riichi ∷ []) DoubleRiichi ≡ 0
+unfolding closed_hand
+double_riichi_later = refl
 
 -- ---- Ippatsu: within one turn of riichi
 -- after riichi
-pub ippatsu-riichi : closedHand byRon (riichi ∷ ippatsu ∷ []) Ippatsu ≡ 1
-unfolding closedHand
-ippatsu-riichi = refl
+pub ippatsu_riichi : closed_hand by_ron (riichi ∷ ippatsu ∷ []) Ippatsu ≡ 1
+unfolding closed_hand
+ippatsu_riichi = refl
 
 -- after double riichi too
-pub ippatsu-double-riichi : closedHand byTsumo (riichi ∷ doubleRiichi ∷ ippatsu ∷ []) Ippatsu ≡ 1
-unfolding closedHand
-ippatsu-double-riichi = refl
+pub ippatsu_double_riichi : closed_hand by_tsumo (riichi ∷ doubleRiichi ∷ ippatsu ∷ []) Ippatsu ≡ 1
+unfolding closed_hand
+ippatsu_double_riichi = refl
 
 -- not without riichi
-pub ippatsu-undeclared : closedHand byRon (ippatsu ∷ []) Ippatsu ≡ 0
-unfolding closedHand
-ippatsu-undeclared = refl
+pub ippatsu_undeclared : closed_hand by_ron (ippatsu ∷ []) Ippatsu ≡ 0
+unfolding closed_hand
+ippatsu_undeclared = refl
 
 -- not in an open hand
-pub ippatsu-open : openHand byRon (riichi ∷ ippatsu ∷ []) Ippatsu ≡ 0
-unfolding openHand
-ippatsu-open = refl
+pub ippatsu_open : open_hand by_ron (riichi ∷ ippatsu ∷ []) Ippatsu ≡ 0
+unfolding open_hand
+ippatsu_open = refl
 
 -- not on a replacement tile: the kan has broken it
-pub ippatsu-rinshan : closedHand byTsumo (riichi ∷ ippatsu ∷ rinshan ∷ []) Ippatsu ≡ 0
-unfolding closedHand
-ippatsu-rinshan = refl
+pub ippatsu_rinshan : closed_hand by_tsumo (riichi ∷ ippatsu ∷ rinshan ∷ []) Ippatsu ≡ 0
+unfolding closed_hand
+ippatsu_rinshan = refl
 
 -- by ron nothing was drawn, and the flag of the replacement tile does not hinder
-pub ippatsu-ron-rinshan : closedHand byRon (riichi ∷ ippatsu ∷ rinshan ∷ []) Ippatsu ≡ 1
-unfolding closedHand
-ippatsu-ron-rinshan = refl
+pub ippatsu_ron_rinshan : closed_hand by_ron (riichi ∷ ippatsu ∷ rinshan ∷ []) Ippatsu ≡ 1
+unfolding closed_hand
+ippatsu_ron_rinshan = refl
 
 -- ---- MenzenTsumo: the winning tile drawn, in a closed hand
 -- drawn
-pub menzen-tsumo-drawn : closedHand byTsumo [] MenzenTsumo ≡ 1
-unfolding closedHand
-menzen-tsumo-drawn = refl
+pub menzen_tsumo_drawn : closed_hand by_tsumo [] MenzenTsumo ≡ 1
+unfolding closed_hand
+menzen_tsumo_drawn = refl
 
 -- not by ron
-pub menzen-tsumo-ron : closedHand byRon [] MenzenTsumo ≡ 0
-unfolding closedHand
-menzen-tsumo-ron = refl
+pub menzen_tsumo_ron : closed_hand by_ron [] MenzenTsumo ≡ 0
+unfolding closed_hand
+menzen_tsumo_ron = refl
 
 -- not in an open hand
-pub menzen-tsumo-open : openHand byTsumo [] MenzenTsumo ≡ 0
-unfolding openHand
-menzen-tsumo-open = refl
+pub menzen_tsumo_open : open_hand by_tsumo [] MenzenTsumo ≡ 0
+unfolding open_hand
+menzen_tsumo_open = refl
 
 -- a closed kan leaves the hand closed
-pub menzen-tsumo-kan : counts MenzenTsumo (tsumo (sou 8)) closed [] (standard (pin 5) (closedKan East ∷ run (man 5) ∷ run (sou 2) ∷ run (sou 6) ∷ [])) ≡ 1
+pub menzen_tsumo_kan : counts MenzenTsumo (tsumo (sou 8)) closed [] (standard (pin 5) (closed_kan East ∷ run (man 5) ∷ run (sou 2) ∷ run (sou 6) ∷ [])) ≡ 1
 unfolding counts
-menzen-tsumo-kan = refl
+menzen_tsumo_kan = refl
 
 -- ---- RinshanKaihou: on the replacement tile of a kan
 -- drawn
-pub rinshan-drawn : closedHand byTsumo (rinshan ∷ []) RinshanKaihou ≡ 1
-unfolding closedHand
-rinshan-drawn = refl
+pub rinshan_drawn : closed_hand by_tsumo (rinshan ∷ []) RinshanKaihou ≡ 1
+unfolding closed_hand
+rinshan_drawn = refl
 
 -- in an open hand too
-pub rinshan-open : openHand byTsumo (rinshan ∷ []) RinshanKaihou ≡ 1
-unfolding openHand
-rinshan-open = refl
+pub rinshan_open_holds : open_hand by_tsumo (rinshan ∷ []) RinshanKaihou ≡ 1
+unfolding open_hand
+rinshan_open_holds = refl
 
 -- not by ron
-pub rinshan-ron : closedHand byRon (rinshan ∷ []) RinshanKaihou ≡ 0
-unfolding closedHand
-rinshan-ron = refl
+pub rinshan_ron : closed_hand by_ron (rinshan ∷ []) RinshanKaihou ≡ 0
+unfolding closed_hand
+rinshan_ron = refl
 
 -- not on another tile
-pub rinshan-unflagged : closedHand byTsumo [] RinshanKaihou ≡ 0
-unfolding closedHand
-rinshan-unflagged = refl
+pub rinshan_unflagged : closed_hand by_tsumo [] RinshanKaihou ≡ 0
+unfolding closed_hand
+rinshan_unflagged = refl
 
 -- ---- Chankan: by ron on the tile added to a pon
 -- by ron
-pub chankan-ron : closedHand byRon (chankan ∷ []) Chankan ≡ 1
-unfolding closedHand
-chankan-ron = refl
+pub chankan_ron : closed_hand by_ron (chankan ∷ []) Chankan ≡ 1
+unfolding closed_hand
+chankan_ron = refl
 
 -- in an open hand too
-pub chankan-open : openHand byRon (chankan ∷ []) Chankan ≡ 1
-unfolding openHand
-chankan-open = refl
+pub chankan_open : open_hand by_ron (chankan ∷ []) Chankan ≡ 1
+unfolding open_hand
+chankan_open = refl
 
 -- not by tsumo
-pub chankan-tsumo : closedHand byTsumo (chankan ∷ []) Chankan ≡ 0
-unfolding closedHand
-chankan-tsumo = refl
+pub chankan_tsumo : closed_hand by_tsumo (chankan ∷ []) Chankan ≡ 0
+unfolding closed_hand
+chankan_tsumo = refl
 
 -- not on a discard
-pub chankan-unflagged : closedHand byRon [] Chankan ≡ 0
-unfolding closedHand
-chankan-unflagged = refl
+pub chankan_unflagged : closed_hand by_ron [] Chankan ≡ 0
+unfolding closed_hand
+chankan_unflagged = refl
 
 -- ---- HaiteiRaoyue: on the last tile of the wall, drawn
 -- drawn
-pub haitei-drawn : closedHand byTsumo (lastTile ∷ []) HaiteiRaoyue ≡ 1
-unfolding closedHand
-haitei-drawn = refl
+pub haitei_drawn : closed_hand by_tsumo (lastTile ∷ []) HaiteiRaoyue ≡ 1
+unfolding closed_hand
+haitei_drawn = refl
 
 -- in an open hand too
-pub haitei-open : openHand byTsumo (lastTile ∷ []) HaiteiRaoyue ≡ 1
-unfolding openHand
-haitei-open = refl
+pub haitei_open : open_hand by_tsumo (lastTile ∷ []) HaiteiRaoyue ≡ 1
+unfolding open_hand
+haitei_open = refl
 
 -- not by ron
-pub haitei-ron : closedHand byRon (lastTile ∷ []) HaiteiRaoyue ≡ 0
-unfolding closedHand
-haitei-ron = refl
+pub haitei_ron : closed_hand by_ron (lastTile ∷ []) HaiteiRaoyue ≡ 0
+unfolding closed_hand
+haitei_ron = refl
 
 -- not on a replacement tile, which is not of the wall
-pub haitei-rinshan : closedHand byTsumo (lastTile ∷ rinshan ∷ []) HaiteiRaoyue ≡ 0
-unfolding closedHand
-haitei-rinshan = refl
+pub haitei_rinshan : closed_hand by_tsumo (lastTile ∷ rinshan ∷ []) HaiteiRaoyue ≡ 0
+unfolding closed_hand
+haitei_rinshan = refl
 
 -- not on an earlier tile
-pub haitei-unflagged : closedHand byTsumo [] HaiteiRaoyue ≡ 0
-unfolding closedHand
-haitei-unflagged = refl
+pub haitei_unflagged : closed_hand by_tsumo [] HaiteiRaoyue ≡ 0
+unfolding closed_hand
+haitei_unflagged = refl
 
 -- ---- HouteiRaoyui: on the last discard
 -- by ron
-pub houtei-ron : closedHand byRon (lastTile ∷ []) HouteiRaoyui ≡ 1
-unfolding closedHand
-houtei-ron = refl
+pub houtei_ron : closed_hand by_ron (lastTile ∷ []) HouteiRaoyui ≡ 1
+unfolding closed_hand
+houtei_ron = refl
 
 -- in an open hand too
-pub houtei-open : openHand byRon (lastTile ∷ []) HouteiRaoyui ≡ 1
-unfolding openHand
-houtei-open = refl
+pub houtei_open : open_hand by_ron (lastTile ∷ []) HouteiRaoyui ≡ 1
+unfolding open_hand
+houtei_open = refl
 
 -- beside Chankan
-pub houtei-chankan : closedHand byRon (lastTile ∷ chankan ∷ []) HouteiRaoyui ≡ 1
-unfolding closedHand
-houtei-chankan = refl
+pub houtei_chankan : closed_hand by_ron (lastTile ∷ chankan ∷ []) HouteiRaoyui ≡ 1
+unfolding closed_hand
+houtei_chankan = refl
 
 -- not by tsumo
-pub houtei-tsumo : closedHand byTsumo (lastTile ∷ []) HouteiRaoyui ≡ 0
-unfolding closedHand
-houtei-tsumo = refl
+pub houtei_tsumo : closed_hand by_tsumo (lastTile ∷ []) HouteiRaoyui ≡ 0
+unfolding closed_hand
+houtei_tsumo = refl
 
 -- not on an earlier discard
-pub houtei-unflagged : closedHand byRon [] HouteiRaoyui ≡ 0
-unfolding closedHand
-houtei-unflagged = refl
+pub houtei_unflagged : closed_hand by_ron [] HouteiRaoyui ≡ 0
+unfolding closed_hand
+houtei_unflagged = refl
 
 -- ---- Tenhou and Chiihou: on the first draw, of the dealer and of another player
 -- the dealer
-pub tenhou-dealer : counts Tenhou (dealerWins byTsumo (sou 8) (tenhou ∷ [])) closed [] runs ≡ 1
+pub tenhou_dealer_holds : counts Tenhou (dealer_wins by_tsumo (sou 8) (tenhou ∷ [])) closed [] runs ≡ 1
 unfolding counts
-tenhou-dealer = refl
+tenhou_dealer_holds = refl
 
 -- not another player
-pub tenhou-not-dealer : closedHand byTsumo (tenhou ∷ []) Tenhou ≡ 0
-unfolding closedHand
-tenhou-not-dealer = refl
+pub tenhou_not_dealer : closed_hand by_tsumo (tenhou ∷ []) Tenhou ≡ 0
+unfolding closed_hand
+tenhou_not_dealer = refl
 
 -- not by ron
-pub tenhou-ron : counts Tenhou (dealerWins byRon (sou 8) (tenhou ∷ [])) closed [] runs ≡ 0
+pub tenhou_ron : counts Tenhou (dealer_wins by_ron (sou 8) (tenhou ∷ [])) closed [] runs ≡ 0
 unfolding counts
-tenhou-ron = refl
+tenhou_ron = refl
 
 -- not in an open hand
-pub tenhou-open : counts Tenhou (dealerWins byTsumo (sou 8) (tenhou ∷ [])) called [] runsCalled ≡ 0
+pub tenhou_open_holds : counts Tenhou (dealer_wins by_tsumo (sou 8) (tenhou ∷ [])) called [] runs_called ≡ 0
 unfolding counts
-tenhou-open = refl
+tenhou_open_holds = refl
 
 -- another player
-pub chiihou-not-dealer : closedHand byTsumo (chiihou ∷ []) Chiihou ≡ 1
-unfolding closedHand
-chiihou-not-dealer = refl
+pub chiihou_not_dealer : closed_hand by_tsumo (chiihou ∷ []) Chiihou ≡ 1
+unfolding closed_hand
+chiihou_not_dealer = refl
 
 -- not the dealer
-pub chiihou-dealer : counts Chiihou (dealerWins byTsumo (sou 8) (chiihou ∷ [])) closed [] runs ≡ 0
+pub chiihou_dealer_holds : counts Chiihou (dealer_wins by_tsumo (sou 8) (chiihou ∷ [])) closed [] runs ≡ 0
 unfolding counts
-chiihou-dealer = refl
+chiihou_dealer_holds = refl
 
 -- not by ron
-pub chiihou-ron : closedHand byRon (chiihou ∷ []) Chiihou ≡ 0
-unfolding closedHand
-chiihou-ron = refl
+pub chiihou_ron : closed_hand by_ron (chiihou ∷ []) Chiihou ≡ 0
+unfolding closed_hand
+chiihou_ron = refl
 
 -- not in an open hand
-pub chiihou-open : openHand byTsumo (chiihou ∷ []) Chiihou ≡ 0
-unfolding openHand
-chiihou-open = refl
+pub chiihou_open_holds : open_hand by_tsumo (chiihou ∷ []) Chiihou ≡ 0
+unfolding open_hand
+chiihou_open_holds = refl
 
 -- a yakuman leaves out what is none
-pub chiihou-no-tsumo : closedHand byTsumo (chiihou ∷ []) MenzenTsumo ≡ 0
-unfolding closedHand
-chiihou-no-tsumo = refl
+pub chiihou_no_tsumo : closed_hand by_tsumo (chiihou ∷ []) MenzenTsumo ≡ 0
+unfolding closed_hand
+chiihou_no_tsumo = refl
 
 -- ---- Pinfu: sequences, a pair that is no yakuhai, a two-sided wait, in a closed hand
 -- 8s with 67s
-pub pinfu-two-sided : closedHand byRon [] Pinfu ≡ 1
-unfolding closedHand
-pinfu-two-sided = refl
+pub pinfu_two_sided : closed_hand by_ron [] Pinfu ≡ 1
+unfolding closed_hand
+pinfu_two_sided = refl
 
 -- not in an open hand
-pub pinfu-open : openHand byRon [] Pinfu ≡ 0
-unfolding openHand
-pinfu-open = refl
+pub pinfu_open_holds : open_hand by_ron [] Pinfu ≡ 0
+unfolding open_hand
+pinfu_open_holds = refl
 
 -- not on the middle 3m of 234m
-pub pinfu-middle : counts Pinfu (ron (man 3)) closed [] runs ≡ 0
+pub pinfu_middle_holds : counts Pinfu (ron (man 3)) closed [] runs ≡ 0
 unfolding counts
-pinfu-middle = refl
+pinfu_middle_holds = refl
 
 -- not with a pair of the seat wind
-pub pinfu-seat-wind : counts Pinfu (ron (sou 8)) closed [] (standard South (run (man 2) ∷ run (man 5) ∷ run (sou 2) ∷ run (sou 6) ∷ [])) ≡ 0
+pub pinfu_seat_wind_holds : counts Pinfu (ron (sou 8)) closed [] (standard South (run (man 2) ∷ run (man 5) ∷ run (sou 2) ∷ run (sou 6) ∷ [])) ≡ 0
 unfolding counts
-pinfu-seat-wind = refl
+pinfu_seat_wind_holds = refl
 
 -- ---- Iipeikou and Ryanpeikou: one and two pairs of identical sequences, in a closed hand
 -- 234m 234m
-pub iipeikou-one-pair : counts Iipeikou (ron (sou 8)) closed [] (standard (pin 5) (run (man 2) ∷ run (man 2) ∷ run (sou 2) ∷ run (sou 6) ∷ [])) ≡ 1
+pub iipeikou_one_pair : counts Iipeikou (ron (sou 8)) closed [] (standard (pin 5) (run (man 2) ∷ run (man 2) ∷ run (sou 2) ∷ run (sou 6) ∷ [])) ≡ 1
 unfolding counts
-iipeikou-one-pair = refl
+iipeikou_one_pair = refl
 
 -- not in an open hand
-pub iipeikou-open : counts Iipeikou (ron (sou 8)) called [] (standard (pin 5) (run (man 2) ∷ run (man 2) ∷ chi (sou 2) ∷ run (sou 6) ∷ [])) ≡ 0
+pub iipeikou_open_holds : counts Iipeikou (ron (sou 8)) called [] (standard (pin 5) (run (man 2) ∷ run (man 2) ∷ chi (sou 2) ∷ run (sou 6) ∷ [])) ≡ 0
 unfolding counts
-iipeikou-open = refl
+iipeikou_open_holds = refl
 
 -- not beside Ryanpeikou
-pub iipeikou-two-pairs : counts Iipeikou (ron (sou 8)) closed [] (standard (pin 5) (run (man 2) ∷ run (man 2) ∷ run (sou 6) ∷ run (sou 6) ∷ [])) ≡ 0
+pub iipeikou_two_pairs : counts Iipeikou (ron (sou 8)) closed [] (standard (pin 5) (run (man 2) ∷ run (man 2) ∷ run (sou 6) ∷ run (sou 6) ∷ [])) ≡ 0
 unfolding counts
-iipeikou-two-pairs = refl
+iipeikou_two_pairs = refl
 
 -- 234m 234m 678s 678s
-pub ryanpeikou-two-pairs : counts Ryanpeikou (ron (sou 8)) closed [] (standard (pin 5) (run (man 2) ∷ run (man 2) ∷ run (sou 6) ∷ run (sou 6) ∷ [])) ≡ 1
+pub ryanpeikou_two_pairs : counts Ryanpeikou (ron (sou 8)) closed [] (standard (pin 5) (run (man 2) ∷ run (man 2) ∷ run (sou 6) ∷ run (sou 6) ∷ [])) ≡ 1
 unfolding counts
-ryanpeikou-two-pairs = refl
+ryanpeikou_two_pairs = refl
 
 -- not of one pair
-pub ryanpeikou-one-pair : counts Ryanpeikou (ron (sou 8)) closed [] (standard (pin 5) (run (man 2) ∷ run (man 2) ∷ run (sou 2) ∷ run (sou 6) ∷ [])) ≡ 0
+pub ryanpeikou_one_pair : counts Ryanpeikou (ron (sou 8)) closed [] (standard (pin 5) (run (man 2) ∷ run (man 2) ∷ run (sou 2) ∷ run (sou 6) ∷ [])) ≡ 0
 unfolding counts
-ryanpeikou-one-pair = refl
+ryanpeikou_one_pair = refl
 
 -- not in an open hand
-pub ryanpeikou-open : counts Ryanpeikou (ron (sou 8)) called [] (standard (pin 5) (run (man 2) ∷ run (man 2) ∷ run (sou 6) ∷ run (sou 6) ∷ [])) ≡ 0
+pub ryanpeikou_open_holds : counts Ryanpeikou (ron (sou 8)) called [] (standard (pin 5) (run (man 2) ∷ run (man 2) ∷ run (sou 6) ∷ run (sou 6) ∷ [])) ≡ 0
 unfolding counts
-ryanpeikou-open = refl
+ryanpeikou_open_holds = refl
 
 -- the same tiles read as seven pairs have none
-pub ryanpeikou-seven-pairs : counts Ryanpeikou (ron (sou 8)) closed [] (pairs (man 2 ∷ man 3 ∷ man 4 ∷ pin 5 ∷ sou 6 ∷ sou 7 ∷ sou 8 ∷ [])) ≡ 0
+pub ryanpeikou_seven_pairs : counts Ryanpeikou (ron (sou 8)) closed [] (pairs (man 2 ∷ man 3 ∷ man 4 ∷ pin 5 ∷ sou 6 ∷ sou 7 ∷ sou 8 ∷ [])) ≡ 0
 unfolding counts
-ryanpeikou-seven-pairs = refl
+ryanpeikou_seven_pairs = refl
 
 -- ---- Chiitoitsu: seven pairs
 -- seven pairs
-pub chiitoitsu-pairs : counts Chiitoitsu (ron (sou 8)) closed [] sevenPairs ≡ 1
+pub chiitoitsu_pairs : counts Chiitoitsu (ron (sou 8)) closed [] seven_pairs ≡ 1
 unfolding counts
-chiitoitsu-pairs = refl
+chiitoitsu_pairs = refl
 
 -- not a pair and melds, though these tiles are seven pairs too
-pub chiitoitsu-melds : counts Chiitoitsu (ron (sou 8)) closed [] (standard (pin 5) (run (man 2) ∷ run (man 2) ∷ run (sou 6) ∷ run (sou 6) ∷ [])) ≡ 0
+pub chiitoitsu_melds : counts Chiitoitsu (ron (sou 8)) closed [] (standard (pin 5) (run (man 2) ∷ run (man 2) ∷ run (sou 6) ∷ run (sou 6) ∷ [])) ≡ 0
 unfolding counts
-chiitoitsu-melds = refl
+chiitoitsu_melds = refl
 
 -- not thirteen orphans
-pub chiitoitsu-orphans : counts Chiitoitsu (ron East) closed [] (orphans East) ≡ 0
+pub chiitoitsu_orphans : counts Chiitoitsu (ron East) closed [] (orphans East) ≡ 0
 unfolding counts
-chiitoitsu-orphans = refl
+chiitoitsu_orphans = refl
 
 -- ---- Chanta: an end of a suit or an honor in each meld and the pair; Junchan: without honors, and then Chanta does not count
 -- with honors
-pub chanta-honors : counts Chanta (ron (man 1)) closed [] (standard (pin 9) (run (man 1) ∷ run (man 7) ∷ run (sou 7) ∷ triplet East ∷ [])) ≡ 1
+pub chanta_honors : counts Chanta (ron (man 1)) closed [] (standard (pin 9) (run (man 1) ∷ run (man 7) ∷ run (sou 7) ∷ triplet East ∷ [])) ≡ 1
 unfolding counts
-chanta-honors = refl
+chanta_honors = refl
 
 -- without honors Junchan counts
-pub junchan-terminals : counts Junchan (ron (man 1)) closed [] (standard (pin 9) (run (man 1) ∷ run (man 7) ∷ run (sou 7) ∷ triplet (sou 1) ∷ [])) ≡ 1
+pub junchan_terminals : counts Junchan (ron (man 1)) closed [] (standard (pin 9) (run (man 1) ∷ run (man 7) ∷ run (sou 7) ∷ triplet (sou 1) ∷ [])) ≡ 1
 unfolding counts
-junchan-terminals = refl
+junchan_terminals = refl
 
 -- and Chanta does not
-pub chanta-junchan : counts Chanta (ron (man 1)) closed [] (standard (pin 9) (run (man 1) ∷ run (man 7) ∷ run (sou 7) ∷ triplet (sou 1) ∷ [])) ≡ 0
+pub chanta_junchan : counts Chanta (ron (man 1)) closed [] (standard (pin 9) (run (man 1) ∷ run (man 7) ∷ run (sou 7) ∷ triplet (sou 1) ∷ [])) ≡ 0
 unfolding counts
-chanta-junchan = refl
+chanta_junchan = refl
 
 -- Junchan not with an honor
-pub junchan-honors : counts Junchan (ron (man 1)) closed [] (standard (pin 9) (run (man 1) ∷ run (man 7) ∷ run (sou 7) ∷ triplet East ∷ [])) ≡ 0
+pub junchan_honors_holds : counts Junchan (ron (man 1)) closed [] (standard (pin 9) (run (man 1) ∷ run (man 7) ∷ run (sou 7) ∷ triplet East ∷ [])) ≡ 0
 unfolding counts
-junchan-honors = refl
+junchan_honors_holds = refl
 
 -- Chanta not with 234m
-pub chanta-234 : counts Chanta (ron (man 2)) closed [] (standard (pin 9) (run (man 2) ∷ run (man 7) ∷ run (sou 7) ∷ triplet East ∷ [])) ≡ 0
+pub chanta_234 : counts Chanta (ron (man 2)) closed [] (standard (pin 9) (run (man 2) ∷ run (man 7) ∷ run (sou 7) ∷ triplet East ∷ [])) ≡ 0
 unfolding counts
-chanta-234 = refl
+chanta_234 = refl
 
 -- ---- Yakuhai: a triplet or kan of a dragon, the round wind or the seat wind; East is the round, South the seat
 -- the round wind
-pub yakuhai-round : counts (yakuhaiName East) (ron (sou 8)) closed [] (standard (pin 5) (triplet East ∷ run (man 5) ∷ run (sou 2) ∷ run (sou 6) ∷ [])) ≡ 1
+pub yakuhai_round : counts (yakuhai_name East) (ron (sou 8)) closed [] (standard (pin 5) (triplet East ∷ run (man 5) ∷ run (sou 2) ∷ run (sou 6) ∷ [])) ≡ 1
 unfolding counts
-yakuhai-round = refl
+yakuhai_round = refl
 
 -- a wind of another seat not
-pub yakuhai-other-seat : counts (yakuhaiName West) (ron (sou 8)) closed [] (standard (pin 5) (triplet West ∷ run (man 5) ∷ run (sou 2) ∷ run (sou 6) ∷ [])) ≡ 0
+pub yakuhai_other_seat : counts (yakuhai_name West) (ron (sou 8)) closed [] (standard (pin 5) (triplet West ∷ run (man 5) ∷ run (sou 2) ∷ run (sou 6) ∷ [])) ≡ 0
 unfolding counts
-yakuhai-other-seat = refl
+yakuhai_other_seat = refl
 
 -- East twice for the dealer
-pub yakuhai-twice : counts (yakuhaiName East) (dealerWins byRon (sou 8) []) closed [] (standard (pin 5) (triplet East ∷ run (man 5) ∷ run (sou 2) ∷ run (sou 6) ∷ [])) ≡ 2
+pub yakuhai_twice : counts (yakuhai_name East) (dealer_wins by_ron (sou 8) []) closed [] (standard (pin 5) (triplet East ∷ run (man 5) ∷ run (sou 2) ∷ run (sou 6) ∷ [])) ≡ 2
 unfolding counts
-yakuhai-twice = refl
+yakuhai_twice = refl
 
 -- a kan of a dragon once
-pub yakuhai-dragon-kan : counts (yakuhaiName Red) (ron (sou 8)) closed [] (standard (pin 5) (closedKan Red ∷ run (man 5) ∷ run (sou 2) ∷ run (sou 6) ∷ [])) ≡ 1
+pub yakuhai_dragon_kan : counts (yakuhai_name Red) (ron (sou 8)) closed [] (standard (pin 5) (closed_kan Red ∷ run (man 5) ∷ run (sou 2) ∷ run (sou 6) ∷ [])) ≡ 1
 unfolding counts
-yakuhai-dragon-kan = refl
+yakuhai_dragon_kan = refl
 
--- ---- yaku of the tiles: that the tiles show them is given here (`tilesShow`), and the reading stands for its form alone, whatever its tiles. Asked of
+-- ---- yaku of the tiles: that the tiles show them is given here (`tiles_show`), and the reading stands for its form alone, whatever its tiles. Asked of
 -- a pair and melds and of seven pairs, not of thirteen orphans
 -- Tanyao of sequences
-pub tanyao-melds : counts Tanyao (ron (sou 8)) closed (Tanyao ∷ []) runs ≡ 1
+pub tanyao_melds : counts Tanyao (ron (sou 8)) closed (Tanyao ∷ []) runs ≡ 1
 unfolding counts
-tanyao-melds = refl
+tanyao_melds = refl
 
 -- in an open hand too
-pub tanyao-open : counts Tanyao (ron (sou 8)) called (Tanyao ∷ []) runsCalled ≡ 1
+pub tanyao_open_holds : counts Tanyao (ron (sou 8)) called (Tanyao ∷ []) runs_called ≡ 1
 unfolding counts
-tanyao-open = refl
+tanyao_open_holds = refl
 
 -- of seven pairs
-pub tanyao-pairs : counts Tanyao (ron (sou 8)) closed (Tanyao ∷ []) sevenPairs ≡ 1
+pub tanyao_pairs : counts Tanyao (ron (sou 8)) closed (Tanyao ∷ []) seven_pairs ≡ 1
 unfolding counts
-tanyao-pairs = refl
+tanyao_pairs = refl
 
 -- not of orphans
-pub tanyao-orphans : counts Tanyao (ron East) closed (Tanyao ∷ []) (orphans East) ≡ 0
+pub tanyao_orphans : counts Tanyao (ron East) closed (Tanyao ∷ []) (orphans East) ≡ 0
 unfolding counts
-tanyao-orphans = refl
+tanyao_orphans = refl
 
 -- Honroutou of seven pairs
-pub honroutou-pairs : counts Honroutou (ron (sou 8)) closed (Honroutou ∷ []) sevenPairs ≡ 1
+pub honroutou_pairs : counts Honroutou (ron (sou 8)) closed (Honroutou ∷ []) seven_pairs ≡ 1
 unfolding counts
-honroutou-pairs = refl
+honroutou_pairs = refl
 
 -- not of orphans, which are terminals and honors only
-pub honroutou-orphans : counts Honroutou (ron East) closed (Honroutou ∷ []) (orphans East) ≡ 0
+pub honroutou_orphans : counts Honroutou (ron East) closed (Honroutou ∷ []) (orphans East) ≡ 0
 unfolding counts
-honroutou-orphans = refl
+honroutou_orphans = refl
 
 -- Honitsu of seven pairs
-pub honitsu-pairs : counts Honitsu (ron (sou 8)) closed (Honitsu ∷ []) sevenPairs ≡ 1
+pub honitsu_pairs : counts Honitsu (ron (sou 8)) closed (Honitsu ∷ []) seven_pairs ≡ 1
 unfolding counts
-honitsu-pairs = refl
+honitsu_pairs = refl
 
 -- Chinitsu of seven pairs
-pub chinitsu-pairs : counts Chinitsu (ron (sou 8)) closed (Chinitsu ∷ []) sevenPairs ≡ 1
+pub chinitsu_pairs : counts Chinitsu (ron (sou 8)) closed (Chinitsu ∷ []) seven_pairs ≡ 1
 unfolding counts
-chinitsu-pairs = refl
+chinitsu_pairs = refl
 
 -- Tsuuiisou of seven pairs
-pub tsuuiisou-pairs : counts Tsuuiisou (ron East) closed (Tsuuiisou ∷ []) sevenPairs ≡ 1
+pub tsuuiisou_pairs_holds : counts Tsuuiisou (ron East) closed (Tsuuiisou ∷ []) seven_pairs ≡ 1
 unfolding counts
-tsuuiisou-pairs = refl
+tsuuiisou_pairs_holds = refl
 
 -- beside it Chiitoitsu does not count
-pub tsuuiisou-no-chiitoitsu : counts Chiitoitsu (ron East) closed (Tsuuiisou ∷ []) sevenPairs ≡ 0
+pub tsuuiisou_no_chiitoitsu : counts Chiitoitsu (ron East) closed (Tsuuiisou ∷ []) seven_pairs ≡ 0
 unfolding counts
-tsuuiisou-no-chiitoitsu = refl
+tsuuiisou_no_chiitoitsu = refl
 
 -- Ryuuiisou of a pair and melds
-pub ryuuiisou-melds : counts Ryuuiisou (ron (sou 8)) closed (Ryuuiisou ∷ []) runs ≡ 1
+pub ryuuiisou_melds : counts Ryuuiisou (ron (sou 8)) closed (Ryuuiisou ∷ []) runs ≡ 1
 unfolding counts
-ryuuiisou-melds = refl
+ryuuiisou_melds = refl
 
 -- not of seven pairs
-pub ryuuiisou-pairs : counts Ryuuiisou (ron (sou 8)) closed (Ryuuiisou ∷ []) sevenPairs ≡ 0
+pub ryuuiisou_pairs : counts Ryuuiisou (ron (sou 8)) closed (Ryuuiisou ∷ []) seven_pairs ≡ 0
 unfolding counts
-ryuuiisou-pairs = refl
+ryuuiisou_pairs = refl
 
 -- ---- ChuurenPoutou: nine gates, in a closed hand; JunseiChuurenPoutou: nine tiles were waited for
 -- nine gates
-pub chuuren-gates : counts ChuurenPoutou (ron (sou 8)) closed (ChuurenPoutou ∷ []) runs ≡ 1
+pub chuuren_gates : counts ChuurenPoutou (ron (sou 8)) closed (ChuurenPoutou ∷ []) runs ≡ 1
 unfolding counts
-chuuren-gates = refl
+chuuren_gates = refl
 
 -- not in an open hand
-pub chuuren-open : counts ChuurenPoutou (ron (sou 8)) called (ChuurenPoutou ∷ []) runsCalled ≡ 0
+pub chuuren_open_holds : counts ChuurenPoutou (ron (sou 8)) called (ChuurenPoutou ∷ []) runs_called ≡ 0
 unfolding counts
-chuuren-open = refl
+chuuren_open_holds = refl
 
 -- not beside Junsei
-pub chuuren-junsei : counts ChuurenPoutou (ron (sou 8)) closed (JunseiChuurenPoutou ∷ []) runs ≡ 0
+pub chuuren_junsei : counts ChuurenPoutou (ron (sou 8)) closed (JunseiChuurenPoutou ∷ []) runs ≡ 0
 unfolding counts
-chuuren-junsei = refl
+chuuren_junsei = refl
 
 -- nine tiles were waited for
-pub junsei-nine-tiles : counts JunseiChuurenPoutou (ron (sou 8)) closed (JunseiChuurenPoutou ∷ []) runs ≡ 1
+pub junsei_nine_tiles : counts JunseiChuurenPoutou (ron (sou 8)) closed (JunseiChuurenPoutou ∷ []) runs ≡ 1
 unfolding counts
-junsei-nine-tiles = refl
+junsei_nine_tiles = refl
 
 -- not where fewer were
-pub junsei-fewer : counts JunseiChuurenPoutou (ron (sou 8)) closed (ChuurenPoutou ∷ []) runs ≡ 0
+pub junsei_fewer : counts JunseiChuurenPoutou (ron (sou 8)) closed (ChuurenPoutou ∷ []) runs ≡ 0
 unfolding counts
-junsei-fewer = refl
+junsei_fewer = refl
 
 -- not in an open hand
-pub junsei-open : counts JunseiChuurenPoutou (ron (sou 8)) called (JunseiChuurenPoutou ∷ []) runsCalled ≡ 0
+pub junsei_open : counts JunseiChuurenPoutou (ron (sou 8)) called (JunseiChuurenPoutou ∷ []) runs_called ≡ 0
 unfolding counts
-junsei-open = refl
+junsei_open = refl
 
 -- ---- KokushiMusou: thirteen orphans; Kokushi13Wait: won on the tile that is doubled, so that thirteen tiles were waited for
 -- won on the doubled tile
-pub kokushi-13-doubled : counts Kokushi13Wait (ron East) closed [] (orphans East) ≡ 1
+pub kokushi_13_doubled : counts Kokushi13Wait (ron East) closed [] (orphans East) ≡ 1
 unfolding counts
-kokushi-13-doubled = refl
+kokushi_13_doubled = refl
 
 -- not on another one
-pub kokushi-13-other : counts Kokushi13Wait (ron (man 1)) closed [] (orphans East) ≡ 0
+pub kokushi_13_other : counts Kokushi13Wait (ron (man 1)) closed [] (orphans East) ≡ 0
 unfolding counts
-kokushi-13-other = refl
+kokushi_13_other = refl
 
 -- won on another one
-pub kokushi-other : counts KokushiMusou (ron (man 1)) closed [] (orphans East) ≡ 1
+pub kokushi_other : counts KokushiMusou (ron (man 1)) closed [] (orphans East) ≡ 1
 unfolding counts
-kokushi-other = refl
+kokushi_other = refl
 
 -- not on the doubled tile
-pub kokushi-doubled : counts KokushiMusou (ron East) closed [] (orphans East) ≡ 0
+pub kokushi_doubled : counts KokushiMusou (ron East) closed [] (orphans East) ≡ 0
 unfolding counts
-kokushi-doubled = refl
+kokushi_doubled = refl
 
 -- not of seven pairs
-pub kokushi-pairs : counts KokushiMusou (ron (man 1)) closed [] sevenPairs ≡ 0
+pub kokushi_pairs : counts KokushiMusou (ron (man 1)) closed [] seven_pairs ≡ 0
 unfolding counts
-kokushi-pairs = refl
+kokushi_pairs = refl
 
 -- ---- Suuankou: four concealed triplets; SuuankouTanki: won on the pair
 -- a triplet drawn
-pub suuankou-drawn : counts Suuankou (tsumo (sou 6)) closed [] (standard (pin 5) (triplet (man 2) ∷ triplet (man 5) ∷ triplet (sou 2) ∷ triplet (sou 6) ∷ [])) ≡ 1
+pub suuankou_drawn : counts Suuankou (tsumo (sou 6)) closed [] (standard (pin 5) (triplet (man 2) ∷ triplet (man 5) ∷ triplet (sou 2) ∷ triplet (sou 6) ∷ [])) ≡ 1
 unfolding counts
-suuankou-drawn = refl
+suuankou_drawn = refl
 
 -- not by ron on a triplet
-pub suuankou-ron : counts Suuankou (ron (sou 6)) closed [] (standard (pin 5) (triplet (man 2) ∷ triplet (man 5) ∷ triplet (sou 2) ∷ triplet (sou 6) ∷ [])) ≡ 0
+pub suuankou_ron_holds : counts Suuankou (ron (sou 6)) closed [] (standard (pin 5) (triplet (man 2) ∷ triplet (man 5) ∷ triplet (sou 2) ∷ triplet (sou 6) ∷ [])) ≡ 0
 unfolding counts
-suuankou-ron = refl
+suuankou_ron_holds = refl
 
 -- which is SanAnkou
-pub suuankou-ron-sanankou : counts SanAnkou (ron (sou 6)) closed [] (standard (pin 5) (triplet (man 2) ∷ triplet (man 5) ∷ triplet (sou 2) ∷ triplet (sou 6) ∷ [])) ≡ 1
+pub suuankou_ron_sanankou : counts SanAnkou (ron (sou 6)) closed [] (standard (pin 5) (triplet (man 2) ∷ triplet (man 5) ∷ triplet (sou 2) ∷ triplet (sou 6) ∷ [])) ≡ 1
 unfolding counts
-suuankou-ron-sanankou = refl
+suuankou_ron_sanankou = refl
 
 -- and Toitoi
-pub suuankou-ron-toitoi : counts Toitoi (ron (sou 6)) closed [] (standard (pin 5) (triplet (man 2) ∷ triplet (man 5) ∷ triplet (sou 2) ∷ triplet (sou 6) ∷ [])) ≡ 1
+pub suuankou_ron_toitoi : counts Toitoi (ron (sou 6)) closed [] (standard (pin 5) (triplet (man 2) ∷ triplet (man 5) ∷ triplet (sou 2) ∷ triplet (sou 6) ∷ [])) ≡ 1
 unfolding counts
-suuankou-ron-toitoi = refl
+suuankou_ron_toitoi = refl
 
 -- not on the pair
-pub suuankou-pair : counts Suuankou (tsumo (pin 5)) closed [] (standard (pin 5) (triplet (man 2) ∷ triplet (man 5) ∷ triplet (sou 2) ∷ triplet (sou 6) ∷ [])) ≡ 0
+pub suuankou_pair : counts Suuankou (tsumo (pin 5)) closed [] (standard (pin 5) (triplet (man 2) ∷ triplet (man 5) ∷ triplet (sou 2) ∷ triplet (sou 6) ∷ [])) ≡ 0
 unfolding counts
-suuankou-pair = refl
+suuankou_pair = refl
 
 -- on the pair, by ron too
-pub suuankou-tanki-ron : counts SuuankouTanki (ron (pin 5)) closed [] (standard (pin 5) (triplet (man 2) ∷ triplet (man 5) ∷ triplet (sou 2) ∷ triplet (sou 6) ∷ [])) ≡ 1
+pub suuankou_tanki_ron_holds : counts SuuankouTanki (ron (pin 5)) closed [] (standard (pin 5) (triplet (man 2) ∷ triplet (man 5) ∷ triplet (sou 2) ∷ triplet (sou 6) ∷ [])) ≡ 1
 unfolding counts
-suuankou-tanki-ron = refl
+suuankou_tanki_ron_holds = refl
 
 -- not on a triplet
-pub suuankou-tanki-triplet : counts SuuankouTanki (tsumo (sou 6)) closed [] (standard (pin 5) (triplet (man 2) ∷ triplet (man 5) ∷ triplet (sou 2) ∷ triplet (sou 6) ∷ [])) ≡ 0
+pub suuankou_tanki_triplet : counts SuuankouTanki (tsumo (sou 6)) closed [] (standard (pin 5) (triplet (man 2) ∷ triplet (man 5) ∷ triplet (sou 2) ∷ triplet (sou 6) ∷ [])) ≡ 0
 unfolding counts
-suuankou-tanki-triplet = refl
+suuankou_tanki_triplet = refl
 
 -- not with a pon
-pub suuankou-tanki-pon : counts SuuankouTanki (ron (pin 5)) called [] (standard (pin 5) (pon (man 2) ∷ triplet (man 5) ∷ triplet (sou 2) ∷ triplet (sou 6) ∷ [])) ≡ 0
+pub suuankou_tanki_pon : counts SuuankouTanki (ron (pin 5)) called [] (standard (pin 5) (pon (man 2) ∷ triplet (man 5) ∷ triplet (sou 2) ∷ triplet (sou 6) ∷ [])) ≡ 0
 unfolding counts
-suuankou-tanki-pon = refl
+suuankou_tanki_pon = refl
 
 -- ---- SanKantsu and SuuKantsu: three kans and four, of any sort
 -- three
-pub sankantsu-three : counts SanKantsu (ron (sou 8)) called [] (standard (pin 5) (closedKan (man 2) ∷ openKan (man 5) ∷ addedKan (sou 2) ∷ run (sou 6) ∷ [])) ≡ 1
+pub sankantsu_three : counts SanKantsu (ron (sou 8)) called [] (standard (pin 5) (closed_kan (man 2) ∷ open_kan (man 5) ∷ added_kan (sou 2) ∷ run (sou 6) ∷ [])) ≡ 1
 unfolding counts
-sankantsu-three = refl
+sankantsu_three = refl
 
 -- not four
-pub sankantsu-four : counts SanKantsu (ron (pin 5)) called [] (standard (pin 5) (closedKan (man 2) ∷ openKan (man 5) ∷ addedKan (sou 2) ∷ openKan (sou 6) ∷ [])) ≡ 0
+pub sankantsu_four : counts SanKantsu (ron (pin 5)) called [] (standard (pin 5) (closed_kan (man 2) ∷ open_kan (man 5) ∷ added_kan (sou 2) ∷ open_kan (sou 6) ∷ [])) ≡ 0
 unfolding counts
-sankantsu-four = refl
+sankantsu_four = refl
 
 -- four
-pub suukantsu-four : counts SuuKantsu (ron (pin 5)) called [] (standard (pin 5) (closedKan (man 2) ∷ openKan (man 5) ∷ addedKan (sou 2) ∷ openKan (sou 6) ∷ [])) ≡ 1
+pub suukantsu_four : counts SuuKantsu (ron (pin 5)) called [] (standard (pin 5) (closed_kan (man 2) ∷ open_kan (man 5) ∷ added_kan (sou 2) ∷ open_kan (sou 6) ∷ [])) ≡ 1
 unfolding counts
-suukantsu-four = refl
+suukantsu_four = refl
 
 -- ---- han of textbook hands
 -- Riichi, Pinfu and Tanyao
-pub han-riichi-pinfu-tanyao : hanIn (southWins byRon (sou 8) (riichi ∷ [])) closed (Tanyao ∷ []) runs ≡ 3
-unfolding hanIn
-han-riichi-pinfu-tanyao = refl
+pub han_riichi_pinfu_tanyao : han_in (south_wins by_ron (sou 8) (riichi ∷ [])) closed (Tanyao ∷ []) runs ≡ 3
+unfolding han_in
+han_riichi_pinfu_tanyao = refl
 
 -- the same drawn, with Ippatsu: five
-pub han-drawn-ippatsu : hanIn (southWins byTsumo (sou 8) (riichi ∷ ippatsu ∷ [])) closed (Tanyao ∷ []) runs ≡ 5
-unfolding hanIn
-han-drawn-ippatsu = refl
+pub han_drawn_ippatsu : han_in (south_wins by_tsumo (sou 8) (riichi ∷ ippatsu ∷ [])) closed (Tanyao ∷ []) runs ≡ 5
+unfolding han_in
+han_drawn_ippatsu = refl
 
 -- the same called: Tanyao alone
-pub han-called-tanyao : hanIn (ron (sou 8)) called (Tanyao ∷ []) runsCalled ≡ 1
-unfolding hanIn
-han-called-tanyao = refl
+pub han_called_tanyao : han_in (ron (sou 8)) called (Tanyao ∷ []) runs_called ≡ 1
+unfolding han_in
+han_called_tanyao = refl
 
 -- DoubleRiichi and Chiitoitsu
-pub han-double-riichi-chiitoitsu : hanIn (southWins byRon (sou 8) (riichi ∷ doubleRiichi ∷ [])) closed [] sevenPairs ≡ 4
-unfolding hanIn
-han-double-riichi-chiitoitsu = refl
+pub han_double_riichi_chiitoitsu : han_in (south_wins by_ron (sou 8) (riichi ∷ doubleRiichi ∷ [])) closed [] seven_pairs ≡ 4
+unfolding han_in
+han_double_riichi_chiitoitsu = refl
 
 -- Ryanpeikou, Pinfu and Chinitsu
-pub han-ryanpeikou-chinitsu : hanIn (ron (sou 8)) closed (Chinitsu ∷ []) (standard (sou 5) (run (sou 1) ∷ run (sou 1) ∷ run (sou 6) ∷ run (sou 6) ∷ [])) ≡ 10
-unfolding hanIn
-han-ryanpeikou-chinitsu = refl
+pub han_ryanpeikou_chinitsu : han_in (ron (sou 8)) closed (Chinitsu ∷ []) (standard (sou 5) (run (sou 1) ∷ run (sou 1) ∷ run (sou 6) ∷ run (sou 6) ∷ [])) ≡ 10
+unfolding han_in
+han_ryanpeikou_chinitsu = refl
 
 -- an open half flush of triplets with the round wind: Honitsu 2, Toitoi 2, Yakuhai 1
-pub han-open-honitsu : hanIn (ron (sou 8)) called (Honitsu ∷ []) (standard (sou 8) (pon (sou 2) ∷ pon (sou 6) ∷ pon East ∷ pon (sou 9) ∷ [])) ≡ 5
-unfolding hanIn
-han-open-honitsu = refl
+pub han_open_honitsu : han_in (ron (sou 8)) called (Honitsu ∷ []) (standard (sou 8) (pon (sou 2) ∷ pon (sou 6) ∷ pon East ∷ pon (sou 9) ∷ [])) ≡ 5
+unfolding han_in
+han_open_honitsu = refl
 
 -- the same sequence in three suits, called
-pub han-sanshoku-called : hanIn (ron (sou 8)) called [] (standard (pin 5) (chi (man 2) ∷ run (pin 2) ∷ run (sou 2) ∷ run (sou 6) ∷ [])) ≡ 1
-unfolding hanIn
-han-sanshoku-called = refl
+pub han_sanshoku_called : han_in (ron (sou 8)) called [] (standard (pin 5) (chi (man 2) ∷ run (pin 2) ∷ run (sou 2) ∷ run (sou 6) ∷ [])) ≡ 1
+unfolding han_in
+han_sanshoku_called = refl
 
 -- closed beside Pinfu
-pub han-sanshoku-closed : hanIn (ron (sou 8)) closed [] (standard (pin 5) (run (man 2) ∷ run (pin 2) ∷ run (sou 2) ∷ run (sou 6) ∷ [])) ≡ 3
-unfolding hanIn
-han-sanshoku-closed = refl
+pub han_sanshoku_closed : han_in (ron (sou 8)) closed [] (standard (pin 5) (run (man 2) ∷ run (pin 2) ∷ run (sou 2) ∷ run (sou 6) ∷ [])) ≡ 3
+unfolding han_in
+han_sanshoku_closed = refl
 
 -- 123456789m, called
-pub han-ittsu-called : hanIn (ron (sou 8)) called [] (standard (pin 5) (chi (man 1) ∷ run (man 4) ∷ run (man 7) ∷ run (sou 6) ∷ [])) ≡ 1
-unfolding hanIn
-han-ittsu-called = refl
+pub han_ittsu_called : han_in (ron (sou 8)) called [] (standard (pin 5) (chi (man 1) ∷ run (man 4) ∷ run (man 7) ∷ run (sou 6) ∷ [])) ≡ 1
+unfolding han_in
+han_ittsu_called = refl
 
 -- closed beside Pinfu
-pub han-ittsu-closed : hanIn (ron (sou 8)) closed [] (standard (pin 5) (run (man 1) ∷ run (man 4) ∷ run (man 7) ∷ run (sou 6) ∷ [])) ≡ 3
-unfolding hanIn
-han-ittsu-closed = refl
+pub han_ittsu_closed : han_in (ron (sou 8)) closed [] (standard (pin 5) (run (man 1) ∷ run (man 4) ∷ run (man 7) ∷ run (sou 6) ∷ [])) ≡ 3
+unfolding han_in
+han_ittsu_closed = refl
 
 -- Chanta, called
-pub han-chanta-called : hanIn (ron (pin 9)) called [] (standard (pin 9) (chi (man 1) ∷ run (man 7) ∷ run (sou 7) ∷ pon West ∷ [])) ≡ 1
-unfolding hanIn
-han-chanta-called = refl
+pub han_chanta_called : han_in (ron (pin 9)) called [] (standard (pin 9) (chi (man 1) ∷ run (man 7) ∷ run (sou 7) ∷ pon West ∷ [])) ≡ 1
+unfolding han_in
+han_chanta_called = refl
 
 -- Junchan, called: one more
-pub han-junchan-called : hanIn (ron (pin 9)) called [] (standard (pin 9) (chi (man 1) ∷ run (man 7) ∷ run (sou 7) ∷ pon (pin 1) ∷ [])) ≡ 2
-unfolding hanIn
-han-junchan-called = refl
+pub han_junchan_called : han_in (ron (pin 9)) called [] (standard (pin 9) (chi (man 1) ∷ run (man 7) ∷ run (sou 7) ∷ pon (pin 1) ∷ [])) ≡ 2
+unfolding han_in
+han_junchan_called = refl
 
 -- a triplet of East of the dealer in the round East
-pub han-double-east : hanIn (dealerWins byRon (sou 8) []) called [] (standard (pin 5) (pon East ∷ run (man 5) ∷ run (sou 2) ∷ run (sou 6) ∷ [])) ≡ 2
-unfolding hanIn
-han-double-east = refl
+pub han_double_east : han_in (dealer_wins by_ron (sou 8) []) called [] (standard (pin 5) (pon East ∷ run (man 5) ∷ run (sou 2) ∷ run (sou 6) ∷ [])) ≡ 2
+unfolding han_in
+han_double_east = refl
 
 -- Shousangen: two han, and one for each of its triplets of dragons
-pub han-shousangen : hanIn (ron (sou 8)) called [] (standard Red (pon White ∷ pon Green ∷ run (sou 2) ∷ run (sou 6) ∷ [])) ≡ 4
-unfolding hanIn
-han-shousangen = refl
+pub han_shousangen : han_in (ron (sou 8)) called [] (standard Red (pon White ∷ pon Green ∷ run (sou 2) ∷ run (sou 6) ∷ [])) ≡ 4
+unfolding han_in
+han_shousangen = refl
 
 -- all three dragons, honors only, four concealed triplets won on the pair: 13, 13 and 26, and no more for riichi
-pub han-daisangen-tsuuiisou : hanIn (southWins byRon North (riichi ∷ [])) closed (Tsuuiisou ∷ Honroutou ∷ []) (standard North (triplet East ∷ triplet White ∷ triplet Green ∷ closedKan Red ∷ [])) ≡ 52
-unfolding hanIn
-han-daisangen-tsuuiisou = refl
+pub han_daisangen_tsuuiisou : han_in (south_wins by_ron North (riichi ∷ [])) closed (Tsuuiisou ∷ Honroutou ∷ []) (standard North (triplet East ∷ triplet White ∷ triplet Green ∷ closed_kan Red ∷ [])) ≡ 52
+unfolding han_in
+han_daisangen_tsuuiisou = refl

@@ -9,13 +9,13 @@ use lib.Dec.{T, leb, ltb, leb→le, ltb→lt}
 use borrow.Author.Tests.{le-ltb}
 use lib.ListN.{get_or, replicate, length, get_or-map, get_or-eq_default}
 use Rattle.lists.specs.Fold.{up_from}
-use Rattle.lists.proofs.Elements.{same-default}
-use Rattle.lists.proofs.Finite.{at, beq→eq, and_left, and_right, true→T}
+use Rattle.lists.proofs.Elements.{same_default}
+use Rattle.lists.proofs.Finite.{at, beq→eq, and_left, and_right, true→t}
 use Rattle.tile.specs.declared.Tile.{Tile}
-use Rattle.tile.specs.Tile.{isHonor}
+use Rattle.tile.specs.Tile.{is_honor}
 use Rattle.yaku.specs.declared.names.Yaku.{Yaku}
 use Rattle.yaku.specs.declared.names.Yaku.TheVariants.{Riichi, Ippatsu, MenzenTsumo, Tanyao, Pinfu, Iipeikou, Yakuhai, RinshanKaihou, Chankan, HaiteiRaoyue, HouteiRaoyui, DoubleRiichi, Toitoi, SanshokuDoujun, SanshokuDoukou, Ittsu, Chiitoitsu, Chanta, SanAnkou, SanKantsu, Honroutou, Shousangen, Honitsu, Junchan, Ryanpeikou, Chinitsu, Tenhou, Chiihou, KokushiMusou, Suuankou, Daisangen, Shousuushii, Daisuushii, Tsuuiisou, Chinroutou, Ryuuiisou, ChuurenPoutou, SuuKantsu, Kokushi13Wait, SuuankouTanki, JunseiChuurenPoutou}
-use Rattle.yaku.specs.Names.{isYakumanName, place, yakuhaiName, names}
+use Rattle.yaku.specs.Names.{is_yakuman_name, place, yakuhai_name, names}
 
 -- ---- each by one computed test
 -- the place of the i-th name is i
@@ -24,39 +24,39 @@ unfolding names
 places = refl
 
 -- the last 15 are the yakuman, and no other is one
-pub yakuman-last : map isYakumanName names ≡ replicate 32 false ++ replicate 15 true
+pub yakuman_last : map is_yakuman_name names ≡ replicate 32 false ++ replicate 15 true
 unfolding names
-yakuman-last = refl
+yakuman_last = refl
 
 -- ---- every name stands at its place, but for the honor of a Yakuhai
 -- a Yakuhai of a tile that is no honor stands for what is at no place
 abbrev nowhere : Yaku
-nowhere = yakuhaiName 47
+nowhere = yakuhai_name 47
 
 unfoldable name_at : ℕ → Yaku
 name_at i = get_or names i nowhere
 
 -- for an answer that is the same for each Yakuhai
 module _ {A : Type 0} (f : Yaku → A) (same : (t : Tile) → f (Yakuhai t) ≡ f nowhere) where
-  at-honor : (j : ℕ) → j < 7 → f (name_at (6 + j)) ≡ f nowhere
+  at_honor : (j : ℕ) → j < 7 → f (name_at (6 + j)) ≡ f nowhere
   unfolding name_at names
-  at-honor zero h = same _
-  at-honor (suc zero) h = same _
-  at-honor (suc (suc zero)) h = same _
-  at-honor (suc (suc (suc zero))) h = same _
-  at-honor (suc (suc (suc (suc zero)))) h = same _
-  at-honor (suc (suc (suc (suc (suc zero))))) h = same _
-  at-honor (suc (suc (suc (suc (suc (suc zero)))))) h = same _
-  at-honor (suc (suc (suc (suc (suc (suc (suc j))))))) h = absurd (omega arith)
+  at_honor zero h = same _
+  at_honor (suc zero) h = same _
+  at_honor (suc (suc zero)) h = same _
+  at_honor (suc (suc (suc zero))) h = same _
+  at_honor (suc (suc (suc (suc zero)))) h = same _
+  at_honor (suc (suc (suc (suc (suc zero))))) h = same _
+  at_honor (suc (suc (suc (suc (suc (suc zero)))))) h = same _
+  at_honor (suc (suc (suc (suc (suc (suc (suc j))))))) h = absurd (omega arith)
 
-  at-tile : (t : ℕ) (b : Bool) → isHonor t ≡ b → f (name_at (cond b (t - 21) 47)) ≡ f nowhere
+  at_tile_holds : (t : ℕ) (b : Bool) → is_honor t ≡ b → f (name_at (cond b (t - 21) 47)) ≡ f nowhere
   unfolding name_at names
-  at-tile t false e = refl
-  at-tile t true e =
-      let low = leb→le 27 t (and_left (leb 27 t) (ltb t 34) (true→T _ e)) in
-      let high = ltb→lt t 34 (and_right (leb 27 t) (ltb t 34) (true→T _ e)) in
+  at_tile_holds t false e = refl
+  at_tile_holds t true e =
+      let low = leb→le 27 t (and_left (leb 27 t) (ltb t 34) (true→t _ e)) in
+      let high = ltb→lt t 34 (and_right (leb 27 t) (ltb t 34) (true→t _ e)) in
       let i : t - 21 ≡ 6 + (t - 27) = omega arith in
-      ap (λ (n : ℕ). f (name_at n)) i ∙ at-honor (t - 27) (omega arith)
+      ap (λ (n : ℕ). f (name_at n)) i ∙ at_honor (t - 27) (omega arith)
 
   at_place : (y : Yaku) → f (name_at (place y)) ≡ f y
   unfolding name_at names
@@ -66,7 +66,7 @@ module _ {A : Type 0} (f : Yaku → A) (same : (t : Tile) → f (Yakuhai t) ≡ 
   at_place Tanyao = refl
   at_place Pinfu = refl
   at_place Iipeikou = refl
-  at_place (Yakuhai t) = at-tile t.0 (isHonor t.0) refl ∙ sym (same t)
+  at_place (Yakuhai t) = at_tile_holds t.0 (is_honor t.0) refl ∙ sym (same t)
   at_place RinshanKaihou = refl
   at_place Chankan = refl
   at_place HaiteiRaoyue = refl
@@ -119,23 +119,23 @@ module _ (f : Yaku → ℕ) (same : (t : Tile) → f (Yakuhai t) ≡ 1) where
   -- i is the place of the name y
   module _ (y : Yaku) (i : ℕ) (e : i ≡ place y) where
     pub at_name : i < 47 → get_or (map f names) i 0 ≡ f y
-    at_name h = same-default (map f names) i 0 1 (omega (arith, size)) ∙ ap (λ (k : ℕ). get_or (map f names) k 1) e ∙ value y
+    at_name h = same_default (map f names) i 0 1 (omega (arith, size)) ∙ ap (λ (k : ℕ). get_or (map f names) k 1) e ∙ value y
 
-    pub past-names : 47 ≤ i → 1 ≡ f y
-    past-names h = sym (get_or-eq_default (map f names) 1 {n = i} (omega (arith, size))) ∙ ap (λ (k : ℕ). get_or (map f names) k 1) e ∙ value y
+    pub past_names : 47 ≤ i → 1 ≡ f y
+    past_names h = sym (get_or-eq_default (map f names) 1 {n = i} (omega (arith, size))) ∙ ap (λ (k : ℕ). get_or (map f names) k 1) e ∙ value y
 
 -- ---- the yakuman are those from place 32 on
-abbrev lastFifteen : List Bool
-lastFifteen = replicate 32 false ++ replicate 15 true
+abbrev last_fifteen : List Bool
+last_fifteen = replicate 32 false ++ replicate 15 true
 
-from-32 : (i : ℕ) → Dec (i < 47) → (leb 32 i && ltb i 47) ≡ get_or lastFifteen i false
-from-32 i (yes h) =
-    beq→eq _ _ (at 47 (λ i. beq (leb 32 i && ltb i 47) (get_or lastFifteen i false)) tt i h)
-from-32 i (no h) =
-    rw (le-ltb i 47 (omega arith)) (and-false (leb 32 i) ∙ sym (get_or-eq_default lastFifteen false {n = i} (omega arith)))
+from_32 : (i : ℕ) → Dec (i < 47) → (leb 32 i && ltb i 47) ≡ get_or last_fifteen i false
+from_32 i (yes h) =
+    beq→eq _ _ (at 47 (λ i. beq (leb 32 i && ltb i 47) (get_or last_fifteen i false)) tt i h)
+from_32 i (no h) =
+    rw (le-ltb i 47 (omega arith)) (and-false (leb 32 i) ∙ sym (get_or-eq_default last_fifteen false {n = i} (omega arith)))
 
-pub yakuman-at : (y : Yaku) → (leb 32 (place y) && ltb (place y) 47) ≡ isYakumanName y
-yakuman-at y =
-    from-32 (place y) (dec_lt (place y) 47)
-    ∙ ap (λ (l : List Bool). get_or l (place y) false) (sym yakuman-last)
-    ∙ in_table isYakumanName (λ t. refl) y
+pub yakuman_at : (y : Yaku) → (leb 32 (place y) && ltb (place y) 47) ≡ is_yakuman_name y
+yakuman_at y =
+    from_32 (place y) (dec_lt (place y) 47)
+    ∙ ap (λ (l : List Bool). get_or l (place y) false) (sym yakuman_last)
+    ∙ in_table is_yakuman_name (λ t. refl) y

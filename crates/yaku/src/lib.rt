@@ -2,9 +2,9 @@
 ghost use Rattle.std.specs.Prelude.{◌≡◌, true, false, cond, ◌++◌, map, ◌≤◌, replicate};
 ghost use Rattle.lists.specs.Fold.{one};
 ghost use Rattle.structure.specs.Structure.{reading_of};
-ghost use Rattle.meld_yaku.specs.Standard.{ofStandard};
-ghost use Rattle.yaku.specs.Tally.{isChiitoitsu, unlessOrphans, orphansWon, oneHan, moreHan, yakuman, isYakuman, ordinary, tallies};
-ghost use Rattle.yaku.specs.Han.{hanOf, dot, han};
+ghost use Rattle.meld_yaku.specs.Standard.{of_standard};
+ghost use Rattle.yaku.specs.Tally.{is_chiitoitsu, unless_orphans, orphans_won, one_han, more_han, yakuman, is_yakuman, ordinary, tallies};
+ghost use Rattle.yaku.specs.Han.{han_of, dot, han};
 
 pub mod names;
 
@@ -18,7 +18,7 @@ pub struct YakuResult {
 
 // Is it seven pairs?
 fn is_chiitoitsu(h: structure::Hand) -> bool
-    ensures { result ≡ isChiitoitsu (reading_of h) }
+    ensures { result ≡ is_chiitoitsu (reading_of h) }
 {
     let s = h.structure;
     let structure::HandStructure::Chiitoitsu = s else {
@@ -29,7 +29,7 @@ fn is_chiitoitsu(h: structure::Hand) -> bool
 
 // The answer to a question of the tiles; no for thirteen orphans.
 fn unless_orphans(q: bool, h: structure::Hand) -> bool
-    ensures { result ≡ unlessOrphans q (reading_of h) }
+    ensures { result ≡ unless_orphans q (reading_of h) }
 {
     let s = h.structure;
     match s {
@@ -41,7 +41,7 @@ fn unless_orphans(q: bool, h: structure::Hand) -> bool
 
 // The answer to a question of the tiles; no unless they are a pair and four melds.
 fn if_standard(q: bool, h: structure::Hand) -> bool
-    ensures { result ≡ ofStandard (λ p ms. q) (reading_of h) }
+    ensures { result ≡ of_standard (λ p ms. q) (reading_of h) }
 {
     let s = h.structure;
     let structure::HandStructure::Standard { pair: _ } = s else {
@@ -52,7 +52,7 @@ fn if_standard(q: bool, h: structure::Hand) -> bool
 
 // Are they thirteen orphans, won on the doubled tile?
 fn won_on_pair(h: structure::Hand, w: context::GameContext) -> bool
-    ensures { result ≡ orphansWon w true (reading_of h) }
+    ensures { result ≡ orphans_won w true (reading_of h) }
 {
     let s = h.structure;
     let structure::HandStructure::Kokushi { pair } = s else {
@@ -63,7 +63,7 @@ fn won_on_pair(h: structure::Hand, w: context::GameContext) -> bool
 
 // Are they thirteen orphans, won on another tile?
 fn won_beside_pair(h: structure::Hand, w: context::GameContext) -> bool
-    ensures { result ≡ orphansWon w false (reading_of h) }
+    ensures { result ≡ orphans_won w false (reading_of h) }
 {
     let s = h.structure;
     let structure::HandStructure::Kokushi { pair } = s else {
@@ -79,7 +79,7 @@ fn one_han(
     w: context::GameContext,
     opened: bool,
 ) -> [u8; 17]
-    ensures { result ≡ oneHan w opened s (reading_of h) }
+    ensures { result ≡ one_han w opened s (reading_of h) }
 {
     let tsumo = w.is_tsumo();
     let riichi = w.is_riichi & !opened;
@@ -113,7 +113,7 @@ fn more_han(
     w: context::GameContext,
     opened: bool,
 ) -> [u8; 15]
-    ensures { result ≡ moreHan w opened s (reading_of h) }
+    ensures { result ≡ more_han w opened s (reading_of h) }
 {
     let sets = set_yaku::check_sets(h, w);
     [
@@ -142,7 +142,7 @@ fn may_be_yakuman(
     w: context::GameContext,
     opened: bool,
 ) -> bool
-    ensures { result ≡ false → isYakuman w opened s (reading_of h) ≡ false }
+    ensures { result ≡ false → is_yakuman w opened s (reading_of h) ≡ false }
 {
     let tiles = (s.tsuuiisou | s.chinroutou) | (s.ryuuiisou | (!opened & s.nine_gates));
     let orphans = won_on_pair(h, w) | won_beside_pair(h, w);
@@ -309,7 +309,7 @@ const HAN_OPEN: [u8; 47] = [
 
 // The han of each entry of the tallies.
 fn han_table(opened: bool) -> [u8; 47]
-    ensures { result ≡ hanOf opened }
+    ensures { result ≡ han_of opened }
 {
     if opened {
         return HAN_OPEN;
@@ -342,7 +342,7 @@ pub fn detect_yaku_with_context(
     w: context::GameContext,
     opened: bool,
 ) -> YakuResult
-    ensures { (result.tallies ≡ tallies w opened s (reading_of h)) × ((result.han ≡ han w opened s (reading_of h)) × (result.is_yakuman ≡ isYakuman w opened s (reading_of h))) }
+    ensures { (result.tallies ≡ tallies w opened s (reading_of h)) × ((result.han ≡ han w opened s (reading_of h)) × (result.is_yakuman ≡ is_yakuman w opened s (reading_of h))) }
 {
     let yakuman = yakuman_tallies(h, s, w, opened);
     let is_yakuman = lists::any_above_zero(&yakuman);

@@ -1,6 +1,6 @@
 // The names of the yaku (Yaku of yaku.rs of agari) in its order, the three local ones left out: their han, and their places in the tallies.
 ghost use Rattle.std.specs.Prelude.{◌≡◌};
-ghost use Rattle.yaku.specs.Names.{hanClosed, hanOpen, isYakumanName, honorPlace, place};
+ghost use Rattle.yaku.specs.Names.{han_closed, han_open, is_yakuman_name, honor_place, place};
 
 #[derive(Drop)]
 pub enum Yaku {
@@ -49,7 +49,7 @@ pub enum Yaku {
 
 // The place of an honor's Yakuhai, East's first; 47, where no tally stands, for a tile that is no honor.
 fn honor_place(t: tile::Tile) -> usize
-    ensures { result ≡ honorPlace t.0 }
+    ensures { result ≡ honor_place t.0 }
 {
     if t.is_honor() {
         return (t.0 as usize) - 21;
@@ -109,7 +109,7 @@ impl Yaku {
 
     // The han in a closed hand; 13 for each time that a yakuman counts.
     pub fn han(self) -> u8
-        ensures { result ≡ hanClosed self }
+        ensures { result ≡ han_closed self }
     {
         let at = self.place();
         if 47 <= at {
@@ -120,7 +120,7 @@ impl Yaku {
 
     // The han in an open hand; 0 where the yaku needs a closed one.
     pub fn han_open(self) -> u8
-        ensures { result ≡ hanOpen self }
+        ensures { result ≡ han_open self }
     {
         let at = self.place();
         if 47 <= at {
@@ -131,7 +131,7 @@ impl Yaku {
 
     // Is this a yakuman? They stand last.
     pub fn is_yakuman(self) -> bool
-        ensures { result ≡ isYakumanName self }
+        ensures { result ≡ is_yakuman_name self }
     {
         let at = self.place();
         (32 <= at) & (at < 47)

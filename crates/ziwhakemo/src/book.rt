@@ -1,14 +1,14 @@
 // The seat book: lent to each booking and altered where it is kept. With four players.
 ghost use Rattle.std.specs.Prelude.{◌≡◌};
 ghost use Rattle.lent.specs.Lent.{calls_of};
-ghost use Rattle.seat_book.specs.Book.{newBook};
-ghost use Rattle.seat_book.specs.History.{number_of, bookAfter};
-ghost use Rattle.booking.specs.Booking.{winOutcome, drawOutcome};
+ghost use Rattle.seat_book.specs.Book.{new_book};
+ghost use Rattle.seat_book.specs.History.{number_of, book_after};
+ghost use Rattle.booking.specs.Booking.{win_outcome, draw_outcome};
 
 // A book in which nothing is booked.
 #[unsafe(no_mangle)]
 pub extern "C" fn ziwhakemo_new_book() -> seat_book::SeatBook
-    ensures { result ≡ newBook }
+    ensures { result ≡ new_book }
 {
     seat_book::new_book()
 }
@@ -16,8 +16,8 @@ pub extern "C" fn ziwhakemo_new_book() -> seat_book::SeatBook
 // Books a deal that ends in a draw.
 #[unsafe(no_mangle)]
 pub extern "C" fn ziwhakemo_book_draw(book: &mut seat_book::SeatBook, deal: seat_book::Deal) -> u32
-    ensures number { result ≡ number_of (drawOutcome book.old deal) }
-    ensures book { book.new ≡ bookAfter book.old deal (drawOutcome book.old deal) }
+    ensures number { result ≡ number_of (draw_outcome book.old deal) }
+    ensures book { book.new ≡ book_after book.old deal (draw_outcome book.old deal) }
 {
     let a = booking::book_draw(*book, deal);
     *book = a.book;
@@ -34,8 +34,8 @@ pub extern "C" fn ziwhakemo_book_win(
     deal: seat_book::Deal,
     winner: settlements::Winner,
 ) -> u32
-    ensures number { result ≡ number_of (winOutcome book.old counts.now (calls_of calls.now) w deal winner) }
-    ensures book { book.new ≡ bookAfter book.old deal (winOutcome book.old counts.now (calls_of calls.now) w deal winner) }
+    ensures number { result ≡ number_of (win_outcome book.old counts.now (calls_of calls.now) w deal winner) }
+    ensures book { book.new ≡ book_after book.old deal (win_outcome book.old counts.now (calls_of calls.now) w deal winner) }
 {
     let a = booking::book_win(*book, counts, lent::gather(calls), w, deal, winner);
     *book = a.book;

@@ -1,9 +1,9 @@
 // The operations of either game, their calls given by value, with plain numbers for their answers.
 ghost use Rattle.std.specs.Prelude.{◌≡◌, length};
 ghost use Rattle.rules.specs.Rules.{game};
-ghost use Rattle.unit.specs.Listing.{listingIn, writtenIn};
-ghost use Rattle.win.specs.Win.{scoreWinIn, scoreReadingIn, nameWaitsIn};
-ghost use Rattle.answers.specs.Answers.{listingAnswer, scoreValuesAt, waitsValues};
+ghost use Rattle.unit.specs.Listing.{listing_in, written_in};
+ghost use Rattle.win.specs.Win.{score_win_in, score_reading_in, name_waits_in};
+ghost use Rattle.answers.specs.Answers.{listing_answer, score_values_at, waits_values};
 
 // Lists the readings of a finished hand into the lent buffer.
 pub fn list_values(
@@ -12,8 +12,8 @@ pub fn list_values(
     v: rules::Variant,
     out: &mut [u8],
 ) -> answers::ListingAnswer
-    ensures answer { result ≡ listingAnswer (listingIn (game v) counts.now k (length out.old)) }
-    ensures buffer { out.new ≡ writtenIn (game v) counts.now k out.old }
+    ensures answer { result ≡ listing_answer (listing_in (game v) counts.now k (length out.old)) }
+    ensures buffer { out.new ≡ written_in (game v) counts.now k out.old }
 {
     answers::listing_of(unit::list_readings_in(counts, k, v, out))
 }
@@ -25,7 +25,7 @@ pub fn win_values(
     w: context::GameContext,
     v: rules::Variant,
 ) -> answers::ScoreValues
-    ensures { result ≡ scoreValuesAt (game v).players (scoreWinIn (game v) counts.now k w) }
+    ensures { result ≡ score_values_at (game v).players (score_win_in (game v) counts.now k w) }
 {
     answers::score_values(win::score_win_in(counts, k, w, v), v)
 }
@@ -38,7 +38,7 @@ pub fn reading_values(
     v: rules::Variant,
     n: usize,
 ) -> answers::ScoreValues
-    ensures { result ≡ scoreValuesAt (game v).players (scoreReadingIn (game v) counts.now k w n) }
+    ensures { result ≡ score_values_at (game v).players (score_reading_in (game v) counts.now k w n) }
 {
     answers::score_values(win::score_reading_in(counts, k, w, v, n), v)
 }
@@ -51,7 +51,7 @@ pub fn waits_values(
     v: rules::Variant,
     n: usize,
 ) -> answers::WaitsValues
-    ensures { result ≡ waitsValues (nameWaitsIn (game v) counts.now k w n) }
+    ensures { result ≡ waits_values (name_waits_in (game v) counts.now k w n) }
 {
     answers::waits_values(win::name_waits_in(counts, k, w, v, n))
 }

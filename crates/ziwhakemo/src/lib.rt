@@ -2,10 +2,10 @@
 ghost use Rattle.std.specs.Prelude.{◌≡◌, length};
 ghost use Rattle.unit.specs.Listing.{listing, written};
 ghost use Rattle.lent.specs.Lent.{calls_of};
-ghost use Rattle.scoring.specs.Level.{level, basicPoints};
-ghost use Rattle.scoring.specs.Payment.{paymentAnswer};
-ghost use Rattle.win.specs.Win.{scoreWin, scoreReading, nameWaits};
-ghost use Rattle.answers.specs.Answers.{version, listingAnswer, levelAnswer, paymentValues, scoreValues, waitsValues};
+ghost use Rattle.scoring.specs.Level.{level, basic_points};
+ghost use Rattle.scoring.specs.Payment.{payment_answer};
+ghost use Rattle.win.specs.Win.{score_win, score_reading, name_waits};
+ghost use Rattle.answers.specs.Answers.{version, listing_answer, level_answer, payment_values, score_values, waits_values};
 
 pub mod book;
 pub mod games;
@@ -24,7 +24,7 @@ pub extern "C" fn ziwhakemo_version() -> u32
 
 // Lists the readings of a finished hand, its calls given by value, into the lent buffer.
 fn list_values(counts: &[u8], k: checks::Calls, out: &mut [u8]) -> answers::ListingAnswer
-    ensures answer { result ≡ listingAnswer (listing counts.now k (length out.old)) }
+    ensures answer { result ≡ listing_answer (listing counts.now k (length out.old)) }
     ensures buffer { out.new ≡ written counts.now k out.old }
 {
     games::list_values(counts, k, rules::Variant::Yonma, out)
@@ -37,7 +37,7 @@ pub extern "C" fn ziwhakemo_list_readings(
     calls: &[meld::Meld],
     out: &mut [u8],
 ) -> answers::ListingAnswer
-    ensures answer { result ≡ listingAnswer (listing counts.now (calls_of calls.now) (length out.old)) }
+    ensures answer { result ≡ listing_answer (listing counts.now (calls_of calls.now) (length out.old)) }
     ensures buffer { out.new ≡ written counts.now (calls_of calls.now) out.old }
 {
     list_values(counts, lent::gather(calls), out)
@@ -46,7 +46,7 @@ pub extern "C" fn ziwhakemo_list_readings(
 // The level of han and fu, with or without a yakuman.
 #[unsafe(no_mangle)]
 pub extern "C" fn ziwhakemo_score_level(han: u8, fu: u8, is_yakuman: bool) -> answers::LevelAnswer
-    ensures { result ≡ levelAnswer (level han fu is_yakuman) }
+    ensures { result ≡ level_answer (level han fu is_yakuman) }
 {
     answers::level_of(scoring::determine_score_level(han, fu, is_yakuman))
 }
@@ -54,7 +54,7 @@ pub extern "C" fn ziwhakemo_score_level(han: u8, fu: u8, is_yakuman: bool) -> an
 // The basic points of han and fu, with or without a yakuman.
 #[unsafe(no_mangle)]
 pub extern "C" fn ziwhakemo_basic_points(han: u8, fu: u8, is_yakuman: bool) -> u32
-    ensures { result ≡ basicPoints han fu is_yakuman }
+    ensures { result ≡ basic_points han fu is_yakuman }
 {
     scoring::calculate_basic_points(han, fu, is_yakuman)
 }
@@ -66,7 +66,7 @@ pub extern "C" fn ziwhakemo_payment(
     is_dealer: bool,
     win_type: u8,
 ) -> answers::PaymentValues
-    ensures { result ≡ paymentValues (paymentAnswer basic_points is_dealer win_type) }
+    ensures { result ≡ payment_values (payment_answer basic_points is_dealer win_type) }
 {
     answers::payment_values(
         scoring::score_payment(basic_points, is_dealer, win_type),
@@ -76,7 +76,7 @@ pub extern "C" fn ziwhakemo_payment(
 
 // Scores a win, its calls given by value.
 fn win_values(counts: &[u8], k: checks::Calls, w: context::GameContext) -> answers::ScoreValues
-    ensures { result ≡ scoreValues (scoreWin counts.now k w) }
+    ensures { result ≡ score_values (score_win counts.now k w) }
 {
     games::win_values(counts, k, w, rules::Variant::Yonma)
 }
@@ -88,7 +88,7 @@ pub extern "C" fn ziwhakemo_score_win(
     calls: &[meld::Meld],
     w: context::GameContext,
 ) -> answers::ScoreValues
-    ensures { result ≡ scoreValues (scoreWin counts.now (calls_of calls.now) w) }
+    ensures { result ≡ score_values (score_win counts.now (calls_of calls.now) w) }
 {
     win_values(counts, lent::gather(calls), w)
 }
@@ -100,7 +100,7 @@ fn reading_values(
     w: context::GameContext,
     n: usize,
 ) -> answers::ScoreValues
-    ensures { result ≡ scoreValues (scoreReading counts.now k w n) }
+    ensures { result ≡ score_values (score_reading counts.now k w n) }
 {
     games::reading_values(counts, k, w, rules::Variant::Yonma, n)
 }
@@ -113,7 +113,7 @@ pub extern "C" fn ziwhakemo_score_reading(
     w: context::GameContext,
     n: usize,
 ) -> answers::ScoreValues
-    ensures { result ≡ scoreValues (scoreReading counts.now (calls_of calls.now) w n) }
+    ensures { result ≡ score_values (score_reading counts.now (calls_of calls.now) w n) }
 {
     reading_values(counts, lent::gather(calls), w, n)
 }
@@ -125,7 +125,7 @@ fn waits_values(
     w: context::GameContext,
     n: usize,
 ) -> answers::WaitsValues
-    ensures { result ≡ waitsValues (nameWaits counts.now k w n) }
+    ensures { result ≡ waits_values (name_waits counts.now k w n) }
 {
     games::waits_values(counts, k, w, rules::Variant::Yonma, n)
 }
@@ -138,7 +138,7 @@ pub extern "C" fn ziwhakemo_name_waits(
     w: context::GameContext,
     n: usize,
 ) -> answers::WaitsValues
-    ensures { result ≡ waitsValues (nameWaits counts.now (calls_of calls.now) w n) }
+    ensures { result ≡ waits_values (name_waits counts.now (calls_of calls.now) w n) }
 {
     waits_values(counts, lent::gather(calls), w, n)
 }

@@ -1,18 +1,18 @@
 // The operations with three players, under names of their own. Level and basic points are the same for both games.
 ghost use Rattle.std.specs.Prelude.{◌≡◌, length};
 ghost use Rattle.rules.specs.Rules.{three};
-ghost use Rattle.unit.specs.Listing.{listingIn, writtenIn};
+ghost use Rattle.unit.specs.Listing.{listing_in, written_in};
 ghost use Rattle.lent.specs.Lent.{calls_of};
-ghost use Rattle.scoring.specs.Payment.{paymentAnswer};
-ghost use Rattle.win.specs.Win.{scoreWinIn, scoreReadingIn, nameWaitsIn};
-ghost use Rattle.answers.specs.Answers.{listingAnswer, paymentValuesAt, scoreValuesAt, waitsValues};
+ghost use Rattle.scoring.specs.Payment.{payment_answer};
+ghost use Rattle.win.specs.Win.{score_win_in, score_reading_in, name_waits_in};
+ghost use Rattle.answers.specs.Answers.{listing_answer, payment_values_at, score_values_at, waits_values};
 
 use crate::games;
 
 // Lists the readings of a finished hand, its calls given by value, into the lent buffer.
 fn list_values(counts: &[u8], k: checks::Calls, out: &mut [u8]) -> answers::ListingAnswer
-    ensures answer { result ≡ listingAnswer (listingIn three counts.now k (length out.old)) }
-    ensures buffer { out.new ≡ writtenIn three counts.now k out.old }
+    ensures answer { result ≡ listing_answer (listing_in three counts.now k (length out.old)) }
+    ensures buffer { out.new ≡ written_in three counts.now k out.old }
 {
     games::list_values(counts, k, rules::Variant::Sanma, out)
 }
@@ -24,8 +24,8 @@ pub extern "C" fn ziwhakemo_three_list_readings(
     calls: &[meld::Meld],
     out: &mut [u8],
 ) -> answers::ListingAnswer
-    ensures answer { result ≡ listingAnswer (listingIn three counts.now (calls_of calls.now) (length out.old)) }
-    ensures buffer { out.new ≡ writtenIn three counts.now (calls_of calls.now) out.old }
+    ensures answer { result ≡ listing_answer (listing_in three counts.now (calls_of calls.now) (length out.old)) }
+    ensures buffer { out.new ≡ written_in three counts.now (calls_of calls.now) out.old }
 {
     list_values(counts, lent::gather(calls), out)
 }
@@ -37,7 +37,7 @@ pub extern "C" fn ziwhakemo_three_payment(
     is_dealer: bool,
     win_type: u8,
 ) -> answers::PaymentValues
-    ensures { result ≡ paymentValuesAt 3 (paymentAnswer basic_points is_dealer win_type) }
+    ensures { result ≡ payment_values_at 3 (payment_answer basic_points is_dealer win_type) }
 {
     answers::payment_values(
         scoring::score_payment(basic_points, is_dealer, win_type),
@@ -47,7 +47,7 @@ pub extern "C" fn ziwhakemo_three_payment(
 
 // Scores a win, its calls given by value.
 fn win_values(counts: &[u8], k: checks::Calls, w: context::GameContext) -> answers::ScoreValues
-    ensures { result ≡ scoreValuesAt 3 (scoreWinIn three counts.now k w) }
+    ensures { result ≡ score_values_at 3 (score_win_in three counts.now k w) }
 {
     games::win_values(counts, k, w, rules::Variant::Sanma)
 }
@@ -59,7 +59,7 @@ pub extern "C" fn ziwhakemo_three_score_win(
     calls: &[meld::Meld],
     w: context::GameContext,
 ) -> answers::ScoreValues
-    ensures { result ≡ scoreValuesAt 3 (scoreWinIn three counts.now (calls_of calls.now) w) }
+    ensures { result ≡ score_values_at 3 (score_win_in three counts.now (calls_of calls.now) w) }
 {
     win_values(counts, lent::gather(calls), w)
 }
@@ -71,7 +71,7 @@ fn reading_values(
     w: context::GameContext,
     n: usize,
 ) -> answers::ScoreValues
-    ensures { result ≡ scoreValuesAt 3 (scoreReadingIn three counts.now k w n) }
+    ensures { result ≡ score_values_at 3 (score_reading_in three counts.now k w n) }
 {
     games::reading_values(counts, k, w, rules::Variant::Sanma, n)
 }
@@ -84,7 +84,7 @@ pub extern "C" fn ziwhakemo_three_score_reading(
     w: context::GameContext,
     n: usize,
 ) -> answers::ScoreValues
-    ensures { result ≡ scoreValuesAt 3 (scoreReadingIn three counts.now (calls_of calls.now) w n) }
+    ensures { result ≡ score_values_at 3 (score_reading_in three counts.now (calls_of calls.now) w n) }
 {
     reading_values(counts, lent::gather(calls), w, n)
 }
@@ -96,7 +96,7 @@ fn waits_values(
     w: context::GameContext,
     n: usize,
 ) -> answers::WaitsValues
-    ensures { result ≡ waitsValues (nameWaitsIn three counts.now k w n) }
+    ensures { result ≡ waits_values (name_waits_in three counts.now k w n) }
 {
     games::waits_values(counts, k, w, rules::Variant::Sanma, n)
 }
@@ -109,7 +109,7 @@ pub extern "C" fn ziwhakemo_three_name_waits(
     w: context::GameContext,
     n: usize,
 ) -> answers::WaitsValues
-    ensures { result ≡ waitsValues (nameWaitsIn three counts.now (calls_of calls.now) w n) }
+    ensures { result ≡ waits_values (name_waits_in three counts.now (calls_of calls.now) w n) }
 {
     waits_values(counts, lent::gather(calls), w, n)
 }

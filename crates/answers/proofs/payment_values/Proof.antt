@@ -1,7 +1,7 @@
 -- `answers::payment_values` meets its contract. Assumes nothing.
 use mathlib.Core.Path.{sym, ap, ◌∙◌}
 use Rattle.rules.specs.Rules.{game}
-use Rattle.answers.specs.Answers.{paymentValuesAt}
+use Rattle.answers.specs.Answers.{payment_values_at}
 use borrow.Author.Rules.{rules}
 use Rattle.answers.proofs.payment_values.Statement.{statement}
 use Rattle.answers.proofs.payment_values.Tie as tie
@@ -19,10 +19,10 @@ values-of-requires : tie.Need-values-of-requires
 values-of-requires c κs = search rules
 
 returns : tie.Need-returns
-returns c = ap (paymentValuesAt (game c.before.before.before.args.v).players) (sym c.before.a.given.1)
+returns c = ap (payment_values_at (game c.before.before.before.args.v).players) (sym c.before.a.given.1)
 
 returns-2 : tie.Need-returns-2
-returns-2 c = c.values_of.ensures ∙ ap (paymentValuesAt (game c.before.before.before.before.args.v).players) (sym c.before.before.a2.given.1)
+returns-2 c = c.values_of.ensures ∙ ap (payment_values_at (game c.before.before.before.before.args.v).players) (sym c.before.before.a2.given.1)
 
 pub payment-values-spec : {M : Type 1} → statement M
 payment-values-spec =

@@ -1,7 +1,7 @@
 -- `booking::book_draw` meets its contract. Assumes nothing.
 use mathlib.Core.Path.{sym, ◌∙◌}
 use borrow.Author.Tests.{lt-ltb, le-ltb, not-true, not-false}
-use Rattle.booking.specs.Booking.{drawOutcome}
+use Rattle.booking.specs.Booking.{draw_outcome}
 use borrow.Author.Rules.{rules}
 use Rattle.booking.proofs.book_draw.Statement.{statement}
 use Rattle.booking.proofs.book_draw.Tie as tie
@@ -16,7 +16,7 @@ refuse-requires : tie.Need-refuse-requires
 refuse-requires c κs = search rules
 
 returns : tie.Need-returns
-unfolding drawOutcome
+unfolding draw_outcome
 returns c = rw (le-ltb _ _ c.before.if1.true) c.refuse.ensures
 
 has-room-requires : tie.Need-has-room-requires
@@ -26,7 +26,7 @@ refuse-requires-2 : tie.Need-refuse-requires-2
 refuse-requires-2 c κs = search rules
 
 returns-2 : tie.Need-returns-2
-unfolding drawOutcome
+unfolding draw_outcome
 returns-2 c = let r = c.before.before in let no = sym r.has_room.ensures ∙ not-true _ c.before.if2.true in rw (lt-ltb _ _ r.before.if1.false, no) c.refuse2.ensures
 
 draw-settlement-requires : tie.Need-draw-settlement-requires
@@ -36,7 +36,7 @@ settle-requires : tie.Need-settle-requires
 settle-requires c κs = let r = c.before.before in (sym r.has_room.ensures ∙ not-false _ c.before.if2.false, c.draw-settlement.ensures.1)
 
 returns-3 : tie.Need-returns-3
-unfolding drawOutcome
+unfolding draw_outcome
 returns-3 c = let e = c.before.before in let r = e.before in let yes = sym r.has_room.ensures ∙ not-false _ e.if2.false in rw (lt-ltb _ _ r.before.if1.false, yes, ← c.before.draw-settlement.ensures.0) c.settle.ensures
 
 pub book-draw-spec : {M : Type 1} → statement M

@@ -1,8 +1,8 @@
 -- `booking::book_win` meets its contract. Assumes nothing.
 use mathlib.Core.Path.{sym, ◌∙◌}
 use borrow.Author.Tests.{not-true, not-false}
-use Rattle.booking.specs.Booking.{winOutcome}
-use Rattle.booking.proofs.Seats.{dealer-seated, winner-seated}
+use Rattle.booking.specs.Booking.{win_outcome}
+use Rattle.booking.proofs.Seats.{dealer_seated, winner_seated}
 use borrow.Author.Rules.{rules}
 use Rattle.booking.proofs.book_win.Statement.{statement}
 use Rattle.booking.proofs.book_win.Tie as tie
@@ -22,7 +22,7 @@ refuse-requires : tie.Need-refuse-requires
 refuse-requires c κs = search rules
 
 returns : tie.Need-returns
-unfolding winOutcome
+unfolding win_outcome
 returns c = let s = c.before.before in let no = sym s.are-seats.ensures ∙ not-true _ c.before.if1.true in rw no c.refuse.ensures
 
 has-room-requires : tie.Need-has-room-requires
@@ -32,7 +32,7 @@ refuse-requires-2 : tie.Need-refuse-requires-2
 refuse-requires-2 c κs = search rules
 
 returns-2 : tie.Need-returns-2
-unfolding winOutcome
+unfolding win_outcome
 returns-2 c = let r = c.before.before in let s = r.before.before in let sat = sym s.are-seats.ensures ∙ not-false _ r.before.if1.false in let no = sym r.has_room.ensures ∙ not-true _ c.before.if2.true in rw (sat, no) c.refuse2.ensures
 
 seated-requires : tie.Need-seated-requires
@@ -40,7 +40,7 @@ seated-requires c κs =
     let s = c.before.before.before in
     let a = s.before.before.args in
     let sat = sym s.are-seats.ensures ∙ not-false _ c.before.before.if1.false in
-    (dealer-seated a.d a.won sat, winner-seated a.d a.won sat)
+    (dealer_seated a.d a.won sat, winner_seated a.d a.won sat)
 
 score-win-requires : tie.Need-score-win-requires
 score-win-requires c κs = search rules
@@ -49,7 +49,7 @@ book-scored-requires : tie.Need-book-scored-requires
 book-scored-requires c κs = let e = c.before.before in sym e.before.has_room.ensures ∙ not-false _ e.if2.false
 
 returns-3 : tie.Need-returns-3
-unfolding winOutcome
+unfolding win_outcome
 returns-3 c =
     let e = c.before.before.before in
     let r = e.before in

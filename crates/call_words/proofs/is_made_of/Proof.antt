@@ -9,16 +9,16 @@ use Rattle.tile.specs.Tile.{tiles}
 use Rattle.meld.specs.declared.Meld.{Meld}
 use Rattle.meld.specs.Meld.{uses}
 use Rattle.hand.specs.Counts.{held}
-use Rattle.checks.proofs.Turns.{test-next, test-end}
+use Rattle.checks.proofs.Turns.{test_next, test_end}
 use borrow.Author.Rules.{rules}
 use Rattle.call_words.proofs.is_made_of.Statement.{statement}
 use Rattle.call_words.proofs.is_made_of.Tie as tie
 
-abbrev sameAt : Meld → List ℕ → ℕ → Bool
-sameAt m cs t = eqb (held cs t) (uses m t)
+abbrev same_at : Meld → List ℕ → ℕ → Bool
+same_at m cs t = eqb (held cs t) (uses m t)
 
 abbrev invariant-loop : tie.invariant-loop
-invariant-loop m counts good₀ t₀ good t = (t ≤ 34) × (good && all (sameAt m counts) (up_from (34 - t) t) ≡ all (sameAt m counts) tiles)
+invariant-loop m counts good₀ t₀ good t = (t ≤ 34) × (good && all (same_at m counts) (up_from (34 - t) t) ≡ all (same_at m counts) tiles)
 
 abbrev decreases-loop : tie.decreases-loop
 decreases-loop m counts good₀ t₀ good t = 34 - t
@@ -44,16 +44,16 @@ loop-less c = search rules
 loop-again : tie.Need-loop-preserved invariant-loop decreases-loop
 loop-again c =
     let l = c.before.before.before.loop in
-    let p = sameAt c.before.before.before.before.args.m c.before.before.before.before.args.counts.now in
+    let p = same_at c.before.before.before.before.args.m c.before.before.before.before.args.counts.now in
     let n = held c.before.before.before.before.args.counts.now l.t in
     let here = ap (λ (k : ℕ). (l.good && eqb n k) && all p (up_from (34 - (l.t + 1)) (l.t + 1))) c.uses.ensures in
-    (search rules, here ∙ test-next p l.good l.t 34 c.before.before.loop-test.true ∙ l.invariant.1)
+    (search rules, here ∙ test_next p l.good l.t 34 c.before.before.loop-test.true ∙ l.invariant.1)
 
 returns : tie.Need-returns invariant-loop decreases-loop
 returns c =
     let l = c.before.loop in
     let a = c.before.before.args in
-    test-end (sameAt a.m a.counts.now) l.good l.t 34 c.loop-test.false ∙ l.invariant.1
+    test_end (same_at a.m a.counts.now) l.good l.t 34 c.loop-test.false ∙ l.invariant.1
 
 pub is-made-of-spec : {M : Type 1} → statement M
 is-made-of-spec =

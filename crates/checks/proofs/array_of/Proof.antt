@@ -5,7 +5,7 @@ use Prim.Native.Nat.{◌-◌}
 use native.Mathlib.Omega.{arith}
 use lib.ListN.{length, drop, length-set}
 use lib.Seq.{sets}
-use Rattle.lists.proofs.Stores.{sets-next, copy-end, copy-whole}
+use Rattle.lists.proofs.Stores.{sets_next, copy_end, copy_whole}
 use borrow.Author.Rules.{rules}
 use Rattle.checks.proofs.array_of.Statement.{statement}
 use Rattle.checks.proofs.array_of.Tie as tie
@@ -35,13 +35,13 @@ loop-again : tie.Need-loop-preserved invariant-loop decreases-loop
 loop-again c =
     let l = c.before.before.loop in
     let a = c.before.before.before.args in
-    (sym (sets-next l.array a.counts.now l.i l.i (omega arith)) ∙ l.invariant.0, simp length-set l.invariant.1)
+    (sym (sets_next l.array a.counts.now l.i l.i (omega arith)) ∙ l.invariant.0, simp length-set l.invariant.1)
 
 returns : tie.Need-returns invariant-loop decreases-loop
 returns c =
     let l = c.before.loop in
     let a = c.before.before.args in
-    copy-end l.array a.counts.now l.i (omega arith) ∙ l.invariant.0 ∙ copy-whole _ a.counts.now (sym c.before.before.requires)
+    copy_end l.array a.counts.now l.i (omega arith) ∙ l.invariant.0 ∙ copy_whole _ a.counts.now (sym c.before.before.requires)
 
 pub array-of-spec : {M : Type 1} → statement M
 array-of-spec =

@@ -8,16 +8,16 @@ use lib.Dec.{leb}
 use Rattle.lists.specs.Fold.{all, up_from}
 use Rattle.tile.specs.Tile.{tiles}
 use Rattle.hand.specs.Counts.{held}
-use Rattle.checks.proofs.Turns.{test-next, test-end}
+use Rattle.checks.proofs.Turns.{test_next, test_end}
 use borrow.Author.Rules.{rules}
 use Rattle.checks.proofs.at_most_four.Statement.{statement}
 use Rattle.checks.proofs.at_most_four.Tie as tie
 
-abbrev fewOf : List ℕ → ℕ → Bool
-fewOf cs t = leb (held cs t) 4
+abbrev few_of : List ℕ → ℕ → Bool
+few_of cs t = leb (held cs t) 4
 
 abbrev invariant-loop : tie.invariant-loop
-invariant-loop counts good₀ i₀ good i = good && all (fewOf counts) (up_from (34 - i) i) ≡ all (fewOf counts) tiles
+invariant-loop counts good₀ i₀ good i = good && all (few_of counts) (up_from (34 - i) i) ≡ all (few_of counts) tiles
 
 abbrev decreases-loop : tie.decreases-loop
 decreases-loop counts good₀ i₀ good i = 34 - i
@@ -37,12 +37,12 @@ loop-less c = search rules
 loop-again : tie.Need-loop-preserved invariant-loop decreases-loop
 loop-again c =
     let l = c.before.before.loop in
-    test-next (fewOf c.before.before.before.args.counts.now) l.good l.i 34 c.before.loop-test.true ∙ l.invariant
+    test_next (few_of c.before.before.before.args.counts.now) l.good l.i 34 c.before.loop-test.true ∙ l.invariant
 
 returns : tie.Need-returns invariant-loop decreases-loop
 returns c =
     let l = c.before.loop in
-    test-end (fewOf c.before.before.args.counts.now) l.good l.i 34 c.loop-test.false ∙ l.invariant
+    test_end (few_of c.before.before.args.counts.now) l.good l.i 34 c.loop-test.false ∙ l.invariant
 
 pub at-most-four-spec : {M : Type 1} → statement M
 at-most-four-spec =

@@ -7,10 +7,10 @@ use Rattle.lists.specs.Fold.{sum}
 use Rattle.tile.specs.Tile.{tiles}
 use Rattle.rules.specs.Rules.{game}
 use Rattle.hand.specs.Counts.{held}
-use Rattle.checks.specs.Checks.{called, handCheckIn}
+use Rattle.checks.specs.Checks.{called, hand_check_in}
 use Rattle.checks.proofs.Checked.{pass, refuse}
-use Rattle.checks.proofs.Played.{calls-made, few-in-wall}
-use Rattle.checks.proofs.Four.{four_below, four-each}
+use Rattle.checks.proofs.Played.{calls_made, few_in_wall}
+use Rattle.checks.proofs.Four.{four_below, four_each}
 use borrow.Author.Tests.{eq-eqb, ne_eqb, le-leb, lt-leb, not-true, not-false}
 use borrow.Author.Rules.{rules}
 use Rattle.checks.proofs.check_hand.Statement.{statement}
@@ -21,11 +21,11 @@ total : (n s k whole : ℕ) (b : Bool) → n ≡ s → eqb (n + 3 * k) whole ≡
 total n s k whole b e t = ap (λ (x : ℕ). eqb (x + 3 * k) whole) (sym e) ∙ t
 
 returns : tie.Need-returns
-unfolding handCheckIn
+unfolding hand_check_in
 returns c = sym (refuse _ _ _ (ne_eqb _ _ c.if1.true))
 
 returns-2 : tie.Need-returns-2
-unfolding handCheckIn
+unfolding hand_check_in
 returns-2 c =
     sym
     (pass _ _ _ (eq-eqb _ _ c.before.if1.false)
@@ -35,7 +35,7 @@ are-calls-requires : tie.Need-are-calls-requires
 are-calls-requires c κs = search rules
 
 returns-3 : tie.Need-returns-3
-unfolding handCheckIn
+unfolding hand_check_in
 returns-3 c =
     sym
     (pass _ _ _ (eq-eqb _ _ c.before.before.before.if1.false)
@@ -46,7 +46,7 @@ within-wall-requires : tie.Need-within-wall-requires
 within-wall-requires c κs = search rules
 
 returns-4 : tie.Need-returns-4
-unfolding handCheckIn
+unfolding hand_check_in
 returns-4 c =
     sym
     (pass _ _ _ (eq-eqb _ _ c.before.before.before.before.before.if1.false)
@@ -62,16 +62,16 @@ together-at-most-four-requires c κs =
     let four = sym c.before.within-wall.ensures ∙ not-false _ c.if4.false in (
       long,
       (
-        four-each cs long (four_below (held cs) (few-in-wall g cs four)),
+        four_each cs long (four_below (held cs) (few_in_wall g cs four)),
         (
           c.before.before.before.before.if2.false,
-          calls-made g (called c.before.before.before.before.before.before.before.args.k) (sym c.before.before.before.are-calls.ensures ∙ not-false _ c.before.before.if3.false),
+          calls_made g (called c.before.before.before.before.before.before.before.args.k) (sym c.before.before.before.are-calls.ensures ∙ not-false _ c.before.before.if3.false),
         ),
       ),
     )
 
 returns-5 : tie.Need-returns-5
-unfolding handCheckIn
+unfolding hand_check_in
 returns-5 c =
     sym
     (pass _ _ _ (eq-eqb _ _ c.before.before.before.before.before.before.before.if1.false)
@@ -90,7 +90,7 @@ add-if6 : tie.Need-overflow-add-if6
 add-if6 c = search rules
 
 returns-6 : tie.Need-returns-6
-unfolding handCheckIn
+unfolding hand_check_in
 returns-6 c =
     let a = c.before.before.before.before.before.before.before.before.before.before.before.args in
     sym
@@ -102,7 +102,7 @@ returns-6 c =
     ∙ refuse _ _ _ (total c.before.sum-range.result (sum (held a.counts.now) tiles) a.k.count _ false c.before.sum-range.ensures.0 (ne_eqb _ _ c.if6.true)))
 
 returns-7 : tie.Need-returns-7
-unfolding handCheckIn
+unfolding hand_check_in
 returns-7 c =
     let a = c.before.before.before.before.before.before.before.before.before.before.before.args in
     sym

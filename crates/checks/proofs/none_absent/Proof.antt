@@ -10,16 +10,16 @@ use Rattle.lists.specs.Fold.{all, up_from}
 use Rattle.tile.specs.Tile.{tiles}
 use Rattle.rules.specs.Rules.{Game, game}
 use Rattle.hand.specs.Counts.{held}
-use Rattle.checks.proofs.Turns.{test-next, test-end}
+use Rattle.checks.proofs.Turns.{test_next, test_end}
 use borrow.Author.Rules.{rules}
 use Rattle.checks.proofs.none_absent.Statement.{statement}
 use Rattle.checks.proofs.none_absent.Tie as tie
 
-abbrev noneOf : Game → List ℕ → ℕ → Bool
-noneOf g cs t = g.allowed t || eqb (held cs t) 0
+abbrev none_of : Game → List ℕ → ℕ → Bool
+none_of g cs t = g.allowed t || eqb (held cs t) 0
 
 abbrev invariant-loop : tie.invariant-loop
-invariant-loop counts v good₀ i₀ good i = good && all (noneOf (game v) counts) (up_from (34 - i) i) ≡ all (noneOf (game v) counts) tiles
+invariant-loop counts v good₀ i₀ good i = good && all (none_of (game v) counts) (up_from (34 - i) i) ≡ all (none_of (game v) counts) tiles
 
 abbrev decreases-loop : tie.decreases-loop
 decreases-loop counts v good₀ i₀ good i = 34 - i
@@ -47,15 +47,15 @@ loop-again c =
     let l = c.before.before.before.loop in
     let a = c.before.before.before.before.before.args in
     let e : c.before.in-wall.result ≡ (game a.v).allowed l.i = c.before.in-wall.ensures ∙ ap (game a.v).allowed (omega arith) in
-    ap (λ (b : Bool). (l.good && (b || eqb (held a.counts.now l.i) 0)) && all (noneOf (game a.v) a.counts.now) (up_from (34 - (l.i + 1)) (l.i + 1))) e
-    ∙ test-next (noneOf (game a.v) a.counts.now) l.good l.i 34 c.before.before.loop-test.true
+    ap (λ (b : Bool). (l.good && (b || eqb (held a.counts.now l.i) 0)) && all (none_of (game a.v) a.counts.now) (up_from (34 - (l.i + 1)) (l.i + 1))) e
+    ∙ test_next (none_of (game a.v) a.counts.now) l.good l.i 34 c.before.before.loop-test.true
     ∙ l.invariant
 
 returns : tie.Need-returns invariant-loop decreases-loop
 returns c =
     let l = c.before.loop in
     let a = c.before.before.before.args in
-    test-end (noneOf (game a.v) a.counts.now) l.good l.i 34 c.loop-test.false ∙ l.invariant
+    test_end (none_of (game a.v) a.counts.now) l.good l.i 34 c.loop-test.false ∙ l.invariant
 
 pub none-absent-spec : {M : Type 1} → statement M
 none-absent-spec =

@@ -7,12 +7,12 @@ use lib.Dec.{leb}
 use lib.ListN.{take}
 use Rattle.lists.specs.Fold.{all, every}
 use Rattle.lists.proofs.Finite.{T→true}
-use Rattle.lists.proofs.Members.{map-members}
+use Rattle.lists.proofs.Members.{map_members}
 use Rattle.tile.specs.Tile.{tiles}
 use Rattle.hand.specs.Counts.{held}
 use Rattle.checks.specs.Checks.{called, together}
-use Rattle.checks.proofs.Added.{usesOf}
-use Rattle.checks.proofs.Four.{four-test}
+use Rattle.checks.proofs.Added.{uses_of}
+use Rattle.checks.proofs.Four.{four_test}
 use borrow.Author.Rules.{rules}
 use Rattle.checks.proofs.together_at_most_four.Statement.{statement}
 use Rattle.checks.proofs.together_at_most_four.Tie as tie
@@ -24,7 +24,7 @@ returns c =
     let k = b.args.k in
     sym
     (T→true (all (λ t. leb (together cs (called k) t) 4) tiles)
-    (four-test (together cs (called k)) (λ t h. omega (arith, b.requires.1.0 t, ap (λ (n : ℕ). usesOf (take n k.melds) t) c.if1.true))))
+    (four_test (together cs (called k)) (λ t h. omega (arith, b.requires.1.0 t, ap (λ (n : ℕ). uses_of (take n k.melds) t) c.if1.true))))
 
 with-calls-requires : tie.Need-with-calls-requires
 with-calls-requires c κs = search rules
@@ -41,7 +41,7 @@ returns-2 c =
     let a = c.before.before.before.before.before.before.args in
     c.at-most-four.ensures
     ∙ ap every
-    (map-members (λ t. leb (held w.result t) 4) (λ t. leb (together a.counts.now (called a.k) t) 4) tiles
+    (map_members (λ t. leb (held w.result t) 4) (λ t. leb (together a.counts.now (called a.k) t) 4) tiles
     (λ t i. ap (λ (n : ℕ). leb n 4) (w.ensures t)))
 
 pub together-at-most-four-spec : {M : Type 1} → statement M

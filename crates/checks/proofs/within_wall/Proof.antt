@@ -7,7 +7,7 @@ use Rattle.tile.specs.Tile.{tiles}
 use Rattle.rules.specs.declared.Variant.{Variant}
 use Rattle.rules.specs.Rules.{game, most}
 use Rattle.hand.specs.Counts.{held}
-use Rattle.checks.proofs.Played.{wall-tests}
+use Rattle.checks.proofs.Played.{wall_tests}
 use borrow.Author.Rules.{rules}
 use Rattle.checks.proofs.within_wall.Statement.{statement}
 use Rattle.checks.proofs.within_wall.Tie as tie
@@ -32,7 +32,7 @@ returns c =
 returns-2 : tie.Need-returns-2
 returns-2 c =
     let a = c.before.before.before.before.before.args in
-    ap₂ ◌&&◌ c.before.before.before.at-most-four.ensures c.none-absent.ensures ∙ sym (wall-tests (game a.v) a.counts.now)
+    ap₂ ◌&&◌ c.before.before.before.at-most-four.ensures c.none-absent.ensures ∙ sym (wall_tests (game a.v) a.counts.now)
 
 pub within-wall-spec : {M : Type 1} → statement M
 within-wall-spec = tie.close (tie.spec at-most-four-requires enum_told enum-told-2 none-absent-requires returns returns-2)

@@ -6,15 +6,15 @@ use Prim.Native.Nat.{◌-◌, ◌*◌, ◌≤◌}
 use native.Mathlib.Omega.{arith}
 use borrow.Author.Rules.{rules}
 use Rattle.rules.specs.Rules.{game}
-use Rattle.reading_score.specs.Score.{scoreOf}
-use Rattle.choice.specs.Choice.{noYaku}
-use Rattle.choice.proofs.Pass.{Rest, turn-take, turn-skip, rest_end, rest_all, choice-none, choice-some}
+use Rattle.reading_score.specs.Score.{score_of}
+use Rattle.choice.specs.Choice.{no_yaku}
+use Rattle.choice.proofs.Pass.{Rest, turn_take, turn_skip, rest_end, rest_all, choice_none, choice_some}
 use Rattle.choice.proofs.choose.Statement.{statement}
 use Rattle.choice.proofs.choose.Tie as tie
 
 abbrev invariant-loop : tie.invariant-loop
 invariant-loop b n s d w opened v best₀ found₀ at₀ i₀ best found at i =
-    (i ≤ n) × ((at ≤ i * 255) × (Rest (game v).players (scoreOf w opened s d) b n best found i at ≡ Rest (game v).players (scoreOf w opened s d) b n 0 noYaku 0 0))
+    (i ≤ n) × ((at ≤ i * 255) × (Rest (game v).players (score_of w opened s d) b n best found i at ≡ Rest (game v).players (score_of w opened s d) b n 0 no_yaku 0 0))
 
 abbrev decreases-loop : tie.decreases-loop
 decreases-loop b n s d w opened v best₀ found₀ at₀ i₀ best found at i = n - i
@@ -25,7 +25,7 @@ refused-requires c κs = search rules
 returns : tie.Need-returns invariant-loop decreases-loop
 returns c =
     let a = c.before.before.before.args in
-    c.refused.ensures ∙ choice-none (game a.v).players (scoreOf a.w a.opened a.s a.d) a.b.now a.n c.before.if1.true
+    c.refused.ensures ∙ choice_none (game a.v).players (score_of a.w a.opened a.s a.d) a.b.now a.n c.before.if1.true
 
 refused-requires-2 : tie.Need-refused-requires-2 invariant-loop decreases-loop
 refused-requires-2 c κs = search rules
@@ -33,7 +33,7 @@ refused-requires-2 c κs = search rules
 loop-holds : tie.Need-loop-init invariant-loop decreases-loop
 loop-holds c =
     let a = c.before.before.before.args in
-    (omega arith, (omega arith, ap (λ f. Rest (game a.v).players (scoreOf a.w a.opened a.s a.d) a.b.now a.n 0 f 0 0) c.refused2.ensures))
+    (omega arith, (omega arith, ap (λ f. Rest (game a.v).players (score_of a.w a.opened a.s a.d) a.b.now a.n 0 f 0 0) c.refused2.ensures))
 
 reading-at-requires : tie.Need-reading-at-requires invariant-loop decreases-loop
 reading-at-requires c κs = omega arith
@@ -64,7 +64,7 @@ loop-again c =
     let a = c.before.before.before.before.before.before.before.before.before.before.args in
     let players = (game a.v).players in
     let l = c.before.before.before.before.before.before.loop in
-    let g = scoreOf a.w a.opened a.s a.d in
+    let g = score_of a.w a.opened a.s a.d in
     let x = c.before.before.before.calculate-score in
     let r = c.before.before.rank in
     let d = c.length_at in
@@ -76,11 +76,11 @@ loop-again c =
         omega (arith, d.ensures.1),
         ⊎_elim
             (λ v.
-            turn-take players g a.b.now a.n l.best l.found l.i l.at turn x.result r.result d.result score r.ensures
+            turn_take players g a.b.now a.n l.best l.found l.i l.at turn x.result r.result d.result score r.ensures
             d.ensures.0 found.best found.found v.0.taken v.2 (v.3 ∙ v.1.ensures)
             ∙ l.invariant.1.1)
             (λ v.
-            turn-skip players g a.b.now a.n l.best l.found l.i l.at turn x.result r.result d.result score r.ensures
+            turn_skip players g a.b.now a.n l.best l.found l.i l.at turn x.result r.result d.result score r.ensures
             d.ensures.0 found.best found.found v.0.left v.1 v.2
             ∙ l.invariant.1.1)
             found.branch,
@@ -92,9 +92,9 @@ returns-2 c =
     let a = c.before.before.before.before.before.args in
     let players = (game a.v).players in
     let l = c.before.loop in
-    let g = scoreOf a.w a.opened a.s a.d in
+    let g = score_of a.w a.opened a.s a.d in
     sym (rest_end players g a.b.now a.n l.best l.found l.i l.at c.loop-test.false)
-    ∙ l.invariant.1.1 ∙ rest_all players g a.b.now a.n ∙ choice-some players g a.b.now a.n c.before.before.before.if1.false
+    ∙ l.invariant.1.1 ∙ rest_all players g a.b.now a.n ∙ choice_some players g a.b.now a.n c.before.before.before.if1.false
 
 pub choose_spec : {M : Type 1} → statement M
 choose_spec =

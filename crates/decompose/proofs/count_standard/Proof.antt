@@ -7,7 +7,7 @@ use borrow.Author.Rules.{rules}
 use borrow.Author.Tests.{leb-true, leb-false}
 use lib.ListN.{length}
 use Rattle.decompose.specs.Packed.{in_words}
-use Rattle.decompose.proofs.Turns.{Counted, count-first, count-on, count_past, count-last, found-there}
+use Rattle.decompose.proofs.Turns.{Counted, count_first, count_on, count_past, count_last, found_there}
 use Rattle.decompose.proofs.count_standard.Statement.{statement}
 use Rattle.decompose.proofs.count_standard.Tie as tie
 
@@ -20,7 +20,7 @@ decreases-loop h needed end total₀ p₀ total p = end - p
 loop-holds : tie.Need-loop-init invariant-loop decreases-loop
 loop-holds c =
     let a = c.args in
-    count-first a.needed (in_words a.h) a.places.first a.places.end c.requires.1.1
+    count_first a.needed (in_words a.h) a.places.first a.places.end c.requires.1.1
 
 cast-has-pair : tie.Need-overflow-cast-has-pair invariant-loop decreases-loop
 cast-has-pair c = omega (arith, c.before.before.requires.1.1.ends)
@@ -60,8 +60,8 @@ loop-again c =
     let more = c.before.before.loop-test.true in
     ⊎_elim {C = Counted a.needed d a.places.first c.if1.total (l.p + 3)}
     (λ w.
-    count-on a.needed d a.places.first a.places.end s.requires.1.1 l.total l.p l.invariant more w.2.result c.if1.total
-    (w.2.ensures.0 ∙ ap length (found-there a.needed d l.p (leb-true 2 _ (t ∙ w.0.taken)) w.1.result w.1.ensures.0))
+    count_on a.needed d a.places.first a.places.end s.requires.1.1 l.total l.p l.invariant more w.2.result c.if1.total
+    (w.2.ensures.0 ∙ ap length (found_there a.needed d l.p (leb-true 2 _ (t ∙ w.0.taken)) w.1.result w.1.ensures.0))
     w.2.ensures.1 w.3)
     (λ w.
     count_past a.needed d a.places.first a.places.end s.requires.1.1 l.total l.p l.invariant more (leb-false 2 _ (t ∙ w.0.left)) c.if1.total w.1)
@@ -72,7 +72,7 @@ returns c =
     let s = c.before.before in
     let a = s.args in
     let l = c.before.loop in
-    count-last a.needed (in_words a.h) a.places.first a.places.end s.requires.1.1 l.total l.p l.invariant c.loop-test.false
+    count_last a.needed (in_words a.h) a.places.first a.places.end s.requires.1.1 l.total l.p l.invariant c.loop-test.false
 
 pub count-standard-spec : {M : Type 1} → statement M
 count-standard-spec =

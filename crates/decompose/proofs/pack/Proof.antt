@@ -1,5 +1,5 @@
 -- `decompose::pack` meets its contract. Assumes nothing.
-use Rattle.decompose.proofs.Words.{words-held, words-fit}
+use Rattle.decompose.proofs.Words.{words_held, words_fit}
 use borrow.Author.Rules.{rules}
 use Rattle.decompose.proofs.pack.Statement.{statement}
 use Rattle.decompose.proofs.pack.Tie as tie
@@ -17,8 +17,8 @@ returns : tie.Need-returns
 returns c =
     let s = c.before.before.before in
     let cs = s.args.counts.now in (
-      words-held cs s.requires.0 s.requires.1 _ c.before.pack-range.ensures c.pack-range2.ensures,
-      words-fit cs s.requires.0 s.requires.1 _ c.before.pack-range.ensures c.pack-range2.ensures,
+      words_held cs s.requires.0 s.requires.1 _ c.before.pack-range.ensures c.pack-range2.ensures,
+      words_fit cs s.requires.0 s.requires.1 _ c.before.pack-range.ensures c.pack-range2.ensures,
     )
 
 pub pack-spec : {M : Type 1} → statement M

@@ -4,19 +4,19 @@ use Prim.Native.Nat.{ℕ, ◌-◌, ◌≤◌}
 use native.Mathlib.Omega.{arith}
 use borrow.Author.Rules.{rules}
 use Rattle.hand.specs.Counts.{held}
-use Rattle.decompose.specs.Packed.{packFrom}
-use Rattle.decompose.proofs.Words.{pack-none, pack-more, pack-small}
+use Rattle.decompose.specs.Packed.{pack_from}
+use Rattle.decompose.proofs.Words.{pack_none, pack_more, pack_small}
 use Rattle.decompose.proofs.pack_range.Statement.{statement}
 use Rattle.decompose.proofs.pack_range.Tie as tie
 
 abbrev invariant-loop : tie.invariant-loop
-invariant-loop counts from to word₀ i₀ word i = (from ≤ i) × ((i ≤ to) × (word ≡ packFrom (held counts) (to - i) i))
+invariant-loop counts from to word₀ i₀ word i = (from ≤ i) × ((i ≤ to) × (word ≡ pack_from (held counts) (to - i) i))
 
 abbrev decreases-loop : tie.decreases-loop
 decreases-loop counts from to word₀ i₀ word i = i
 
 loop-holds : tie.Need-loop-init invariant-loop decreases-loop
-loop-holds c = (omega arith, (omega arith, pack-none _ _))
+loop-holds c = (omega arith, (omega arith, pack_none _ _))
 
 sub-i : tie.Need-overflow-sub-i invariant-loop decreases-loop
 sub-i c = search rules
@@ -25,7 +25,7 @@ mul-word : tie.Need-overflow-mul-word invariant-loop decreases-loop
 mul-word c =
     let l = c.before.loop in
     let a = c.before.before.before.args in
-    omega (arith, pack-small (held a.counts.now) c.before.before.before.requires.1.1.1.1 (a.to - l.i) l.i (omega arith))
+    omega (arith, pack_small (held a.counts.now) c.before.before.before.requires.1.1.1.1 (a.to - l.i) l.i (omega arith))
 
 shared-slice-read-wide : tie.Need-shared-slice-read-wide invariant-loop decreases-loop
 shared-slice-read-wide c = search rules
@@ -41,7 +41,7 @@ add-word c =
     omega (
       arith,
       s.requires.1.1.1.1 (l.i - 1),
-      pack-small (held a.counts.now) s.requires.1.1.1.1 (a.to - l.i) l.i (omega arith),
+      pack_small (held a.counts.now) s.requires.1.1.1.1 (a.to - l.i) l.i (omega arith),
     )
 
 loop-less : tie.Need-loop-smaller invariant-loop decreases-loop
@@ -51,14 +51,14 @@ loop-again : tie.Need-loop-preserved invariant-loop decreases-loop
 loop-again c =
     let l = c.before.before.before.loop in
     let a = c.before.before.before.before.before.args in
-    (omega arith, (omega arith, omega (arith, pack-more (held a.counts.now) a.to l.i (omega arith) (omega arith))))
+    (omega arith, (omega arith, omega (arith, pack_more (held a.counts.now) a.to l.i (omega arith) (omega arith))))
 
 returns : tie.Need-returns invariant-loop decreases-loop
 returns c =
     let l = c.before.loop in
     let a = c.before.before.before.args in
     let e : l.i ≡ a.from = omega arith in
-    subst (λ (k : ℕ). l.word ≡ packFrom (held a.counts.now) (a.to - k) k) e l.invariant.1.1
+    subst (λ (k : ℕ). l.word ≡ pack_from (held a.counts.now) (a.to - k) k) e l.invariant.1.1
 
 pub pack-range-spec : {M : Type 1} → statement M
 pack-range-spec =

@@ -1,7 +1,7 @@
 -- `decompose::pair_places` meets its contract. Assumes nothing.
 use mathlib.Core.Path.{refl, sym, ◌∙◌}
 use Rattle.hand.specs.Counts.{held}
-use Rattle.decompose.proofs.Places.{man-weight, pin-weight, sou-weight, honors-weight, nowhere, somewhere}
+use Rattle.decompose.proofs.Places.{man_weight, pin_weight, sou_weight, honors_weight, nowhere, somewhere}
 use borrow.Author.Rules.{rules}
 use Rattle.decompose.proofs.pair_places.Statement.{statement}
 use Rattle.decompose.proofs.pair_places.Tie as tie
@@ -32,8 +32,8 @@ returns c =
     let cs = held c.before.before.before.before.before.before.args.counts.now in
     nowhere cs c.before.before.before.before.sum-range.result c.before.before.before.sum-range2.result
     c.before.before.sum-range3.result c.before.sum-range4.result _
-    (c.before.before.before.before.sum-range.ensures.0 ∙ sym (man-weight cs)) (c.before.before.before.sum-range2.ensures.0 ∙ sym (pin-weight cs))
-    (c.before.before.sum-range3.ensures.0 ∙ sym (sou-weight cs)) (c.before.sum-range4.ensures.0 ∙ sym (honors-weight cs)) refl c.if1.true
+    (c.before.before.before.before.sum-range.ensures.0 ∙ sym (man_weight cs)) (c.before.before.before.sum-range2.ensures.0 ∙ sym (pin_weight cs))
+    (c.before.before.sum-range3.ensures.0 ∙ sym (sou_weight cs)) (c.before.sum-range4.ensures.0 ∙ sym (honors_weight cs)) refl c.if1.true
 
 mul-start : tie.Need-overflow-mul-start
 mul-start c = search rules
@@ -73,8 +73,8 @@ returns-2 c =
     let cs = held c.before.before.before.before.before.before.before.args.counts.now in
     somewhere cs c.before.before.before.before.before.sum-range.result c.before.before.before.before.sum-range2.result
     c.before.before.before.sum-range3.result c.before.before.sum-range4.result c.sum-numbers.result
-    (c.before.before.before.before.before.sum-range.ensures.0 ∙ sym (man-weight cs)) (c.before.before.before.before.sum-range2.ensures.0 ∙ sym (pin-weight cs))
-    (c.before.before.before.sum-range3.ensures.0 ∙ sym (sou-weight cs)) (c.before.before.sum-range4.ensures.0 ∙ sym (honors-weight cs))
+    (c.before.before.before.before.before.sum-range.ensures.0 ∙ sym (man_weight cs)) (c.before.before.before.before.sum-range2.ensures.0 ∙ sym (pin_weight cs))
+    (c.before.before.before.sum-range3.ensures.0 ∙ sym (sou_weight cs)) (c.before.before.sum-range4.ensures.0 ∙ sym (honors_weight cs))
     c.sum-numbers.ensures.0 c.before.if1.false
 
 pub pair-places-spec : {M : Type 1} → statement M

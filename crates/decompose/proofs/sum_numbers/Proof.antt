@@ -2,7 +2,7 @@
 use Prim.Native.Nat.{◌+◌, ◌-◌}
 use native.Mathlib.Omega.{arith}
 use Rattle.hand.specs.Counts.{held}
-use Rattle.decompose.proofs.Places.{Summed, sum_first, sum-on, sum-last}
+use Rattle.decompose.proofs.Places.{Summed, sum_first, sum_on, sum_last}
 use borrow.Author.Rules.{rules}
 use Rattle.decompose.proofs.sum_numbers.Statement.{statement}
 use Rattle.decompose.proofs.sum_numbers.Tie as tie
@@ -60,13 +60,13 @@ loop-again c =
     let l = c.before.before.before.before.before.loop in
     let x = c.before.before.wide in
     let y = c.wide2 in
-    sum-on (held c.before.before.before.before.before.before.before.args.counts.now) l.sum l.i x.result y.result l.invariant c.before.before.before.before.loop-test.true x.ensures y.ensures
+    sum_on (held c.before.before.before.before.before.before.before.args.counts.now) l.sum l.i x.result y.result l.invariant c.before.before.before.before.loop-test.true x.ensures y.ensures
     (omega (arith, c.before.before.before.shared-slice-known2.given (l.i + 1), c.before.before.wide.ensures)) (omega (arith, c.before.shared-slice-known3.given (l.i + 2), c.wide2.ensures))
 
 returns : tie.Need-returns invariant-loop decreases-loop
 returns c =
     let l = c.before.loop in
-    sum-last (held c.before.before.before.args.counts.now) l.sum l.i l.invariant c.loop-test.false
+    sum_last (held c.before.before.before.args.counts.now) l.sum l.i l.invariant c.loop-test.false
 
 pub sum-numbers-spec : {M : Type 1} → statement M
 sum-numbers-spec =

@@ -6,7 +6,7 @@ use native.Mathlib.Omega.{arith}
 use borrow.Author.Rules.{rules}
 use borrow.Author.Tests.{leb-true, leb-false}
 use Rattle.decompose.specs.Packed.{in_words}
-use Rattle.decompose.proofs.Turns.{Written, write-first, write-past, write-room, write-on, write-last, found-there}
+use Rattle.decompose.proofs.Turns.{Written, write_first, write_past, write_room, write_on, write_last, found_there}
 use Rattle.decompose.proofs.write_standards.Statement.{statement}
 use Rattle.decompose.proofs.write_standards.Tie as tie
 
@@ -20,7 +20,7 @@ loop-holds : tie.Need-loop-init invariant-loop decreases-loop
 loop-holds c =
     let s = c.before in
     let a = s.args in
-    write-first a.needed (in_words a.h) a.slots a.out.now a.at a.places.first a.places.end s.requires.1.1.0
+    write_first a.needed (in_words a.h) a.slots a.out.now a.at a.places.first a.places.end s.requires.1.1.0
 
 cast-has-pair : tie.Need-overflow-cast-has-pair invariant-loop decreases-loop
 cast-has-pair c = omega (arith, c.before.before.before.requires.1.1.0.ends)
@@ -48,9 +48,9 @@ write-meld-combinations-requires c κs =
     let w = c.before.without-pair in
     let two = leb-true 2 _ (sym c.before.before.before.has-pair.ensures ∙ c.before.before.if1.true) in
     let room =
-    write-room a.needed d a.slots a.out.now a.at a.places.first a.places.end s.requires.1.1.0 l.out l.pos l.p l.invariant
+    write_room a.needed d a.slots a.out.now a.at a.places.first a.places.end s.requires.1.1.0 l.out l.pos l.p l.invariant
     c.before.before.before.before.loop-test.true _
-    (found-there a.needed d l.p two w.result w.ensures.0)
+    (found_there a.needed d l.p two w.result w.ensures.0)
     s.requires.1.1.1 in
     (search rules, (w.ensures.1, room))
 
@@ -70,11 +70,11 @@ loop-again c =
     let more = c.before.before.loop-test.true in
     ⊎_elim {C = Written a.needed d a.slots a.out.now a.at a.places.first c.if1.out c.if1.pos (l.p + 3)}
     (λ w.
-    write-on a.needed d a.slots a.out.now a.at a.places.first a.places.end s.requires.1.1.0 l.out l.pos l.p l.invariant more _
-    (found-there a.needed d l.p (leb-true 2 _ (t ∙ w.0.taken)) w.1.result w.1.ensures.0)
+    write_on a.needed d a.slots a.out.now a.at a.places.first a.places.end s.requires.1.1.0 l.out l.pos l.p l.invariant more _
+    (found_there a.needed d l.p (leb-true 2 _ (t ∙ w.0.taken)) w.1.result w.1.ensures.0)
     c.if1.out c.if1.pos (w.7 ∙ w.3.ensures.0) (w.6 ∙ w.3.ensures.1))
     (λ w.
-    write-past a.needed d a.slots a.out.now a.at a.places.first a.places.end s.requires.1.1.0 l.out l.pos l.p l.invariant more
+    write_past a.needed d a.slots a.out.now a.at a.places.first a.places.end s.requires.1.1.0 l.out l.pos l.p l.invariant more
     (leb-false 2 _ (t ∙ w.0.left)) c.if1.out c.if1.pos w.2 w.1)
     c.if1.branch
 
@@ -86,7 +86,7 @@ returns c =
     let s = c.before.before.before in
     let a = s.args in
     let l = c.before.loop in
-    write-last a.needed (in_words a.h) a.slots a.out.now a.at a.places.first a.places.end s.requires.1.1.0 l.out l.pos l.p l.invariant c.loop-test.false
+    write_last a.needed (in_words a.h) a.slots a.out.now a.at a.places.first a.places.end s.requires.1.1.0 l.out l.pos l.p l.invariant c.loop-test.false
 
 pub write-standards-spec : {M : Type 1} → statement M
 write-standards-spec =

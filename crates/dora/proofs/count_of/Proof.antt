@@ -5,7 +5,7 @@ use native.Mathlib.Omega.{arith}
 use lib.ListN.{length, get_or, take}
 use Rattle.hand.specs.Counts.{held}
 use borrow.Author.Rules.{rules}
-use Rattle.dora.specs.Dora.{doraOf, count_of}
+use Rattle.dora.specs.Dora.{dora_of, count_of}
 use Rattle.dora.proofs.Turns.{count_next}
 use Rattle.dora.proofs.count_of.Statement.{statement}
 use Rattle.dora.proofs.count_of.Tie as tie
@@ -32,7 +32,7 @@ held-by-requires c κs = search rules
 add-n : tie.Need-overflow-add-n invariant-loop decreases-loop
 add-n c =
     let s = c.before.before.before.before.before.before in
-    let four = s.requires.1.0 (doraOf (get_or s.args.i.tiles c.before.before.loop.at 0)) in
+    let four = s.requires.1.0 (dora_of (get_or s.args.i.tiles c.before.before.loop.at 0)) in
     omega (arith, c.held_by.ensures, four, c.before.before.loop.invariant, s.requires, c.before.before.before.places.ensures)
 
 add_at : tie.Need-overflow-add-at invariant-loop decreases-loop
@@ -45,7 +45,7 @@ loop-again : tie.Need-loop-preserved invariant-loop decreases-loop
 loop-again c =
     let s = c.before.before.before.before.before.before in
     let l = c.before.before.loop in
-    let four = s.requires.1.0 (doraOf (get_or s.args.i.tiles l.at 0)) in
+    let four = s.requires.1.0 (dora_of (get_or s.args.i.tiles l.at 0)) in
     let next = count_next (held s.args.counts.now) s.args.i.tiles l.at (omega (arith, l.invariant, s.requires, c.before.before.before.places.ensures)) in (
       omega (arith, next, l.invariant.0, c.held_by.ensures),
       (omega (arith, four, c.held_by.ensures, l.invariant.1.0), (omega arith, l.invariant.1.1.1)),

@@ -2,8 +2,8 @@
 use mathlib.Core.Path.{◌≡◌}
 use lib.ListN.{length}
 use borrow.Author.Rules.{rules}
-use Rattle.meld.specs.Meld.{isSequence}
-use Rattle.structure.proofs.Four.{any-four}
+use Rattle.meld.specs.Meld.{is_sequence}
+use Rattle.structure.proofs.Four.{any_four}
 use Rattle.end_yaku.proofs.any_sequence.Statement.{statement}
 use Rattle.end_yaku.proofs.any_sequence.Tie as tie
 
@@ -41,7 +41,7 @@ returns c =
       c.before.before.is-sequence3.ensures,
       c.is-sequence4.ensures,
     )
-    (any-four isSequence start.args.t1 _ size)
+    (any_four is_sequence start.args.t1 _ size)
 
 pub any-sequence-spec : {M : Type 1} → statement M
 any-sequence-spec =

@@ -1,6 +1,6 @@
 -- `check_junchan` meets its contract. Assumes nothing.
 use borrow.Author.Rules.{rules}
-use Rattle.meld_yaku.proofs.Otherwise.{answer-no}
+use Rattle.meld_yaku.proofs.Otherwise.{answer_no}
 use Rattle.end_yaku.proofs.check_junchan.Statement.{statement}
 use Rattle.end_yaku.proofs.check_junchan.Tie as tie
 
@@ -8,7 +8,7 @@ enum-known-s : tie.Need-enum-known-s
 enum-known-s c = search rules
 
 returns : tie.Need-returns
-returns c = answer-no c.before.args.h c.match.keys2 _
+returns c = answer_no c.before.args.h c.match.keys2 _
 
 is-junchan-requires : tie.Need-is-junchan-requires
 is-junchan-requires c κs = search rules

@@ -4,11 +4,11 @@ use mathlib.Core.Bool.{◌||◌, Bool, ◌&&◌}
 use lib.ListN.{length}
 use borrow.Author.Rules.{rules}
 use Rattle.lists.specs.Fold.{any}
-use Rattle.tile.specs.Tile.{isTerminalOrHonor}
-use Rattle.meld.specs.Meld.{isSequence}
-use Rattle.structure.proofs.Four.{all-four}
-use Rattle.meld_yaku.specs.Melds.{setOf}
-use Rattle.end_yaku.specs.Ends.{endRun, chanta}
+use Rattle.tile.specs.Tile.{is_terminal_or_honor}
+use Rattle.meld.specs.Meld.{is_sequence}
+use Rattle.structure.proofs.Four.{all_four}
+use Rattle.meld_yaku.specs.Melds.{set_of}
+use Rattle.end_yaku.specs.Ends.{end_run, chanta}
 use Rattle.end_yaku.proofs.is_chanta.Statement.{statement}
 use Rattle.end_yaku.proofs.is_chanta.Tie as tie
 
@@ -55,8 +55,8 @@ returns c =
       c.before.is-terminal-or-honor.ensures,
       c.any-sequence.ensures,
     )
-    (ap (λ (b : Bool). isTerminalOrHonor start.args.pair.0 && (any isSequence start.args.t1 && b))
-    (all-four (λ m. endRun m || setOf isTerminalOrHonor m) start.args.t1 _ size))
+    (ap (λ (b : Bool). is_terminal_or_honor start.args.pair.0 && (any is_sequence start.args.t1 && b))
+    (all_four (λ m. end_run m || set_of is_terminal_or_honor m) start.args.t1 _ size))
 
 pub is-chanta-spec : {M : Type 1} → statement M
 is-chanta-spec =

@@ -4,11 +4,11 @@ use mathlib.Core.Bool.{◌||◌, Bool, ◌&&◌}
 use lib.ListN.{length}
 use borrow.Author.Rules.{rules}
 use Rattle.lists.specs.Fold.{any}
-use Rattle.tile.specs.Tile.{isTerminal}
-use Rattle.meld.specs.Meld.{isSequence}
-use Rattle.structure.proofs.Four.{all-four}
-use Rattle.meld_yaku.specs.Melds.{setOf}
-use Rattle.end_yaku.specs.Ends.{endRun, junchan}
+use Rattle.tile.specs.Tile.{is_terminal}
+use Rattle.meld.specs.Meld.{is_sequence}
+use Rattle.structure.proofs.Four.{all_four}
+use Rattle.meld_yaku.specs.Melds.{set_of}
+use Rattle.end_yaku.specs.Ends.{end_run, junchan}
 use Rattle.end_yaku.proofs.is_junchan.Statement.{statement}
 use Rattle.end_yaku.proofs.is_junchan.Tie as tie
 
@@ -55,8 +55,8 @@ returns c =
       c.before.is-terminal.ensures,
       c.any-sequence.ensures,
     )
-    (ap (λ (b : Bool). isTerminal start.args.pair.0 && (any isSequence start.args.t1 && b))
-    (all-four (λ m. endRun m || setOf isTerminal m) start.args.t1 _ size))
+    (ap (λ (b : Bool). is_terminal start.args.pair.0 && (any is_sequence start.args.t1 && b))
+    (all_four (λ m. end_run m || set_of is_terminal m) start.args.t1 _ size))
 
 pub is-junchan-spec : {M : Type 1} → statement M
 is-junchan-spec =

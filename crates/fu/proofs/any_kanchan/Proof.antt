@@ -2,8 +2,8 @@
 use mathlib.Core.Path.{◌≡◌}
 use lib.ListN.{length}
 use borrow.Author.Rules.{rules}
-use Rattle.wait.specs.Wait.{closedRun, middle}
-use Rattle.structure.proofs.Four.{any-four}
+use Rattle.wait.specs.Wait.{closed_run, middle}
+use Rattle.structure.proofs.Four.{any_four}
 use Rattle.fu.proofs.any_kanchan.Statement.{statement}
 use Rattle.fu.proofs.any_kanchan.Tie as tie
 
@@ -35,7 +35,7 @@ returns : tie.Need-returns
 returns c =
     let size : length c.before.before.before.before.before.before.before.before.args.t1 ≡ 4 = search rules in
     simp (c.before.before.before.before.before.before.is-kanchan.ensures, c.before.before.before.before.is-kanchan2.ensures, c.before.before.is-kanchan3.ensures, c.is-kanchan4.ensures)
-    (any-four (closedRun middle c.before.before.before.before.before.before.before.before.args.t) c.before.before.before.before.before.before.before.before.args.t1 _ size)
+    (any_four (closed_run middle c.before.before.before.before.before.before.before.before.args.t) c.before.before.before.before.before.before.before.before.args.t1 _ size)
 
 pub any-kanchan-spec : {M : Type 1} → statement M
 any-kanchan-spec =

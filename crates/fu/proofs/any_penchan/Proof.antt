@@ -2,8 +2,8 @@
 use mathlib.Core.Path.{◌≡◌}
 use lib.ListN.{length}
 use borrow.Author.Rules.{rules}
-use Rattle.wait.specs.Wait.{closedRun, edge}
-use Rattle.structure.proofs.Four.{any-four}
+use Rattle.wait.specs.Wait.{closed_run, edge}
+use Rattle.structure.proofs.Four.{any_four}
 use Rattle.fu.proofs.any_penchan.Statement.{statement}
 use Rattle.fu.proofs.any_penchan.Tie as tie
 
@@ -35,7 +35,7 @@ returns : tie.Need-returns
 returns c =
     let size : length c.before.before.before.before.before.before.before.before.args.t1 ≡ 4 = search rules in
     simp (c.before.before.before.before.before.before.is-penchan.ensures, c.before.before.before.before.is-penchan2.ensures, c.before.before.is-penchan3.ensures, c.is-penchan4.ensures)
-    (any-four (closedRun edge c.before.before.before.before.before.before.before.before.args.t) c.before.before.before.before.before.before.before.before.args.t1 _ size)
+    (any_four (closed_run edge c.before.before.before.before.before.before.before.before.args.t) c.before.before.before.before.before.before.before.before.args.t1 _ size)
 
 pub any-penchan-spec : {M : Type 1} → statement M
 any-penchan-spec =

@@ -2,8 +2,8 @@
 use mathlib.Core.Path.{◌≡◌}
 use lib.ListN.{length}
 use borrow.Author.Rules.{rules}
-use Rattle.structure.proofs.Four.{sum-four}
-use Rattle.fu.specs.Fu.{meldFu}
+use Rattle.structure.proofs.Four.{sum_four}
+use Rattle.fu.specs.Fu.{meld_fu}
 use Rattle.fu.proofs.melds_fu.Statement.{statement}
 use Rattle.fu.proofs.melds_fu.Tie as tie
 
@@ -44,7 +44,7 @@ returns : tie.Need-returns
 returns c =
     let size : length c.before.before.before.before.before.before.before.before.args.t1 ≡ 4 = search rules in (
       simp (c.before.before.before.before.before.before.meld-fu-with-context.ensures.0, c.before.before.before.before.meld-fu-with-context2.ensures.0, c.before.before.meld-fu-with-context3.ensures.0, c.meld-fu-with-context4.ensures.0)
-          (sum-four (meldFu c.before.before.before.before.before.before.before.before.args.w c.before.before.before.before.before.before.before.before.args.kept) c.before.before.before.before.before.before.before.before.args.t1 _ size),
+          (sum_four (meld_fu c.before.before.before.before.before.before.before.before.args.w c.before.before.before.before.before.before.before.before.args.kept) c.before.before.before.before.before.before.before.before.args.t1 _ size),
       search rules,
     )
 

@@ -3,8 +3,8 @@ use borrow.Author.Rules.{rules}
 use Rattle.fu.proofs.rounded_fu.Statement.{statement}
 use Rattle.fu.proofs.rounded_fu.Tie as tie
 
-add-up : tie.Need-overflow-add-up
-add-up c = search rules
+add_up : tie.Need-overflow-add-up
+add_up c = search rules
 
 mul-up : tie.Need-overflow-mul-up
 mul-up c = search rules
@@ -19,4 +19,4 @@ returns-2 : tie.Need-returns-2
 returns-2 c = simp c.if1.false
 
 pub rounded-fu-spec : {M : Type 1} → statement M
-rounded-fu-spec = tie.close (tie.spec add-up mul-up at-least-30-requires returns returns-2)
+rounded-fu-spec = tie.close (tie.spec add_up mul-up at-least-30-requires returns returns-2)

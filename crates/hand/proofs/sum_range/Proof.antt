@@ -5,7 +5,7 @@ use Prim.Native.Nat.{◌+◌, ◌-◌, ◌*◌, ◌≤◌}
 use native.Mathlib.Omega.{arith}
 use Rattle.lists.specs.Fold.{sum, up_from}
 use Rattle.hand.specs.Counts.{held}
-use Rattle.hand.proofs.Sums.{sum-next, sum-end}
+use Rattle.hand.proofs.Sums.{sum_next, sum_end}
 use borrow.Author.Rules.{rules}
 use Rattle.hand.proofs.sum_range.Statement.{statement}
 use Rattle.hand.proofs.sum_range.Tie as tie
@@ -41,7 +41,7 @@ loop-again : tie.Need-loop-preserved invariant-loop decreases-loop
 loop-again c =
     let l = c.before.before.before.loop in
     let a = c.before.before.before.before.before.args in (
-      omega (arith, l.invariant.0, c.wide.ensures, sum-next (held a.counts.now) l.i a.to c.before.before.loop-test.true),
+      omega (arith, l.invariant.0, c.wide.ensures, sum_next (held a.counts.now) l.i a.to c.before.before.loop-test.true),
       omega (arith, l.invariant.1, c.wide.ensures, c.before.shared-slice-known2.given l.i),
     )
 
@@ -49,7 +49,7 @@ returns : tie.Need-returns invariant-loop decreases-loop
 returns c =
     let l = c.before.loop in
     let a = c.before.before.before.args in
-    (omega (arith, l.invariant.0, sum-end (held a.counts.now) l.i a.to c.loop-test.false), omega (arith, l.invariant.1))
+    (omega (arith, l.invariant.0, sum_end (held a.counts.now) l.i a.to c.loop-test.false), omega (arith, l.invariant.1))
 
 pub sum-range-spec : {M : Type 1} → statement M
 sum-range-spec =

@@ -3,7 +3,7 @@
 use mathlib.Core.Path.{sym, ◌∙◌}
 use borrow.Author.Rules.{rules}
 use borrow.Author.Tests.{not-true}
-use Rattle.honor_yaku.proofs.Few.{no-tallies}
+use Rattle.honor_yaku.proofs.Few.{no_tallies}
 use Rattle.honor_yaku.proofs.check_all_yakuhai.Statement.{statement}
 use Rattle.honor_yaku.proofs.check_all_yakuhai.Tie as tie
 
@@ -13,7 +13,7 @@ has-honor-set-requires c κs = search rules
 returns : tie.Need-returns
 returns c =
     let a = c.before.before.before.args in
-    no-tallies a.w a.h (sym c.before.has-honor-set.ensures ∙ not-true _ c.if1.true)
+    no_tallies a.w a.h (sym c.before.has-honor-set.ensures ∙ not-true _ c.if1.true)
 
 check-yakuhai-requires : tie.Need-check-yakuhai-requires
 check-yakuhai-requires c κs = search rules

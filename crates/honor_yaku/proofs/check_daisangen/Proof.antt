@@ -1,6 +1,6 @@
 -- `check_daisangen` meets its contract. Assumes nothing.
 use borrow.Author.Rules.{rules}
-use Rattle.meld_yaku.proofs.Otherwise.{answer-no}
+use Rattle.meld_yaku.proofs.Otherwise.{answer_no}
 use Rattle.honor_yaku.specs.Honors.{daisangen}
 use Rattle.honor_yaku.proofs.check_daisangen.Statement.{statement}
 use Rattle.honor_yaku.proofs.check_daisangen.Tie as tie
@@ -9,7 +9,7 @@ enum_told : tie.Need-enum-told
 enum_told c = search rules
 
 returns : tie.Need-returns
-returns c = answer-no c.before.args.h c.match.keys2 _
+returns c = answer_no c.before.args.h c.match.keys2 _
 
 count-dragons-requires : tie.Need-count-dragons-requires
 count-dragons-requires c κs = search rules

@@ -1,6 +1,6 @@
 -- `check_shousangen` meets its contract. Assumes nothing.
 use borrow.Author.Rules.{rules}
-use Rattle.meld_yaku.proofs.Otherwise.{answer-no}
+use Rattle.meld_yaku.proofs.Otherwise.{answer_no}
 use Rattle.honor_yaku.specs.Honors.{shousangen}
 use Rattle.honor_yaku.proofs.check_shousangen.Statement.{statement}
 use Rattle.honor_yaku.proofs.check_shousangen.Tie as tie
@@ -9,7 +9,7 @@ enum-known-s : tie.Need-enum-known-s
 enum-known-s c = search rules
 
 returns : tie.Need-returns
-returns c = answer-no c.before.args.h c.match.keys2 _
+returns c = answer_no c.before.args.h c.match.keys2 _
 
 is-dragon-requires : tie.Need-is-dragon-requires
 is-dragon-requires c κs = search rules

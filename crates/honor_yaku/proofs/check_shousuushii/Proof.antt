@@ -1,6 +1,6 @@
 -- `check_shousuushii` meets its contract. Assumes nothing.
 use borrow.Author.Rules.{rules}
-use Rattle.meld_yaku.proofs.Otherwise.{answer-no}
+use Rattle.meld_yaku.proofs.Otherwise.{answer_no}
 use Rattle.honor_yaku.specs.Honors.{shousuushii}
 use Rattle.honor_yaku.proofs.check_shousuushii.Statement.{statement}
 use Rattle.honor_yaku.proofs.check_shousuushii.Tie as tie
@@ -9,7 +9,7 @@ enum-known-s : tie.Need-enum-known-s
 enum-known-s c = search rules
 
 returns : tie.Need-returns
-returns c = answer-no c.before.args.h c.match.keys2 _
+returns c = answer_no c.before.args.h c.match.keys2 _
 
 count-winds-requires : tie.Need-count-winds-requires
 count-winds-requires c κs = search rules

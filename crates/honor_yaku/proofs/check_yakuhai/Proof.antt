@@ -3,7 +3,7 @@ use native.Mathlib.Nat.{mul-le-mul}
 use native.Mathlib.Omega.{arith}
 use borrow.Author.Rules.{rules}
 use Rattle.honor_yaku.specs.Honors.{yakuhai}
-use Rattle.honor_yaku.proofs.Otherwise.{tally-none}
+use Rattle.honor_yaku.proofs.Otherwise.{tally_none}
 use Rattle.honor_yaku.proofs.check_yakuhai.Statement.{statement}
 use Rattle.honor_yaku.proofs.check_yakuhai.Tie as tie
 
@@ -11,7 +11,7 @@ enum_told : tie.Need-enum-told
 enum_told c = search rules
 
 returns : tie.Need-returns
-returns c = (tally-none c.before.args.h c.match.keys2 _ _, search rules)
+returns c = (tally_none c.before.args.h c.match.keys2 _ _, search rules)
 
 count-sets-requires : tie.Need-count-sets-requires
 count-sets-requires c κs = search rules

@@ -2,9 +2,9 @@
 use mathlib.Core.Path.{◌≡◌}
 use lib.ListN.{length}
 use borrow.Author.Rules.{rules}
-use Rattle.tile.specs.Tile.{isDragon}
-use Rattle.structure.proofs.Four.{count-four}
-use Rattle.meld_yaku.specs.Melds.{setOf}
+use Rattle.tile.specs.Tile.{is_dragon}
+use Rattle.structure.proofs.Four.{count_four}
+use Rattle.meld_yaku.specs.Melds.{set_of}
 use Rattle.honor_yaku.specs.Honors.{dragons}
 use Rattle.honor_yaku.proofs.count_dragons.Statement.{statement}
 use Rattle.honor_yaku.proofs.count_dragons.Tie as tie
@@ -48,7 +48,7 @@ returns c =
         c.before.before.before.is-dragon-set3.ensures,
         c.before.is-dragon-set4.ensures,
       )
-          (count-four (setOf isDragon) start.args.t1 _ size),
+          (count_four (set_of is_dragon) start.args.t1 _ size),
       c.how-many.ensures.1,
     )
 

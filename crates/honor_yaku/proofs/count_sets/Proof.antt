@@ -3,8 +3,8 @@ use mathlib.Core.Path.{◌≡◌}
 use lib.Dec.{eqb}
 use lib.ListN.{length}
 use borrow.Author.Rules.{rules}
-use Rattle.structure.proofs.Four.{count-four}
-use Rattle.meld_yaku.specs.Melds.{setOf}
+use Rattle.structure.proofs.Four.{count_four}
+use Rattle.meld_yaku.specs.Melds.{set_of}
 use Rattle.honor_yaku.proofs.count_sets.Statement.{statement}
 use Rattle.honor_yaku.proofs.count_sets.Tie as tie
 
@@ -46,7 +46,7 @@ returns c =
         c.before.before.before.is-set-of3.ensures,
         c.before.is-set-of4.ensures,
       )
-          (count-four (setOf (eqb start.args.t)) start.args.t1 _ size),
+          (count_four (set_of (eqb start.args.t)) start.args.t1 _ size),
       c.how-many.ensures.1,
     )
 

@@ -2,9 +2,9 @@
 use mathlib.Core.Path.{◌≡◌}
 use lib.ListN.{length}
 use borrow.Author.Rules.{rules}
-use Rattle.tile.specs.Tile.{isWind}
-use Rattle.structure.proofs.Four.{count-four}
-use Rattle.meld_yaku.specs.Melds.{setOf}
+use Rattle.tile.specs.Tile.{is_wind}
+use Rattle.structure.proofs.Four.{count_four}
+use Rattle.meld_yaku.specs.Melds.{set_of}
 use Rattle.honor_yaku.specs.Honors.{winds}
 use Rattle.honor_yaku.proofs.count_winds.Statement.{statement}
 use Rattle.honor_yaku.proofs.count_winds.Tie as tie
@@ -48,7 +48,7 @@ returns c =
         c.before.before.before.is-wind-set3.ensures,
         c.before.is-wind-set4.ensures,
       )
-          (count-four (setOf isWind) start.args.t1 _ size),
+          (count_four (set_of is_wind) start.args.t1 _ size),
       c.how-many.ensures.1,
     )
 

@@ -1,10 +1,10 @@
 -- `has_honor_set` meets its contract. Assumes nothing.
 use mathlib.Core.Path.{◌≡◌}
-use Rattle.tile.specs.Tile.{isHonor}
+use Rattle.tile.specs.Tile.{is_honor}
 use lib.ListN.{length}
 use borrow.Author.Rules.{rules}
-use Rattle.structure.proofs.Four.{any-four}
-use Rattle.meld_yaku.specs.Melds.{setOf}
+use Rattle.structure.proofs.Four.{any_four}
+use Rattle.meld_yaku.specs.Melds.{set_of}
 use Rattle.honor_yaku.proofs.has_honor_set.Statement.{statement}
 use Rattle.honor_yaku.proofs.has_honor_set.Tie as tie
 
@@ -42,7 +42,7 @@ returns c =
       c.before.before.is-honor-set3.ensures,
       c.is-honor-set4.ensures,
     )
-    (any-four (setOf isHonor) start.args.t1 _ size)
+    (any_four (set_of is_honor) start.args.t1 _ size)
 
 pub has-honor-set-spec : {M : Type 1} → statement M
 has-honor-set-spec =

@@ -51,10 +51,10 @@ use Rattle.context.proofs.GameContext.TheLaws as X'
 use Rattle.lent.specs.Lent.{calls_of}
 use Rattle.lent.proofs.Ask.{gets}
 use Rattle.lent.proofs.Walk.{framed}
-use Rattle.win.specs.Win.{scoreWin, scoreReading, nameWaits}
+use Rattle.win.specs.Win.{score_win, score_reading, name_waits}
 use Rattle.answers.specs.declared.ScoreValues.{ScoreValues}
 use Rattle.answers.specs.declared.WaitsValues.{WaitsValues}
-use Rattle.answers.specs.Answers.{scoreValues, waitsValues}
+use Rattle.answers.specs.Answers.{score_values, waits_values}
 use Rattle.answers.specs.contracts.ScoreValues as Score
 use Rattle.answers.proofs.ScoreValues.TheLaws as Score'
 use Rattle.answers.specs.contracts.WaitsValues as Wait
@@ -154,32 +154,32 @@ module _ {M : Type 1} {𝓤 : Ura M} (𝓛 : Logic 𝓤) (mem : Memory → SProp
     abbrev Numbered : Fml
     Numbered = fsep ((X.the_row).own_val w wv) (fsep (usize.own_val k (vint w64 k ∷ [])) ftrue)
 
-    makes-win : Is X.the_row w wv → ent 𝓤 (emp 𝓤) (sem 𝓛 Win)
-    makes-win isW = qed 𝓛 [] ∵ nothing ! $ owned ! X.the_row (Is X.the_row) (LL.makes X.the_type X'.the_plain 𝓛) w _ isW $ fjoin ! $ done !
+    makes_win : Is X.the_row w wv → ent 𝓤 (emp 𝓤) (sem 𝓛 Win)
+    makes_win isW = qed 𝓛 [] ∵ nothing ! $ owned ! X.the_row (Is X.the_row) (LL.makes X.the_type X'.the_plain 𝓛) w _ isW $ fjoin ! $ done !
 
-    makes-numbered : Is X.the_row w wv → k < 2 ^ 64 → ent 𝓤 (emp 𝓤) (sem 𝓛 Numbered)
-    makes-numbered isW fits =
+    makes_numbered : Is X.the_row w wv → k < 2 ^ 64 → ent 𝓤 (emp 𝓤) (sem 𝓛 Numbered)
+    makes_numbered isW fits =
         qed 𝓛 [] ∵ nothing ! $ owned ! usize (Is usize) (uint_Makes 𝓛 w64) k _ (refl, fits) $ fjoin ! $ owned ! X.the_row (Is X.the_row) (LL.makes X.the_type X'.the_plain 𝓛) w _ isW $ fjoin ! $ done !
 
     -- what the callees' triples bind outside
-    abbrev to-g : ℕ → ℕ → GName → (G 𝓛 mem run).Ghost
-    to-g α l γ = (((κ, (α ∷ [], tt)), (q, (full_share, tt)), tt, (s, (slice l γ, (w, tt))), (shr_slice_vals s, (shr_slice_vals (slice l γ), (wv, tt)))), tt)
+    abbrev to_g : ℕ → ℕ → GName → (G 𝓛 mem run).Ghost
+    to_g α l γ = (((κ, (α ∷ [], tt)), (q, (full_share, tt)), tt, (s, (slice l γ, (w, tt))), (shr_slice_vals s, (shr_slice_vals (slice l γ), (wv, tt)))), tt)
 
-    abbrev to-h : ℕ → ℕ → GName → (K 𝓛 mem run).Ghost
-    to-h α l γ = (((κ, (α ∷ [], tt)), (q, (full_share, tt)), tt, (s, (slice l γ, (w, (k, tt)))), (shr_slice_vals s, (shr_slice_vals (slice l γ), (wv, (vint w64 k ∷ [], tt))))), tt)
+    abbrev to_h : ℕ → ℕ → GName → (K 𝓛 mem run).Ghost
+    to_h α l γ = (((κ, (α ∷ [], tt)), (q, (full_share, tt)), tt, (s, (slice l γ, (w, (k, tt)))), (shr_slice_vals s, (shr_slice_vals (slice l γ), (wv, (vint w64 k ∷ [], tt))))), tt)
 
     -- the three answers, each by a name of its own, so that nothing is computed of it
-    module _ (a₀ a₁ : ScoreValues) (a₂ : WaitsValues) (e₀ : a₀ ≡ scoreValues (scoreWin s.now (calls_of xs) w)) (e₁ : a₁ ≡ scoreValues (scoreReading s.now (calls_of xs) w k)) (e₂ : a₂ ≡ waitsValues (nameWaits s.now (calls_of xs) w k)) where
-      abbrev the-answer : Asked
-      the-answer = record { win = a₀; reading = a₁; waits = a₂ }
+    module _ (a₀ a₁ : ScoreValues) (a₂ : WaitsValues) (e₀ : a₀ ≡ score_values (score_win s.now (calls_of xs) w)) (e₁ : a₁ ≡ score_values (score_reading s.now (calls_of xs) w k)) (e₂ : a₂ ≡ waits_values (name_waits s.now (calls_of xs) w k)) where
+      abbrev the_answer : Asked
+      the_answer = record { win = a₀; reading = a₁; waits = a₂ }
 
-      exits : Is R.the_row the-answer (LL.vals R.the_type R'.the_laws the-answer) → ent 𝓤 (⋆ 𝓛 (‵ (flft κ q) ∷ [])) (Post (xs ++ zs) (length xs) (only (LL.vals R.the_type R'.the_laws the-answer)))
+      exits : Is R.the_row the_answer (LL.vals R.the_type R'.the_laws the_answer) → ent 𝓤 (⋆ 𝓛 (‵ (flft κ q) ∷ [])) (Post (xs ++ zs) (length xs) (only (LL.vals R.the_type R'.the_laws the_answer)))
       exits is =
           qed 𝓛 (‵ (flft κ q) ∷ []) ∵
-          suffices ! _ (ends_at 𝓛 f.ended stayed (f.clauses 𝓛 mem run) (((κ, tt), (q, tt), tt, (s, (xs ++ zs, (length xs, (w, (k, tt))))), at (xs ++ zs) (length xs)), tt) (only (LL.vals R.the_type R'.the_laws the-answer)) the-answer (tt, (tt, (tt, (tt, (tt, tt))))) (tt, (tt, (tt, (tt, (tt, tt)))))) $
+          suffices ! _ (ends_at 𝓛 f.ended stayed (f.clauses 𝓛 mem run) (((κ, tt), (q, tt), tt, (s, (xs ++ zs, (length xs, (w, (k, tt))))), at (xs ++ zs) (length xs)), tt) (only (LL.vals R.the_type R'.the_laws the_answer)) the_answer (tt, (tt, (tt, (tt, (tt, tt))))) (tt, (tt, (tt, (tt, (tt, tt)))))) $
           says ! ((λ i. record { win = e₀ i; reading = e₁ i; waits = e₂ i }) ∙ ap (λ (ms : List Meld). asked s.now (calls_of ms) w k) (sym (take_at xs zs (length xs) refl))) $
           nothing ! $ move ! (1 ∷ 0 ∷ []) $ join ! $ frame ! $ nothing ! $ nothing ! $ fjoin ! $ nothing ! $ fjoin ! $ nothing ! $ fjoin ! $ nothing ! $ fjoin ! $ nothing ! $ fjoin ! $ frame ! $
-          owned ! R.the_row (Is R.the_row) (LL.makes R.the_type R'.the_plain 𝓛) the-answer _ is $ done !
+          owned ! R.the_row (Is R.the_row) (LL.makes R.the_type R'.the_plain 𝓛) the_answer _ is $ done !
 
       module _ (C : Table 𝓤 H) (Λ : Loops 𝓤 H) (fm : FmC 𝓤 H 𝓛.laws C) (known-g : Triple 𝓤 (C #g) (G 𝓛 mem run)) (known-h : Triple 𝓤 (C #h) (K 𝓛 mem run)) (known-i : Triple 𝓤 (C #i) (N 𝓛 mem run)) where
         walk : length xs ≤ 5 → Room u8 (length s.now) → Is X.the_row w wv → k < 2 ^ 64 → Walked C Λ (xs ++ zs) (length xs)
@@ -198,17 +198,17 @@ module _ {M : Type 1} {𝓤 : Ura M} (𝓛 : Logic 𝓤) (mem : Memory → SProp
             -- [the slice; what is lent; its token; the other melds; _11; …; _7; …; _6's end; _5; …; _0; …; the counts; their token]
             nothing ! $ move ! (3 ∷ 0 ∷ []) $ join ! $ move ! (28 ∷ 0 ∷ []) $ join ! $ move ! (27 ∷ 1 ∷ []) $ fjoin ! $ move ! (1 ∷ []) $ use1 𝓛 (raw (Alive α)) (id⊢ 𝓤 _) $
             -- [the tokens; both slices; what is lent; the other melds; _11; …; _7; …; _6's end; _5; …; _0; …]
-            use2 𝓛 (raw ((G 𝓛 mem run).pre (to-g α l₆ γ)) ⊛ ‵ (Both α l₆ γ)) (goes α l₆ γ Win (makes-win isW)) $ split ! $
-            gets 𝓛 fm g.ended (g.clauses 𝓛 mem run) known-g (to-g α l₆ γ) a₀ (λ r ws. fact_mono 𝓤 _ _ (λ e. e ∙ sym e₀)) (LL.vals Score.the_type Score'.the_laws) (LL.tells Score.the_type Score'.the_laws) (and_then ! (load ! (from ! (stop !)) (look ! 23 refl)) (and_then ! (load ! (from ! (stop !)) (look ! 12 refl)) (and_then ! (load ! (from ! (stop !)) (look ! 17 refl)) (no_more !)))) (λ is₀.
+            use2 𝓛 (raw ((G 𝓛 mem run).pre (to_g α l₆ γ)) ⊛ ‵ (Both α l₆ γ)) (goes α l₆ γ Win (makes_win isW)) $ split ! $
+            gets 𝓛 fm g.ended (g.clauses 𝓛 mem run) known-g (to_g α l₆ γ) a₀ (λ r ws. fact_mono 𝓤 _ _ (λ e. e ∙ sym e₀)) (LL.vals Score.the_type Score'.the_laws) (LL.tells Score.the_type Score'.the_laws) (and_then ! (load ! (from ! (stop !)) (look ! 23 refl)) (and_then ! (load ! (from ! (stop !)) (look ! 12 refl)) (and_then ! (load ! (from ! (stop !)) (look ! 17 refl)) (no_more !)))) (λ is₀.
             land ! (from ! (stop !)) (init ! 10 refl ((LL.lawful Score.the_type Score'.the_laws 𝓛).typed a₀ _ is₀).0) $
-            use2 𝓛 (raw ((K 𝓛 mem run).pre (to-h α l₆ γ)) ⊛ ‵ (Both α l₆ γ)) (goes α l₆ γ Numbered (makes-numbered isW fits)) $ split ! $
-            gets 𝓛 fm h.ended (h.clauses 𝓛 mem run) known-h (to-h α l₆ γ) a₁ (λ r ws. fact_mono 𝓤 _ _ (λ e. e ∙ sym e₁)) (LL.vals Score.the_type Score'.the_laws) (LL.tells Score.the_type Score'.the_laws) (and_then ! (load ! (from ! (stop !)) (look ! 23 refl)) (and_then ! (load ! (from ! (stop !)) (look ! 12 refl)) (and_then ! (load ! (from ! (stop !)) (look ! 17 refl)) (and_then ! (load ! (from ! (stop !)) (look ! 15 refl)) (no_more !))))) (λ is₁.
+            use2 𝓛 (raw ((K 𝓛 mem run).pre (to_h α l₆ γ)) ⊛ ‵ (Both α l₆ γ)) (goes α l₆ γ Numbered (makes_numbered isW fits)) $ split ! $
+            gets 𝓛 fm h.ended (h.clauses 𝓛 mem run) known-h (to_h α l₆ γ) a₁ (λ r ws. fact_mono 𝓤 _ _ (λ e. e ∙ sym e₁)) (LL.vals Score.the_type Score'.the_laws) (LL.tells Score.the_type Score'.the_laws) (and_then ! (load ! (from ! (stop !)) (look ! 23 refl)) (and_then ! (load ! (from ! (stop !)) (look ! 12 refl)) (and_then ! (load ! (from ! (stop !)) (look ! 17 refl)) (and_then ! (load ! (from ! (stop !)) (look ! 15 refl)) (no_more !))))) (λ is₁.
             land ! (from ! (stop !)) (init ! 8 refl ((LL.lawful Score.the_type Score'.the_laws 𝓛).typed a₁ _ is₁).0) $
-            use2 𝓛 (raw ((N 𝓛 mem run).pre (to-h α l₆ γ)) ⊛ ‵ (Both α l₆ γ)) (goes α l₆ γ Numbered (makes-numbered isW fits)) $ split ! $
-            gets 𝓛 fm i.ended (i.clauses 𝓛 mem run) known-i (to-h α l₆ γ) a₂ (λ r ws. fact_mono 𝓤 _ _ (λ e. e ∙ sym e₂)) (LL.vals Wait.the_type Wait'.the_laws) (LL.tells Wait.the_type Wait'.the_laws) (and_then ! (load ! (from ! (stop !)) (look ! 23 refl)) (and_then ! (load ! (from ! (stop !)) (look ! 12 refl)) (and_then ! (load ! (from ! (stop !)) (look ! 17 refl)) (and_then ! (load ! (from ! (stop !)) (look ! 15 refl)) (no_more !))))) (λ is₂.
-            let is = LL.owes R.the_type R'.the_laws the-answer (is₀, (is₁, (is₂, tt))) in
+            use2 𝓛 (raw ((N 𝓛 mem run).pre (to_h α l₆ γ)) ⊛ ‵ (Both α l₆ γ)) (goes α l₆ γ Numbered (makes_numbered isW fits)) $ split ! $
+            gets 𝓛 fm i.ended (i.clauses 𝓛 mem run) known-i (to_h α l₆ γ) a₂ (λ r ws. fact_mono 𝓤 _ _ (λ e. e ∙ sym e₂)) (LL.vals Wait.the_type Wait'.the_laws) (LL.tells Wait.the_type Wait'.the_laws) (and_then ! (load ! (from ! (stop !)) (look ! 23 refl)) (and_then ! (load ! (from ! (stop !)) (look ! 12 refl)) (and_then ! (load ! (from ! (stop !)) (look ! 17 refl)) (and_then ! (load ! (from ! (stop !)) (look ! 15 refl)) (no_more !))))) (λ is₂.
+            let is = LL.owes R.the_type R'.the_laws the_answer (is₀, (is₁, (is₂, tt))) in
             land ! (from ! (stop !)) (init ! 6 refl ((LL.lawful Wait.the_type Wait'.the_laws 𝓛).typed a₂ _ is₂).0) $
-            assigns ! (agg ! (and_then ! (load ! (from ! (stop !)) (look ! 10 refl)) (and_then ! (load ! (from ! (stop !)) (look ! 8 refl)) (and_then ! (load ! (from ! (stop !)) (look ! 6 refl)) (no_more !))))) (from ! (stop !)) (init ! 25 refl ((LL.lawful R.the_type R'.the_laws 𝓛).typed the-answer _ is).0) $
+            assigns ! (agg ! (and_then ! (load ! (from ! (stop !)) (look ! 10 refl)) (and_then ! (load ! (from ! (stop !)) (look ! 8 refl)) (and_then ! (load ! (from ! (stop !)) (look ! 6 refl)) (no_more !))))) (from ! (stop !)) (init ! 25 refl ((LL.lawful R.the_type R'.the_laws 𝓛).typed the_answer _ is).0) $
             -- the lifetime is ended, and the array is back
             use1 𝓛 (‵ (flft κ q) ⊛ ‵ (flft (α ∷ []) full_share) ⊛ ‵ ftrue) (id⊢ 𝓤 _) $ split3 ! $ move ! (1 ∷ []) $ lft_end ! tt $ move ! (0 ∷ 4 ∷ []) $ lent_back ! tt $ move ! (0 ∷ 4 ∷ []) $
             use2 𝓛 (‵ (froom (ty_array T'.mir 5) l₆ 0)) (back 𝓛 5 xs zs l₆ isM.1.0.1) $
@@ -220,8 +220,8 @@ module _ {M : Type 1} {𝓤 : Ura M} (𝓛 : Logic 𝓤) (mem : Memory → SProp
 
   module _ (C : Table 𝓤 H) (Λ : Loops 𝓤 H) (fm : FmC 𝓤 H 𝓛.laws C) (known-g : Triple 𝓤 (C #g) (G 𝓛 mem run)) (known-h : Triple 𝓤 (C #h) (K 𝓛 mem run)) (known-i : Triple 𝓤 (C #i) (N 𝓛 mem run)) where
     -- of five melds the first n, and the others
-    walk-all : Room u8 (length s.now) → Is X.the_row w wv → k < 2 ^ 64 → (ys : List Meld) (n : ℕ) → length ys ≡ 5 → n ≤ 5 → Walked C Λ ys n
-    walk-all n₀ isW fits ys n l b =
+    walk_all : Room u8 (length s.now) → Is X.the_row w wv → k < 2 ^ 64 → (ys : List Meld) (n : ℕ) → length ys ≡ 5 → n ≤ 5 → Walked C Λ ys n
+    walk_all n₀ isW fits ys n l b =
         let e = length-take-le n ys (omega arith) in
         subst (Walked C Λ ys) e
         (subst (λ (ms : List Meld). Walked C Λ ms (length (take n ys))) (take-append-drop n ys) (walk (take n ys) (drop_l n ys) _ _ _ refl refl refl C Λ fm known-g known-h known-i (omega arith) n₀ isW fits))
@@ -232,7 +232,7 @@ ask-spec 𝓤 𝓛 𝓜 𝓡 =
     finish 𝓛 𝓜 𝓡 f.ended stayed (f.clauses 𝓛 𝓜.mem 𝓡.run) code.env #f code.function (code.unfolded 𝓤 𝓛.H 𝓜 𝓡)
     (Goes-dropped 𝓛 1 (shr_slice_of (0 ∷ []) tt (plain (λ _. u8))) yes (λ κs x f. refl), (Goes-dropped 𝓛 1 (plain (λ _. Array T.the_row 5)) yes (λ κs x f. refl), (Goes-dropped 𝓛 1 (plain (λ _. usize)) yes (λ κs x f. refl), (Goes-dropped 𝓛 1 (plain (λ _. X.the_row)) yes (λ κs x f. refl), (Goes-dropped 𝓛 1 (plain (λ _. usize)) yes (λ κs x f. refl), tt)))))
     (λ κs. (shr_slice_vals, (array_vals vals, (uint_vals w64, (LL.vals X.the_type X'.the_laws, (uint_vals w64, tt)))))) (λ κs. (shr_slice_Tells (named 0) κs.0 u8, (Array-Tells T.the_row vals (LL.tells T.the_type T'.the_laws) 5, (uint_Tells w64, (LL.tells X.the_type X'.the_laws, (uint_Tells w64, tt))))))
-    (λ κs qs _ a _ are. needs 𝓤 (a.1.1.0 ≤ 5) _ (λ b. walk-all 𝓛 𝓜.mem 𝓡.run κs.0 qs.0 a.0 a.1.1.1.0 a.1.1.1.1.0 (tables 𝓤 𝓛.H 𝓜 𝓡 code.env).C (tables 𝓤 𝓛.H 𝓜 𝓡 code.env).Λ (framed 𝓛 𝓜 𝓡 code.env)
+    (λ κs qs _ a _ are. needs 𝓤 (a.1.1.0 ≤ 5) _ (λ b. walk_all 𝓛 𝓜.mem 𝓡.run κs.0 qs.0 a.0 a.1.1.1.0 a.1.1.1.1.0 (tables 𝓤 𝓛.H 𝓜 𝓡 code.env).C (tables 𝓤 𝓛.H 𝓜 𝓡 code.env).Λ (framed 𝓛 𝓜 𝓡 code.env)
     (cited 𝓤 𝓛.H (G 𝓛 𝓜.mem 𝓡.run) 𝓜 𝓡 code.env #g g-def.routine code.calls-ziwhakemo::ziwhakemo-score-win (g-thm.met 𝓤 𝓛 𝓜 𝓡))
     (cited 𝓤 𝓛.H (K 𝓛 𝓜.mem 𝓡.run) 𝓜 𝓡 code.env #h h-def.routine code.calls-ziwhakemo::ziwhakemo-score-reading (h_thm.met 𝓤 𝓛 𝓜 𝓡))
     (cited 𝓤 𝓛.H (N 𝓛 𝓜.mem 𝓡.run) 𝓜 𝓡 code.env #i i-def.routine code.calls-ziwhakemo::ziwhakemo-name-waits (i-thm.met 𝓤 𝓛 𝓜 𝓡))

@@ -95,8 +95,8 @@ module _ {M : Type 1} {𝓤 : Ura M} (𝓛 : Logic 𝓤) (mem : Memory → SProp
     Own α l γ = (ShrSlice erased (α ∷ []) T.the_row).own_val (slice l γ xs) (shr_slice_vals (slice l γ xs))
 
     -- what the callee's triple binds outside
-    abbrev to-h : ℕ → ℕ → GName → (K 𝓛 mem run).Ghost
-    to-h α l γ = (((κ₀, (α ∷ [], (κ₁, tt))), (q₀, (full_share, (q₁, tt))), tt, (s, (slice l γ xs, (o, tt))), (mut_slice_vals s, (mut_slice_vals (slice l γ xs), (mut_slice_vals o, tt)))), tt)
+    abbrev to_h : ℕ → ℕ → GName → (K 𝓛 mem run).Ghost
+    to_h α l γ = (((κ₀, (α ∷ [], (κ₁, tt))), (q₀, (full_share, (q₁, tt))), tt, (s, (slice l γ xs, (o, tt))), (mut_slice_vals s, (mut_slice_vals (slice l γ xs), (mut_slice_vals o, tt)))), tt)
 
     -- what the callee ensures of the lent melds is what is ensured of the first of the five
     module _ (α l : ℕ) (γ : GName) (r : Res f.signature (κ₀, (κ₁, tt))) (ls : List ℕ) where
@@ -129,9 +129,9 @@ module _ {M : Type 1} {𝓤 : Ura M} (𝓛 : Logic 𝓤) (mem : Memory → SProp
           nothing ! $ move ! (27 ∷ 0 ∷ []) $ join ! $ move ! (3 ∷ 0 ∷ []) $ join ! $ move ! (25 ∷ 0 ∷ []) $ join ! $
           -- [the tokens; the slice; what is lent; the other melds; _9; …; _0; …; the buffer; the counts]
           nothing ! $ move ! (24 ∷ 0 ∷ []) $ fjoin ! $ move ! (2 ∷ 0 ∷ []) $ fjoin ! $ move ! (23 ∷ 0 ∷ []) $ fjoin ! $ move ! (1 ∷ 0 ∷ []) $ join ! $ nothing ! $ move ! (1 ∷ 0 ∷ []) $ join ! $
-          use1 𝓛 (raw ((K 𝓛 mem run).pre (to-h α l₅ γ))) (id⊢ 𝓤 _) $
+          use1 𝓛 (raw ((K 𝓛 mem run).pre (to_h α l₅ γ))) (id⊢ 𝓤 _) $
           -- [what the callee asks; what is lent; the other melds; _9; …; _6; …; _5's end; _4; …; _0; …]
-          hands 𝓛 fm h.ended (h.clauses 𝓛 mem run) known (to-h α l₅ γ) (and_then ! (load ! (from ! (stop !)) (look ! 18 refl)) (and_then ! (load ! (from ! (stop !)) (look ! 7 refl)) (and_then ! (load ! (from ! (stop !)) (look ! 3 refl)) (no_more !)))) (λ v r ws is.
+          hands 𝓛 fm h.ended (h.clauses 𝓛 mem run) known (to_h α l₅ γ) (and_then ! (load ! (from ! (stop !)) (look ! 18 refl)) (and_then ! (load ! (from ! (stop !)) (look ! 7 refl)) (and_then ! (load ! (from ! (stop !)) (look ! 3 refl)) (no_more !)))) (λ v r ws is.
           land ! (from ! (stop !)) (init ! 23 refl ((LL.lawful R.the_type R'.the_laws 𝓛).typed r _ is).0) $
           -- [the tokens; the result; the last values; what is ensured; what is lent; the other melds; _9; …; _0; …]
           move ! (2 ∷ []) $ fsplit ! $ drop ! $ fsplit ! $ drop ! $ fsplit ! $ fsplit ! $ move ! (1 ∷ []) $ feq_l ! (λ l. fjoin ! $ move ! (3 ∷ []) $ use1 𝓛 (raw (Ensured α l₅ γ r ws.1.1.0)) (same α l₅ γ r ws.1.1.0) $
@@ -148,8 +148,8 @@ module _ {M : Type 1} {𝓤 : Ura M} (𝓛 : Logic 𝓤) (mem : Memory → SProp
 
   module _ (C : Table 𝓤 H) (Λ : Loops 𝓤 H) (fm : FmC 𝓤 H 𝓛.laws C) (known : Triple 𝓤 (C #h) (K 𝓛 mem run)) where
     -- of five melds the first n, and the others
-    walk-all : Room u8 (length s.now) → Room u8 (length o.now) → (ys : List Meld) (n : ℕ) → length ys ≡ 5 → n ≤ 5 → Walked C Λ ys n
-    walk-all n₀ n₂ ys n l b =
+    walk_all : Room u8 (length s.now) → Room u8 (length o.now) → (ys : List Meld) (n : ℕ) → length ys ≡ 5 → n ≤ 5 → Walked C Λ ys n
+    walk_all n₀ n₂ ys n l b =
         let e = length-take-le n ys (omega arith) in
         subst (Walked C Λ ys) e
         (subst (λ (ms : List Meld). Walked C Λ ms (length (take n ys))) (take-append-drop n ys) (walk (take n ys) (drop_l n ys) C Λ fm known (omega arith) n₀ n₂))
@@ -160,6 +160,6 @@ list-spec 𝓤 𝓛 𝓜 𝓡 =
     finish 𝓛 𝓜 𝓡 f.ended stayed (f.clauses 𝓛 𝓜.mem 𝓡.run) code.env #f code.function (code.unfolded 𝓤 𝓛.H 𝓜 𝓡)
     (Goes-dropped 𝓛 2 (shr_slice_of (0 ∷ []) tt (plain (λ _. u8))) yes (λ κs x f. refl), (Goes-dropped 𝓛 2 (plain (λ _. Array T.the_row 5)) yes (λ κs x f. refl), (Goes-dropped 𝓛 2 (plain (λ _. usize)) yes (λ κs x f. refl), (Goes-gave_slice 𝓛 2 1 tt (plain (λ _. u8)), tt))))
     (λ κs. (shr_slice_vals, (array_vals vals, (uint_vals w64, (mut_slice_vals, tt))))) (λ κs. (shr_slice_Tells (named 0) κs.0 u8, (Array-Tells T.the_row vals (LL.tells T.the_type T'.the_laws) 5, (uint_Tells w64, (mut_slice_Tells (named 1) κs.1.0 u8, tt)))))
-    (λ κs qs _ a _ are. needs 𝓤 (a.1.1.0 ≤ 5) _ (λ b. walk-all 𝓛 𝓜.mem 𝓡.run κs.0 κs.1.0 qs.0 qs.1.0 a.0 a.1.1.1.0 (tables 𝓤 𝓛.H 𝓜 𝓡 code.env).C (tables 𝓤 𝓛.H 𝓜 𝓡 code.env).Λ (framed 𝓛 𝓜 𝓡 code.env)
+    (λ κs qs _ a _ are. needs 𝓤 (a.1.1.0 ≤ 5) _ (λ b. walk_all 𝓛 𝓜.mem 𝓡.run κs.0 κs.1.0 qs.0 qs.1.0 a.0 a.1.1.1.0 (tables 𝓤 𝓛.H 𝓜 𝓡 code.env).C (tables 𝓤 𝓛.H 𝓜 𝓡 code.env).Λ (framed 𝓛 𝓜 𝓡 code.env)
     (cited 𝓤 𝓛.H (K 𝓛 𝓜.mem 𝓡.run) 𝓜 𝓡 code.env #h h-def.routine code.calls-ziwhakemo::ziwhakemo-list-readings (h_thm.met 𝓤 𝓛 𝓜 𝓡))
     are.0.0.1 are.1.1.1.0.0.1 a.1.0 a.1.1.0 are.1.0.1.0.1 b are.1.0 are.1.1.0.1))

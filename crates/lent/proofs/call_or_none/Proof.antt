@@ -37,7 +37,7 @@ use denote.Exit.{yes}
 use Rattle.meld.specs.declared.Meld.{Meld}
 use Rattle.meld.specs.contracts.Meld as T
 use Rattle.meld.proofs.Meld.TheLaws as T'
-use Rattle.lent.specs.Lent.{noMeld, call_at}
+use Rattle.lent.specs.Lent.{no_meld, call_at}
 use Rattle.lent.proofs.Walk.{finish}
 use Rattle.lent.specs.contracts.call_or_none.Key.{name as #f}
 use Rattle.lent.specs.contracts.call_or_none as f
@@ -94,18 +94,18 @@ module _ {M : Type 1} {𝓤 : Ura M} (𝓛 : Logic 𝓤) (mem : Memory → SProp
         rewrite ! 5 (λ (p : ℕ). ‵ (fat full_share ty_ptr l₆ 0 (vptr b p))) (sym (place_is 3 o i)) refl $
         move ! (1 ∷ []) $ use1 𝓛 (‵ Own ⊛ ‵ Own) ((shr_slice_copy 𝓛 (named 0) κ T.the_row).twice s (v ∷ [])) $ split ! $ fsplit ! $ drop ! $ fsplit ! $ drop ! $ move ! (0 ∷ 2 ∷ []) $
         looks_slice ! tt T.the_row (Is T.the_row) (shows 𝓛 T.the_row) vals (LL.tells T.the_type T'.the_laws) (LL.copy T.the_type T'.the_copy 𝓛) ys b o (λ q'.
-        elem_out ! T.the_row (Is T.the_row) (shows 𝓛 T.the_row) vals (LL.tells T.the_type T'.the_laws) q' ys i noMeld b o l (λ g.
+        elem_out ! T.the_row (Is T.the_row) (shows 𝓛 T.the_row) vals (LL.tells T.the_type T'.the_laws) q' ys i no_meld b o l (λ g.
         -- [the element; what it owns; the others; what shuts; the fractured borrow; the slice's; i's; _7; …; _0; …]
         assigns ! (of_opd ! (load ! (from ! (hop ! (look ! 9 refl) (stop !))) (look_raw ! 0 refl))) (from ! (stop !)) (init ! 7 refl ((LL.lawful T.the_type T'.the_laws 𝓛).typed (call_at ys i) _ g).0) $
         assigns ! (of_opd ! (load ! (from ! (stop !)) (look ! 7 refl))) (from ! (stop !)) (init ! 21 refl ((LL.lawful T.the_type T'.the_laws 𝓛).typed (call_at ys i) _ g).0) $
-        elem_back ! T.the_row q' ys i noMeld (vals (call_at ys i)) b o l $ shuts_slice ! tt T.the_row q' ys b o $ move ! (1 ∷ []) $ drop ! $
+        elem_back ! T.the_row q' ys i no_meld (vals (call_at ys i)) b o l $ shuts_slice ! tt T.the_row q' ys b o $ move ! (1 ∷ []) $ drop ! $
         returns_within ! Post refl (look ! 17 refl) $ forget ! 3 refl $ forget ! 5 refl $ forget ! 7 refl $ forget ! 9 refl $ forget ! 11 refl $ forget ! 13 refl $ forget ! 15 refl $ forget ! 17 refl $
         move ! (17 ∷ 18 ∷ []) $ free1 ! $ move ! (15 ∷ 16 ∷ []) $ free1 ! $ move ! (13 ∷ 14 ∷ []) $ free1 ! $ move ! (11 ∷ 12 ∷ []) $ free1 ! $ move ! (9 ∷ 10 ∷ []) $ free1 ! $ move ! (7 ∷ 8 ∷ []) $ free1 ! $ move ! (5 ∷ 6 ∷ []) $ free1 ! $ move ! (3 ∷ 4 ∷ []) $ free1 ! $ free0 ! $
         by ! (exits (call_at ys i) refl g))))
         (λ h. assigns ! (agg ! (and_then ! (lit ! tt) (and_then ! (lit ! tt) (and_then ! (lit ! tt) (no_more !))))) (from ! (stop !)) (init ! 17 refl (tt, (record { fits = lit< tt }, (record { fits = lit< tt }, (record { fits = lit< tt }, tt))))) $
         returns_within ! Post refl (look ! 17 refl) $ forget ! 9 refl $ forget ! 11 refl $ forget ! 13 refl $ forget ! 15 refl $ forget ! 17 refl $
         move ! (17 ∷ 18 ∷ []) $ free1 ! $ move ! (15 ∷ 16 ∷ []) $ free1 ! $ move ! (13 ∷ 14 ∷ []) $ free1 ! $ move ! (11 ∷ 12 ∷ []) $ free1 ! $ move ! (9 ∷ 10 ∷ []) $ free1 ! $ move ! (7 ∷ 8 ∷ []) $ free1 ! $ move ! (5 ∷ 6 ∷ []) $ free1 ! $ move ! (3 ∷ 4 ∷ []) $ free1 ! $ free0 ! $
-        by ! (exits noMeld (sym (get_or-eq_default ys noMeld (nltb→le i (length ys) h))) (LL.owes T.the_type T'.the_laws noMeld ((refl, lit< tt), ((refl, lit< tt), ((refl, lit< tt), tt))))))))))))))
+        by ! (exits no_meld (sym (get_or-eq_default ys no_meld (nltb→le i (length ys) h))) (LL.owes T.the_type T'.the_laws no_meld ((refl, lit< tt), ((refl, lit< tt), ((refl, lit< tt), tt))))))))))))))
 
 pub call-or-none-spec : {M : Type 1} → stated.statement M
 unfolding code.routine

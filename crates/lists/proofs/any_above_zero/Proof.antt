@@ -18,13 +18,13 @@ abbrev there : ℕ → Bool
 there n = not (eqb n 0)
 
 -- a turn asks the element at i: b is the answer so far
-any-turn : (q : ℕ → Bool) (l : List ℕ) (i : ℕ) (b : Bool) → i < length l → ((b || q (get_or l i 0)) || any q (drop (i + 1) l)) ≡ (b || any q (drop i l))
-any-turn q l i true h = refl
-any-turn q l i false h = rw (add-one, drop-cons l i 0)
+any_turn : (q : ℕ → Bool) (l : List ℕ) (i : ℕ) (b : Bool) → i < length l → ((b || q (get_or l i 0)) || any q (drop (i + 1) l)) ≡ (b || any q (drop i l))
+any_turn q l i true h = refl
+any_turn q l i false h = rw (add-one, drop-cons l i 0)
 
 -- behind the list's end nothing is left to ask
-any-end : (q : ℕ → Bool) (l : List ℕ) (i : ℕ) (b : Bool) → length l ≤ i → (b || any q (drop i l)) ≡ b
-any-end q l i b h = ap (λ (m : List ℕ). b || any q m) (drop_of_length-le l {i = i} h) ∙ or-false b
+any_end : (q : ℕ → Bool) (l : List ℕ) (i : ℕ) (b : Bool) → length l ≤ i → (b || any q (drop i l)) ≡ b
+any_end q l i b h = ap (λ (m : List ℕ). b || any q m) (drop_of_length-le l {i = i} h) ∙ or-false b
 
 abbrev invariant-loop : tie.invariant-loop
 invariant-loop l found₀ i₀ i-end found i = (i ≤ length l) × ((found || any there (drop i l)) ≡ any there l)
@@ -47,12 +47,12 @@ loop-less c = search rules
 loop-again : tie.Need-loop-preserved invariant-loop decreases-loop
 loop-again c =
     let l = c.before.before.loop in
-    (search rules, any-turn there c.before.before.before.args.l.now l.i l.found (search rules) ∙ l.invariant.1)
+    (search rules, any_turn there c.before.before.before.args.l.now l.i l.found (search rules) ∙ l.invariant.1)
 
 returns : tie.Need-returns invariant-loop decreases-loop
 returns c =
     let l = c.before.loop in
-    sym (any-end there c.before.before.args.l.now l.i l.found (omega arith)) ∙ l.invariant.1
+    sym (any_end there c.before.before.args.l.now l.i l.found (omega arith)) ∙ l.invariant.1
 
 pub any-above-zero-spec : {M : Type 1} → statement M
 any-above-zero-spec =

@@ -4,7 +4,7 @@ use Prim.Native.Nat.{ℕ, ◌+◌, ◌-◌, ◌≤◌}
 use mathlib.Core.List.{List}
 use lib.ListN.{length, drop, length-set, drop_of_length-le}
 use lib.Seq.{sets}
-use Rattle.lists.proofs.Stores.{sets-start, sets-turn}
+use Rattle.lists.proofs.Stores.{sets_start, sets_turn}
 use borrow.Author.Rules.{rules}
 use Rattle.lists.proofs.put_all.Statement.{statement}
 use Rattle.lists.proofs.put_all.Tie as tie
@@ -16,7 +16,7 @@ abbrev decreases-loop : tie.decreases-loop
 decreases-loop out₀ at src i₀ out i = length src - i
 
 loop-holds : tie.Need-loop-init invariant-loop decreases-loop
-loop-holds c = (search rules, search (sets-start, rules), refl)
+loop-holds c = (search rules, search (sets_start, rules), refl)
 
 shared-slice-read-out : tie.Need-shared-slice-read-out invariant-loop decreases-loop
 shared-slice-read-out c = search rules
@@ -37,7 +37,7 @@ loop-again : tie.Need-loop-preserved invariant-loop decreases-loop
 loop-again c =
     let l = c.before.before.loop in
     let a = c.before.before.before.args in
-    (search rules, sym (sets-turn l.out a.src.now a.at l.i c.before.loop-test.true) ∙ l.invariant.1, simp length-set l.invariant.2)
+    (search rules, sym (sets_turn l.out a.src.now a.at l.i c.before.loop-test.true) ∙ l.invariant.1, simp length-set l.invariant.2)
 
 same_length : tie.Need-same-length invariant-loop decreases-loop
 same_length c = search rules

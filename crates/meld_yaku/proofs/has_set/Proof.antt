@@ -3,8 +3,8 @@ use mathlib.Core.Path.{◌≡◌}
 use lib.Dec.{eqb}
 use lib.ListN.{length}
 use borrow.Author.Rules.{rules}
-use Rattle.structure.proofs.Four.{any-four}
-use Rattle.meld_yaku.specs.Melds.{setOf}
+use Rattle.structure.proofs.Four.{any_four}
+use Rattle.meld_yaku.specs.Melds.{set_of}
 use Rattle.meld_yaku.proofs.has_set.Statement.{statement}
 use Rattle.meld_yaku.proofs.has_set.Tie as tie
 
@@ -42,7 +42,7 @@ returns c =
       c.before.before.is-set-of3.ensures,
       c.is-set-of4.ensures,
     )
-    (any-four (setOf (eqb start.args.t)) start.args.t1 _ size)
+    (any_four (set_of (eqb start.args.t)) start.args.t1 _ size)
 
 pub has-set-spec : {M : Type 1} → statement M
 has-set-spec =

@@ -5,10 +5,10 @@ use Prim.Native.Nat.{◌≤◌}
 use native.Mathlib.Omega.{arith}
 use lib.ListN.{length-map}
 use Rattle.structure.specs.Structure.{reading_of}
-use Rattle.structure.proofs.Short.{short-reading}
-use Rattle.yaku.proofs.Laws.{han-plain}
-use Rattle.scoring.proofs.Laws.{basic-le}
-use Rattle.reading_score.specs.Score.{result, scoreOf}
+use Rattle.structure.proofs.Short.{short_reading}
+use Rattle.yaku.proofs.Laws.{han_plain}
+use Rattle.scoring.proofs.Laws.{basic_le}
+use Rattle.reading_score.specs.Score.{result, score_of}
 use borrow.Author.Rules.{rules}
 use Rattle.reading_score.proofs.calculate_score.Statement.{statement}
 use Rattle.reading_score.proofs.calculate_score.Tie as tie
@@ -22,7 +22,7 @@ total-han-with-dora-requires c κs =
     let a = start.args in
     let found = c.before.detect-yaku-with-context.ensures in
     let four = sym (length-map a.h.melds _) ∙ start.well-formed.0.1.1.1.0.1.0.1 in
-    (start.requires, λ e. omega (arith, found.1.0, han-plain a.w a.opened a.s (reading_of a.h) (short-reading a.h four) (sym found.1.1 ∙ e)))
+    (start.requires, λ e. omega (arith, found.1.0, han_plain a.w a.opened a.s (reading_of a.h) (short_reading a.h four) (sym found.1.1 ∙ e)))
 
 calculate-fu-requires : tie.Need-calculate-fu-requires
 calculate-fu-requires c κs = search rules
@@ -44,10 +44,10 @@ calculate-payment-requires c κs =
     let total = c.before.before.before.before.before.total-han-with-dora.result in
     let y = c.before.before.before.before.before.before.before.detect-yaku-with-context.result in
     let small : total ≤ 255 = search rules in
-    rw c.before.before.before.calculate-basic-points.ensures (basic-le total _ y.is_yakuman small)
+    rw c.before.before.before.calculate-basic-points.ensures (basic_le total _ y.is_yakuman small)
 
 returns : tie.Need-returns
-unfolding scoreOf result
+unfolding score_of result
 returns c =
     let priced = c.before.before.before in
     let counted = priced.before.before.before in

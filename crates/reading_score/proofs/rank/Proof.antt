@@ -5,9 +5,9 @@ use Prim.Native.Nat.{◌*◌, ◌≤◌}
 use native.Mathlib.Omega.{arith}
 use Rattle.rules.specs.Rules.{game}
 use Rattle.rules.proofs.Games.{table}
-use Rattle.scoring.proofs.Shares.{table-rises}
-use Rattle.reading_score.specs.Score.{yakumanFirst}
-use Rattle.reading_score.proofs.Fits.{total-fits, rank-none, rank-some}
+use Rattle.scoring.proofs.Shares.{table_rises}
+use Rattle.reading_score.specs.Score.{yakuman_first}
+use Rattle.reading_score.proofs.Fits.{total_fits, rank_none, rank_some}
 use borrow.Author.Rules.{rules}
 use Rattle.reading_score.proofs.rank.Statement.{statement}
 use Rattle.reading_score.proofs.rank.Tie as tie
@@ -20,7 +20,7 @@ has-yaku-requires : tie.Need-has-yaku-requires
 has-yaku-requires c κs = search rules
 
 returns : tie.Need-returns
-returns c = let a = c.before.before.args in rank-none (game a.v).players a.x c.before.has-yaku.result c.before.has-yaku.ensures c.if1.true
+returns c = let a = c.before.before.args in rank_none (game a.v).players a.x c.before.has-yaku.result c.before.has-yaku.ensures c.if1.true
 
 total-requires : tie.Need-total-requires
 total-requires c κs = search rules
@@ -39,8 +39,8 @@ small : (c : Digits) → (c.before.before.before.total.result ≤ 3 * 4294967295
 small c =
     let start = c.before.before.before.before.before.before in
     let p = start.args.x.payment in
-    let four = total-fits p _ start.well-formed.0.1.1.1.1.1.1.1.1.0 in
-    let few = table-rises p (game start.args.v).players 4 (table start.args.v).1 in
+    let four = total_fits p _ start.well-formed.0.1.1.1.1.1.1.1.1.0 in
+    let few = table_rises p (game start.args.v).players 4 (table start.args.v).1 in
     let told = c.before.before.before.total.ensures in
     (omega arith, ⊎_elim (λ w. omega (arith, w.1)) (λ w. omega (arith, w.1)) c.before.before.if2.branch)
 
@@ -70,8 +70,8 @@ returns-2 c =
     let branch = c.before.before.before in
     let called = branch.before in
     let a = called.before.before.before.args in
-    let digit : branch.if2.yakuman ≡ yakumanFirst a.x.is_yakuman = ⊎_elim (λ w. rw w.0.taken (omega (arith, w.1))) (λ w. rw w.0.left (omega (arith, w.1))) branch.if2.branch in
-    rank-some (game a.v).players a.x called.before.before.has-yaku.result called.total.result branch.if2.yakuman
+    let digit : branch.if2.yakuman ≡ yakuman_first a.x.is_yakuman = ⊎_elim (λ w. rw w.0.taken (omega (arith, w.1))) (λ w. rw w.0.left (omega (arith, w.1))) branch.if2.branch in
+    rank_some (game a.v).players a.x called.before.before.has-yaku.result called.total.result branch.if2.yakuman
     called.before.before.has-yaku.ensures called.before.if1.false called.total.ensures digit
 
 pub rank-spec : {M : Type 1} → statement M

@@ -4,7 +4,7 @@ use mathlib.Core.Path.{◌≡◌, sym, ◌∙◌}
 use Prim.Native.Nat.{◌-◌, ◌*◌, ◌≤◌}
 use native.Mathlib.Omega.{arith}
 use Rattle.records.specs.Buffer.{place_of}
-use Rattle.records.proofs.Places.{place-start, place-next, place_end}
+use Rattle.records.proofs.Places.{place_start, place_next, place_end}
 use borrow.Author.Rules.{rules}
 use Rattle.records.proofs.place_of.Statement.{statement}
 use Rattle.records.proofs.place_of.Tie as tie
@@ -16,7 +16,7 @@ abbrev decreases-loop : tie.decreases-loop
 decreases-loop b n at₀ i₀ at i = n - i
 
 loop-holds : tie.Need-loop-init invariant-loop decreases-loop
-loop-holds c = let a = c.before.args in (omega arith, (omega arith, place-start a.b.now a.n 0))
+loop-holds c = let a = c.before.args in (omega arith, (omega arith, place_start a.b.now a.n 0))
 
 length-at-requires : tie.Need-length-at-requires invariant-loop decreases-loop
 length-at-requires c κs = search rules
@@ -38,7 +38,7 @@ loop-again c =
       omega arith,
       (
         omega (arith, c.length_at.ensures.1),
-        rw e (place-next a.b.now a.n l.i l.at c.before.loop-test.true) ∙ l.invariant.1.1,
+        rw e (place_next a.b.now a.n l.i l.at c.before.loop-test.true) ∙ l.invariant.1.1,
       ),
     )
 

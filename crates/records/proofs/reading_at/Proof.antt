@@ -1,6 +1,6 @@
 -- `reading_at` meets its contract: by the kind, seven pairs, thirteen orphans, or a pair and four melds. Assumes nothing.
 use mathlib.Core.Path.{sym, ◌∙◌}
-use Rattle.records.proofs.Places.{reads-pairs, reads-orphans, reads-standard}
+use Rattle.records.proofs.Places.{reads_pairs, reads_orphans, reads_standard}
 use borrow.Author.Rules.{rules}
 use Rattle.records.proofs.reading_at.Statement.{statement}
 use Rattle.records.proofs.reading_at.Tie as tie
@@ -25,7 +25,7 @@ returns c =
     let a = c.before.before.before.before.before.args in
     let kind = c.before.before.before.byte_at.ensures in
     simp (c.chiitoitsu.ensures, c.before.tiles-at.ensures)
-    (sym (reads-pairs a.b.now a.i (sym kind ∙ c.before.before.if1.true)))
+    (sym (reads_pairs a.b.now a.i (sym kind ∙ c.before.before.if1.true)))
 
 add-byte-at-2 : tie.Need-overflow-add-byte-at-2
 add-byte-at-2 c = search rules
@@ -41,7 +41,7 @@ returns-2 c =
     let a = c.before.before.before.before.before.before.args in
     let kind = c.before.before.before.before.byte_at.ensures in
     simp (c.kokushi.ensures, c.before.before.byte-at2.ensures)
-    (sym (reads-orphans a.b.now a.i (sym kind ∙ c.before.if2.true)))
+    (sym (reads_orphans a.b.now a.i (sym kind ∙ c.before.if2.true)))
 
 add-meld-at : tie.Need-overflow-add-meld-at
 add-meld-at c = search rules
@@ -82,7 +82,7 @@ returns-3 c =
       c.before.before.meld-at3.ensures,
       c.before.meld-at4.ensures,
     )
-    (sym (reads-standard a.b.now a.i (λ e. c.before.before.before.before.before.before.before.if1.false (kind ∙ e)) (λ e. c.before.before.before.before.before.if2.false (kind ∙ e))))
+    (sym (reads_standard a.b.now a.i (λ e. c.before.before.before.before.before.before.before.if1.false (kind ∙ e)) (λ e. c.before.before.before.before.before.if2.false (kind ∙ e))))
 
 pub reading-at-spec : {M : Type 1} → statement M
 reading-at-spec =

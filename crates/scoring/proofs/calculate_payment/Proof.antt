@@ -11,11 +11,11 @@ use Rattle.scoring.proofs.calculate_payment.Statement.{statement}
 use Rattle.scoring.proofs.calculate_payment.Tie as tie
 
 -- a discarder owes at most six times the greatest basic points
-owed-le :
+owed_le :
     (basic : ℕ) {multiplier dealers others : ℕ} (dealer : Bool) → basic ≤ 152000 → multiplier ≡ cond dealer dealers others → dealers ≤ 6 → others ≤ 6
     → basic * multiplier ≤ 912000
-owed-le basic true h e d o = mul-le-mul h (subst (λ n. n ≤ 6) (sym e) d)
-owed-le basic false h e d o = mul-le-mul h (subst (λ n. n ≤ 6) (sym e) o)
+owed_le basic true h e d o = mul-le-mul h (subst (λ n. n ≤ 6) (sym e) d)
+owed_le basic false h e d o = mul-le-mul h (subst (λ n. n ≤ 6) (sym e) o)
 
 round-up-to-100-requires : tie.Need-round-up-to-100-requires
 round-up-to-100-requires c κs = search rules
@@ -40,13 +40,13 @@ ron-factor-requires c κs = tt
 mul-round-up-to-100-2 : tie.Need-overflow-mul-round-up-to-100-2
 mul-round-up-to-100-2 c =
     let basic = c.before.before.requires in
-    let owed = owed-le c.before.before.args.basic-points c.before.before.args.is-dealer basic c.ron-factor.ensures (lit≤ tt) (lit≤ tt) in
+    let owed = owed_le c.before.before.args.basic-points c.before.before.args.is-dealer basic c.ron-factor.ensures (lit≤ tt) (lit≤ tt) in
     record { fits = omega arith }
 
 round-up-to-100-requires-3 : tie.Need-round-up-to-100-requires-3
 round-up-to-100-requires-3 c κs =
     let basic = c.before.before.requires in
-    let owed = owed-le c.before.before.args.basic-points c.before.before.args.is-dealer basic c.ron-factor.ensures (lit≤ tt) (lit≤ tt) in
+    let owed = owed_le c.before.before.args.basic-points c.before.before.args.is-dealer basic c.ron-factor.ensures (lit≤ tt) (lit≤ tt) in
     omega arith
 
 returns-3 : tie.Need-returns-3

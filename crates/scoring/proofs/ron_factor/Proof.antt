@@ -6,7 +6,7 @@ use native.Mathlib.Omega.{arith}
 use mir.Val.{bool_byte}
 use borrow.Author.Rules.{rules}
 use Rattle.lists.specs.Fold.{one}
-use Rattle.scoring.proofs.Laws.{ron-factor}
+use Rattle.scoring.proofs.Laws.{ron_factor}
 use Rattle.scoring.proofs.ron_factor.Statement.{statement}
 use Rattle.scoring.proofs.ron_factor.Tie as tie
 
@@ -29,7 +29,7 @@ add-result : tie.Need-overflow-add-result
 add-result c = record { fits = omega (arith, small c.args.is-dealer) }
 
 returns : tie.Need-returns
-returns c = omega (arith, bit c.args.is-dealer, ron-factor c.args.is-dealer)
+returns c = omega (arith, bit c.args.is-dealer, ron_factor c.args.is-dealer)
 
 pub ron-factor-spec : {M : Type 1} → statement M
 ron-factor-spec = tie.close (tie.spec cast-result mul-result add-result returns)

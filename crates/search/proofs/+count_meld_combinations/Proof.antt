@@ -8,9 +8,9 @@ use borrow.Fn.Kinds.{In}
 use borrow.Fn.PlainCycle.{Measures, is, falls, and}
 use lib.ListN.{length}
 use Rattle.meld.specs.Meld.{meld}
-use Rattle.hand.specs.Readings.{meldLists}
-use Rattle.search.specs.Remaining.{split, left, hasSequence, hasTriplet}
-use Rattle.search.proofs.Parts.{first, Going, at-end, too_few, too_many, counted-part, counted_none, counted-all}
+use Rattle.hand.specs.Readings.{meld_lists}
+use Rattle.search.specs.Remaining.{split, left, has_sequence, has_triplet}
+use Rattle.search.proofs.Parts.{first, Going, at_end, too_few, too_many, counted_part, counted_none, counted_all}
 use Rattle.search.proofs.count_meld_combinations.Reads as count
 use Rattle.search.proofs.count_meld_combinations.Kinds as kinds
 use Rattle.search.proofs.+count_meld_combinations.Lts-count_meld_combinations as lts
@@ -18,8 +18,8 @@ use Rattle.search.proofs.Remaining.has_sequence.Reads as has-sequence
 use Rattle.search.proofs.Remaining.has_triplet.Reads as has-triplet
 use Rattle.search.proofs.Remaining.is_empty.Reads as is-empty
 use Rattle.search.proofs.Remaining.lowest.Reads as lowest
-use Rattle.search.proofs.Remaining.without_sequence.Reads as without-sequence
-use Rattle.search.proofs.Remaining.without_triplet.Reads as without-triplet
+use Rattle.search.proofs.Remaining.without_sequence.Reads as without_sequence
+use Rattle.search.proofs.Remaining.without_triplet.Reads as without_triplet
 use Rattle.search.proofs.+count_meld_combinations.{statement}
 use Rattle.search.proofs.+count_meld_combinations.Tie.{close}
 
@@ -39,14 +39,14 @@ module _ (t : ℕ) where
     lowest.Learnt,
     has-sequence.Asked,
     has-sequence.Learnt,
-    without-sequence.Asked,
-    without-sequence.Learnt,
+    without_sequence.Asked,
+    without_sequence.Learnt,
     and 0 kinds.ps (falls 0 kinds.ps ◌<◌ μ t) count.Pre,
     count.Post,
     has-triplet.Asked,
     has-triplet.Learnt,
-    without-triplet.Asked,
-    without-triplet.Learnt,
+    without_triplet.Asked,
+    without_triplet.Learnt,
   )
 
   is-empty-requires : lts.Need-is-empty-requires claims Pre count.Post
@@ -58,7 +58,7 @@ module _ (t : ℕ) where
   returns c =
       let e = c.before.before.is-empty in
       let a = c.before.before.before.args in
-      (sym (ap length (at-end a.needed (split a.s) c.if2.true (sym e.ensures ∙ c.before.if1.true))), omega arith)
+      (sym (ap length (at_end a.needed (split a.s) c.if2.true (sym e.ensures ∙ c.before.if1.true))), omega arith)
 
   returns-2 : lts.Need-returns-2 claims Pre count.Post
   returns-2 c =
@@ -92,8 +92,8 @@ module _ (t : ℕ) where
   sub-first : lts.Need-overflow-sub-count-meld-combinations claims Pre count.Post
   sub-first c = search rules
 
-  count-first : lts.Need-count-meld-combinations-requires claims Pre count.Post
-  count-first c κs =
+  count_first : lts.Need-count-meld-combinations-requires claims Pre count.Post
+  count_first c κs =
       let s = c.before.before.before.before.before.before.before in
       (omega (arith, s.requires), (omega (arith, s.requires), c.without-sequence.ensures.fair))
 
@@ -113,8 +113,8 @@ module _ (t : ℕ) where
       ⊎_elim {C = First c}
       (λ w.
       w.3
-      ∙ counted-part
-      (hasSequence q)
+      ∙ counted_part
+      (has_sequence q)
       (n - 1)
       m
       (left q)
@@ -123,7 +123,7 @@ module _ (t : ℕ) where
       (sym h.ensures ∙ w.0.taken)
       w.1.ensures.same
       w.2.ensures.0)
-      (λ w. w.1 ∙ counted_none (hasSequence q) (n - 1) m (left q) (sym h.ensures ∙ w.0.left))
+      (λ w. w.1 ∙ counted_none (has_sequence q) (n - 1) m (left q) (sym h.ensures ∙ w.0.left))
       c.if4.branch
 
   -- ---- the triplet
@@ -149,7 +149,7 @@ module _ (t : ℕ) where
       let j = c.before.before.before.before in
       let a = j.before.before.before.before.before.before.args in
       let r = j.if4.total + c.count-meld-combinations2.result in
-      (r ≡ length (meldLists a.needed (left (split a.s)))) × (r ≤ 16)
+      (r ≡ length (meld_lists a.needed (left (split a.s)))) × (r ≤ 16)
 
   both-counted : (c : lts.After-count-meld-combinations2 claims Pre count.Post) → Both c
   both-counted c =
@@ -160,7 +160,7 @@ module _ (t : ℕ) where
       let l = j.before.before in
       let s = l.before.before.before.before in
       let q = split l.lowest.result in
-      counted-all
+      counted_all
       s.args.needed
       (split s.args.s)
       q
@@ -171,8 +171,8 @@ module _ (t : ℕ) where
       s.requires.1.1
       (going l)
       (first_counted j)
-      (counted-part
-      (hasTriplet q)
+      (counted_part
+      (has_triplet q)
       (s.args.needed - 1)
       (meld q.tile 2)
       (left q)
@@ -197,7 +197,7 @@ module _ (t : ℕ) where
       let l = j.before.before in
       let s = l.before.before.before.before in
       let q = split l.lowest.result in
-      counted-all
+      counted_all
       s.args.needed
       (split s.args.s)
       q
@@ -208,7 +208,7 @@ module _ (t : ℕ) where
       s.requires.1.1
       (going l)
       (first_counted j)
-      (counted_none (hasTriplet q) (s.args.needed - 1) (meld q.tile 2) (left q) (sym h.ensures ∙ c.if5.false))
+      (counted_none (has_triplet q) (s.args.needed - 1) (meld q.tile 2) (left q) (sym h.ensures ∙ c.if5.false))
       (omega arith)
 
 pub +count-meld-combinations-spec : {M : Type 1} → statement M
@@ -222,7 +222,7 @@ pub +count-meld-combinations-spec : {M : Type 1} → statement M
     (has-sequence-requires t)
     (without-sequence-requires t)
     (sub-first t)
-    (count-first t)
+    (count_first t)
     (has-triplet-requires t)
     (without-triplet-requires t)
     (sub-second t)

@@ -10,11 +10,11 @@ use borrow.Fn.Kinds.{In}
 use borrow.Fn.PlainCycle.{Measures, is, falls, and}
 use lib.ListN.{length}
 use Rattle.meld.specs.Meld.{meld, key}
-use Rattle.hand.specs.Readings.{meldLists}
-use Rattle.search.specs.Remaining.{split, left, hasSequence, hasTriplet}
-use Rattle.search.specs.Slots.{put, recordsWith}
-use Rattle.search.proofs.Parts.{first, Going, too_few, room-first, room-second}
-use Rattle.search.proofs.Parts.{Wrote, wrote_none, left_out, wrote-part, wrote-all}
+use Rattle.hand.specs.Readings.{meld_lists}
+use Rattle.search.specs.Remaining.{split, left, has_sequence, has_triplet}
+use Rattle.search.specs.Slots.{put, records_with}
+use Rattle.search.proofs.Parts.{first, Going, too_few, room_first, room_second}
+use Rattle.search.proofs.Parts.{Wrote, wrote_none, left_out, wrote_part, wrote_all}
 use Rattle.search.proofs.Slots.{written_as}
 use Rattle.search.proofs.write_meld_combinations.Reads as write
 use Rattle.search.proofs.write_meld_combinations.Kinds as kinds
@@ -27,8 +27,8 @@ use Rattle.search.proofs.Remaining.has_triplet.Reads as has-triplet
 use Rattle.search.proofs.Remaining.is_empty.Reads as is-empty
 use Rattle.search.proofs.Remaining.key.Reads as key_of
 use Rattle.search.proofs.Remaining.lowest.Reads as lowest
-use Rattle.search.proofs.Remaining.without_sequence.Reads as without-sequence
-use Rattle.search.proofs.Remaining.without_triplet.Reads as without-triplet
+use Rattle.search.proofs.Remaining.without_sequence.Reads as without_sequence
+use Rattle.search.proofs.Remaining.without_triplet.Reads as without_triplet
 use Rattle.search.proofs.put_in.Reads as put_in
 use Rattle.search.proofs.write_end.Reads as write-end
 use Rattle.search.proofs.+write_meld_combinations_write_with.{statement}
@@ -42,8 +42,8 @@ abbrev μ-with : Measures 1 with-kinds.ps ℕ
 μ-with κs a = a.1.0 * 2 + 1
 
 -- the records under other names of the slots and of the number of melds
-records-as : (p : ℕ) (c : ℕ → ℕ) (x y : List ℕ) (m n : ℕ) → x ≡ y → m ≡ n → recordsWith p x (meldLists m c) ≡ recordsWith p y (meldLists n c)
-records-as p c x y m n e f = ap₂ (λ (l : List ℕ) (k : ℕ). recordsWith p l (meldLists k c)) e f
+records_as : (p : ℕ) (c : ℕ → ℕ) (x y : List ℕ) (m n : ℕ) → x ≡ y → m ≡ n → records_with p x (meld_lists m c) ≡ records_with p y (meld_lists n c)
+records_as p c x y m n e f = ap₂ (λ (l : List ℕ) (k : ℕ). records_with p l (meld_lists k c)) e f
 
 module _ (t : ℕ) where
   abbrev Pre : In 1 kinds.ps
@@ -61,14 +61,14 @@ module _ (t : ℕ) where
     key_of.Learnt,
     has-sequence.Asked,
     has-sequence.Learnt,
-    without-sequence.Asked,
-    without-sequence.Learnt,
+    without_sequence.Asked,
+    without_sequence.Learnt,
     and 1 with-kinds.ps (falls 1 with-kinds.ps ◌<◌ μ-with t) with.Pre,
     with.Post,
     has-triplet.Asked,
     has-triplet.Learnt,
-    without-triplet.Asked,
-    without-triplet.Learnt,
+    without_triplet.Asked,
+    without_triplet.Learnt,
   )
 
   -- ---- no meld is to be found, or nothing is left
@@ -77,7 +77,7 @@ module _ (t : ℕ) where
   write-end-requires c κs =
       let s = c.before.before.before in
       let a = s.args in
-      (s.requires.1.1.0, omega (arith, s.requires.1.1.1, ap length (records-as a.pair (left (split a.s)) a.slots a.slots a.needed 0 refl c.before.if1.true)))
+      (s.requires.1.1.0, omega (arith, s.requires.1.1.1, ap length (records_as a.pair (left (split a.s)) a.slots a.slots a.needed 0 refl c.before.if1.true)))
 
   same_length : lts.Need-same-length claims Pre write.Post
   same_length c = c.before.before.write-end.auto.1.1.1.0
@@ -86,7 +86,7 @@ module _ (t : ℕ) where
   returns c =
       let a = c.before.before.before.before.before.before.args in
       let w = c.before.before.write-end.ensures in
-      let e = records-as a.pair (left (split a.s)) a.slots a.slots 0 a.needed refl (sym c.before.before.before.before.if1.true) in
+      let e = records_as a.pair (left (split a.s)) a.slots a.slots 0 a.needed refl (sym c.before.before.before.before.if1.true) in
       written_as a.out.now _ a.at _ e w
 
   is-empty-requires : lts.Need-is-empty-requires claims Pre write.Post
@@ -122,8 +122,8 @@ module _ (t : ℕ) where
   sub-first : lts.Need-overflow-sub-write-with claims Pre write.Post
   sub-first c = search rules
 
-  write-first : lts.Need-write-with-requires claims Pre write.Post
-  write-first c κs =
+  write_first : lts.Need-write-with-requires claims Pre write.Post
+  write_first c κs =
       let r = c.before.without-sequence in
       let k = c.before.before.before.before.key in
       let l = c.before.before.before.before.before in
@@ -135,7 +135,7 @@ module _ (t : ℕ) where
           omega (arith, s.requires),
           (
             r.ensures.fair,
-            room-first a.pair a.slots a.out.now a.at a.needed (split a.s) (split l.lowest.result) (going l) s.requires.1.1.1
+            room_first a.pair a.slots a.out.now a.at a.needed (split a.s) (split l.lowest.result) (going l) s.requires.1.1.1
                 k.result (left (split r.result)) (put k.result a.slots) refl
                 (sym c.before.before.before.has-sequence.ensures ∙ c.before.before.if3.true) r.ensures.same
                 (omega (arith, k.ensures)),
@@ -160,12 +160,12 @@ module _ (t : ℕ) where
       let m = meld q.tile 0 in
       ⊎_elim {C = First c}
       (λ w.
-      wrote-part a.pair a.slots a.out.now a.at (hasSequence q) (a.needed - 1) k.result m (left q) (left (split w.1.result))
+      wrote_part a.pair a.slots a.out.now a.at (has_sequence q) (a.needed - 1) k.result m (left q) (left (split w.1.result))
       (put k.result a.slots) c.if3.out c.if3.pos
       (sym h.ensures ∙ w.0.taken) w.1.ensures.same (omega (arith, k.ensures)) refl (w.7 ∙ w.3.ensures.0) (w.6 ∙ w.3.ensures.1)
       (ap length w.6 ∙ w.3.kept.1.1.1.1.1.0))
       (λ w.
-      left_out a.pair a.slots a.out.now a.at (hasSequence q) (a.needed - 1) m (left q) c.if3.out c.if3.pos
+      left_out a.pair a.slots a.out.now a.at (has_sequence q) (a.needed - 1) m (left q) c.if3.out c.if3.pos
       (sym h.ensures ∙ w.0.left) w.1 w.2)
       c.if3.branch
 
@@ -200,7 +200,7 @@ module _ (t : ℕ) where
           omega (arith, s.requires),
           (
             r.ensures.fair,
-            room-second a.pair a.slots a.out.now a.at a.needed (split a.s) (split l.lowest.result) (going l) s.requires.1.1.1
+            room_second a.pair a.slots a.out.now a.at a.needed (split a.s) (split l.lowest.result) (going l) s.requires.1.1.1
                 (k.result + 8) (left (split r.result)) (put (k.result + 8) a.slots) refl
                 (sym c.before.before.before.has-triplet.ensures ∙ c.before.before.if4.true)
                 r.ensures.same (omega (arith, k.ensures)) j.if3.out j.if3.pos (first-wrote j),
@@ -213,7 +213,7 @@ module _ (t : ℕ) where
   Both c =
       let l = c.before.before.before.before.before.before.before.before in
       let a = l.before.before.before.before.before.args in
-      Wrote a.pair a.slots a.out.now a.at (meldLists a.needed (left (split a.s))) c.write-with2.new.1.1.1.1.1.0
+      Wrote a.pair a.slots a.out.now a.at (meld_lists a.needed (left (split a.s))) c.write-with2.new.1.1.1.1.1.0
       c.write-with2.result
 
   both-wrote : (c : lts.After-write-with2 claims Pre write.Post) → Both c
@@ -226,9 +226,9 @@ module _ (t : ℕ) where
       let l = j.before.before.before in
       let a = l.before.before.before.before.before.args in
       let q = split l.lowest.result in
-      wrote-all a.pair a.slots a.out.now a.at a.needed (split a.s) q (going l) j.if3.out d.new.1.1.1.1.1.0 j.if3.pos
+      wrote_all a.pair a.slots a.out.now a.at a.needed (split a.s) q (going l) j.if3.out d.new.1.1.1.1.1.0 j.if3.pos
       d.result (first-wrote j)
-      (wrote-part a.pair a.slots j.if3.out j.if3.pos (hasTriplet q) (a.needed - 1) (k.result + 8) (meld q.tile 2)
+      (wrote_part a.pair a.slots j.if3.out j.if3.pos (has_triplet q) (a.needed - 1) (k.result + 8) (meld q.tile 2)
       (left q) (left (split r.result)) (put (k.result + 8) a.slots) d.new.1.1.1.1.1.0 d.result
       (sym h.ensures ∙ c.before.before.before.if4.true) r.ensures.same (omega (arith, k.ensures)) refl d.ensures.0 d.ensures.1
       d.auto.1.1.1.1.1.0)
@@ -245,7 +245,7 @@ module _ (t : ℕ) where
       let j = c.before.before in
       let l = j.before.before.before in
       let a = l.before.before.before.before.before.args in
-      Wrote a.pair a.slots a.out.now a.at (meldLists a.needed (left (split a.s))) j.if3.out j.if3.pos
+      Wrote a.pair a.slots a.out.now a.at (meld_lists a.needed (left (split a.s))) j.if3.out j.if3.pos
 
   only_wrote : (c : lts.Else4 claims Pre write.Post) → Only c
   only_wrote c =
@@ -254,9 +254,9 @@ module _ (t : ℕ) where
       let l = j.before.before.before in
       let a = l.before.before.before.before.before.args in
       let q = split l.lowest.result in
-      wrote-all a.pair a.slots a.out.now a.at a.needed (split a.s) q (going l) j.if3.out j.if3.out j.if3.pos
+      wrote_all a.pair a.slots a.out.now a.at a.needed (split a.s) q (going l) j.if3.out j.if3.out j.if3.pos
       j.if3.pos (first-wrote j)
-      (left_out a.pair a.slots j.if3.out j.if3.pos (hasTriplet q) (a.needed - 1) (meld q.tile 2) (left q)
+      (left_out a.pair a.slots j.if3.out j.if3.pos (has_triplet q) (a.needed - 1) (meld q.tile 2) (left q)
       j.if3.out j.if3.pos (sym h.ensures ∙ c.if4.false) refl refl)
 
   same-length-3 : lts.Need-same-length-3 claims Pre write.Post
@@ -271,8 +271,8 @@ module _ (t : ℕ) where
   abbrev Pre-with : In 1 with-kinds.ps
   Pre-with = and 1 with-kinds.ps (is 1 with-kinds.ps μ-with t) with.Pre
 
-  abbrev claims-with : with-lts.Claims
-  claims-with = (
+  abbrev claims_with : with-lts.Claims
+  claims_with = (
     put_in.Asked,
     put_in.Learnt,
     write-end.Asked,
@@ -281,45 +281,45 @@ module _ (t : ℕ) where
     write.Post,
   )
 
-  put-in-requires : with-lts.Need-put-in-requires claims-with Pre-with with.Post
-  put-in-requires c κs = search rules
+  put_in_requires : with-lts.Need-put-in-requires claims_with Pre-with with.Post
+  put_in_requires c κs = search rules
 
-  with-end-requires : with-lts.Need-write-end-requires claims-with Pre-with with.Post
-  with-end-requires c κs =
+  with_end_requires : with-lts.Need-write-end-requires claims_with Pre-with with.Post
+  with_end_requires c κs =
       let s = c.before.before.before.before in
       let a = s.args in
       let p = c.before.before.put_in in
-      let e = records-as a.pair (left (split a.s)) p.result (put a.key a.slots) 0 a.needed p.ensures (sym c.before.if1.true) in
+      let e = records_as a.pair (left (split a.s)) p.result (put a.key a.slots) 0 a.needed p.ensures (sym c.before.if1.true) in
       (s.requires.1.1.0, omega (arith, s.requires.1.1.1, ap length e))
 
-  with-end-length : with-lts.Need-same-length claims-with Pre-with with.Post
-  with-end-length c = c.before.before.write-end.auto.1.1.1.0
+  with_end_length : with-lts.Need-same-length claims_with Pre-with with.Post
+  with_end_length c = c.before.before.write-end.auto.1.1.1.0
 
-  with-end : with-lts.Need-returns claims-with Pre-with with.Post
-  with-end c =
+  with_end : with-lts.Need-returns claims_with Pre-with with.Post
+  with_end c =
       let a = c.before.before.before.before.before.before.before.args in
       let w = c.before.before.write-end.ensures in
       let p = c.before.before.before.before.before.put_in in
-      let e = records-as a.pair (left (split a.s)) p.result (put a.key a.slots) 0 a.needed p.ensures (sym c.before.before.before.before.if1.true) in
+      let e = records_as a.pair (left (split a.s)) p.result (put a.key a.slots) 0 a.needed p.ensures (sym c.before.before.before.before.if1.true) in
       written_as a.out.now _ a.at _ e w
 
-  with-more-requires : with-lts.Need-write-meld-combinations-requires claims-with Pre-with with.Post
-  with-more-requires c κs =
+  with_more_requires : with-lts.Need-write-meld-combinations-requires claims_with Pre-with with.Post
+  with_more_requires c κs =
       let s = c.before.before.before.before in
       let a = s.args in
       let p = c.before.before.put_in in
-      let e = records-as a.pair (left (split a.s)) p.result (put a.key a.slots) a.needed a.needed p.ensures refl in
+      let e = records_as a.pair (left (split a.s)) p.result (put a.key a.slots) a.needed a.needed p.ensures refl in
       (omega (arith, s.requires), (omega (arith, s.requires), (s.requires.1.1.0, omega (arith, s.requires.1.1.1, ap length e))))
 
-  with-more-length : with-lts.Need-same-length-2 claims-with Pre-with with.Post
-  with-more-length c = c.before.before.write-meld-combinations.auto.1.1.1.1.0
+  with_more_length : with-lts.Need-same-length-2 claims_with Pre-with with.Post
+  with_more_length c = c.before.before.write-meld-combinations.auto.1.1.1.1.0
 
-  with-more : with-lts.Need-returns-2 claims-with Pre-with with.Post
-  with-more c =
+  with_more : with-lts.Need-returns-2 claims_with Pre-with with.Post
+  with_more c =
       let a = c.before.before.before.before.before.before.before.args in
       let w = c.before.before.write-meld-combinations.ensures in
       let p = c.before.before.before.before.before.put_in in
-      let e = records-as a.pair (left (split a.s)) p.result (put a.key a.slots) a.needed a.needed p.ensures refl in
+      let e = records_as a.pair (left (split a.s)) p.result (put a.key a.slots) a.needed a.needed p.ensures refl in
       written_as a.out.now _ a.at _ e w
 
 pub +write-meld-combinations-write-with-spec : {M : Type 1} → statement M
@@ -335,7 +335,7 @@ pub +write-meld-combinations-write-with-spec : {M : Type 1} → statement M
     (has-sequence-requires t)
     (without-sequence-requires t)
     (sub-first t)
-    (write-first t)
+    (write_first t)
     (has-triplet-requires t)
     (without-triplet-requires t)
     (sub-second t)
@@ -345,11 +345,11 @@ pub +write-meld-combinations-write-with-spec : {M : Type 1} → statement M
     (returns-3 t)
     (same-length-3 t)
     (returns-4 t))
-    λ t. with-lts.spec (claims-with t) (Pre-with t) with.Post
-    (put-in-requires t)
-    (with-end-requires t)
-    (with-end-length t)
-    (with-end t)
-    (with-more-requires t)
-    (with-more-length t)
-    (with-more t)
+    λ t. with-lts.spec (claims_with t) (Pre-with t) with.Post
+    (put_in_requires t)
+    (with_end_requires t)
+    (with_end_length t)
+    (with_end t)
+    (with_more_requires t)
+    (with_more_length t)
+    (with_more t)

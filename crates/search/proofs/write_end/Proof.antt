@@ -4,7 +4,7 @@ use native.Mathlib.Omega.{arith}
 use borrow.Author.Rules.{rules}
 use lib.ListN.{length}
 use Rattle.search.specs.Remaining.{split}
-use Rattle.search.proofs.Parts.{at-end, too_many, wrote_none, end-room, wrote-end}
+use Rattle.search.proofs.Parts.{at_end, too_many, wrote_none, end_room, wrote_end}
 use Rattle.search.proofs.write_end.Statement.{statement}
 use Rattle.search.proofs.write_end.Tie as tie
 
@@ -16,8 +16,8 @@ write-standard-requires c κs =
     let s = c.before.before.before.before in
     let a = s.args in
     let l : length a.slots ≡ 4 = search rules in
-    let e = at-end 0 (split a.s) refl (sym c.before.before.is-empty.ensures ∙ c.before.if1.true) in
-    omega (arith, s.requires.1, end-room a.pair a.slots a.out.now a.at _ e l)
+    let e = at_end 0 (split a.s) refl (sym c.before.before.is-empty.ensures ∙ c.before.if1.true) in
+    omega (arith, s.requires.1, end_room a.pair a.slots a.out.now a.at _ e l)
 
 add-result : tie.Need-overflow-add-result
 add-result c = search rules
@@ -30,8 +30,8 @@ returns c =
     let a = c.before.before.before.before.before.before.before.args in
     let d = c.before.before.write-standard in
     let l : length a.slots ≡ 4 = search rules in
-    let e = at-end 0 (split a.s) refl (sym c.before.before.before.before.before.is-empty.ensures ∙ c.before.before.before.before.if1.true) in
-    let w = wrote-end a.pair a.slots a.out.now a.at _ d.new.0 e l d.ensures d.auto.0 in
+    let e = at_end 0 (split a.s) refl (sym c.before.before.before.before.before.is-empty.ensures ∙ c.before.before.before.before.if1.true) in
+    let w = wrote_end a.pair a.slots a.out.now a.at _ d.new.0 e l d.ensures d.auto.0 in
     (w.place, w.bytes)
 
 returns-2 : tie.Need-returns-2

@@ -3,8 +3,8 @@ use mathlib.Core.Path.{ap₂}
 use mathlib.Core.Bool.{◌&&◌}
 use lib.Dec.{ltb, leb}
 use borrow.Author.Rules.{rules}
-use Rattle.seat_book.specs.Book.{points_of, mostDeals, mostSticks}
-use Rattle.seat_book.proofs.Magnitude.{within-at}
+use Rattle.seat_book.specs.Book.{points_of, most_deals, most_sticks}
+use Rattle.seat_book.proofs.Magnitude.{within_at}
 use Rattle.seat_book.proofs.has_room.Statement.{statement}
 use Rattle.seat_book.proofs.has_room.Tie as tie
 use Rattle.seat_book.proofs.has_room.Reads as reads
@@ -41,10 +41,10 @@ returns c =
     let c₂ = c₃.before.before in
     let c₁ = c₂.before.before in
     let b = c₁.before.before.before.before.before.args.b in
-    ap₂ (λ r s. ltb b.deals mostDeals && (leb b.sticks mostSticks && (r && s))) (within-at (points_of b 0) c₁.is_within.ensures c₁.before.is-within-arg.given)
-    (ap₂ (λ r s. r && s) (within-at (points_of b 1) c₂.is-within2.ensures c₂.before.is-within-arg2.given)
-    (ap₂ (λ r s. r && s) (within-at (points_of b 2) c₃.is-within3.ensures c₃.before.is-within-arg3.given)
-    (within-at (points_of b 3) c.is-within4.ensures c.before.is-within-arg4.given)))
+    ap₂ (λ r s. ltb b.deals most_deals && (leb b.sticks most_sticks && (r && s))) (within_at (points_of b 0) c₁.is_within.ensures c₁.before.is-within-arg.given)
+    (ap₂ (λ r s. r && s) (within_at (points_of b 1) c₂.is-within2.ensures c₂.before.is-within-arg2.given)
+    (ap₂ (λ r s. r && s) (within_at (points_of b 2) c₃.is-within3.ensures c₃.before.is-within-arg3.given)
+    (within_at (points_of b 3) c.is-within4.ensures c.before.is-within-arg4.given)))
 
 pub has-room-spec : {M : Type 1} → statement M
 has-room-spec =

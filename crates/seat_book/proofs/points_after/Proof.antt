@@ -4,8 +4,8 @@ use Prim.Native.Nat.{ℕ}
 use lib.Dec.{eqb}
 use lib.IntN.{ℤ}
 use borrow.Author.Rules.{rules}
-use Rattle.seat_book.specs.Points.{isWithin}
-use Rattle.seat_book.specs.Book.{points_of, getsOf, paysOf, declares, seatAfter}
+use Rattle.seat_book.specs.Points.{is_within}
+use Rattle.seat_book.specs.Book.{points_of, gets_of, pays_of, declares, seat_after}
 use Rattle.seat_book.proofs.Magnitude.{stands}
 use Rattle.seat_book.proofs.Rooms.{rooms}
 use Rattle.seat_book.proofs.points_after.Statement.{statement}
@@ -39,13 +39,13 @@ seat-after-requires : tie.Need-seat-after-requires
 seat-after-requires c κs =
     let e = c.before.before.before.before.before.before in
     let s = e.args.s in
-    (ap isWithin (stands (points_of e.args.b s) c.before.seat-after-arg.given) ∙ (rooms e.args.b e.requires.0.room).seats s e.requires.1.1.1, (e.requires.0.small.gets s, (e.requires.0.small.pays s, e.requires.1.1.0)))
+    (ap is_within (stands (points_of e.args.b s) c.before.seat-after-arg.given) ∙ (rooms e.args.b e.requires.0.room).seats s e.requires.1.1.1, (e.requires.0.small.gets s, (e.requires.0.small.pays s, e.requires.1.1.0)))
 
 returns : tie.Need-returns
 returns c =
     let e = c.before.before.before.before.before.before.before in
     let a = e.args in
-    let at : ℤ → ℕ → ℤ = λ p n. seatAfter p (getsOf a.x a.s) (paysOf a.x a.s) (eqb a.x.taker a.s) (declares a.d a.s) n in
+    let at : ℤ → ℕ → ℤ = λ p n. seat_after p (gets_of a.x a.s) (pays_of a.x a.s) (eqb a.x.taker a.s) (declares a.d a.s) n in
     stands c.seat-after.result c.seat-after.type-inv ∙ c.seat-after.ensures ∙ ap₂ at (stands (points_of a.b a.s) c.before.before.seat-after-arg.given) e.requires.1.0
 
 pub points-after-spec : {M : Type 1} → statement M

@@ -9,7 +9,7 @@ use mir.Syntax.{w64}
 use mir.Val.{of_z, to_z}
 use borrow.Author.Rules.{rules}
 use Rattle.seat_book.specs.declared.SeatBook.{SeatBook}
-use Rattle.seat_book.specs.Book.{sticksAfter, settled}
+use Rattle.seat_book.specs.Book.{sticks_after, settled}
 use Rattle.seat_book.proofs.Magnitude.{stands}
 use Rattle.seat_book.proofs.Rooms.{rooms}
 use Rattle.seat_book.proofs.settle.Statement.{statement}
@@ -75,7 +75,7 @@ returns c =
     let x = at_table.before.args.x in
     made (laid at-0.points-after.type-inv at-0.points-after.ensures) (laid at_1.points-after2.type-inv at_1.points-after2.ensures)
     (laid at-2.points-after3.type-inv at-2.points-after3.ensures) (laid at-3.points-after4.type-inv at-3.points-after4.ensures)
-    (at-sticks.sticks-after.ensures ∙ ap (sticksAfter x.taker) at_table.on-table.ensures.0) at-counter.counter-after.ensures
+    (at-sticks.sticks-after.ensures ∙ ap (sticks_after x.taker) at_table.on-table.ensures.0) at-counter.counter-after.ensures
 
 pub settle-spec : {M : Type 1} → statement M
 settle-spec =

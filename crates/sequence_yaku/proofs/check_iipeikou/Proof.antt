@@ -1,6 +1,6 @@
 -- `check_iipeikou` meets its contract. Assumes nothing.
 use borrow.Author.Rules.{rules}
-use Rattle.meld_yaku.proofs.Otherwise.{answer-no}
+use Rattle.meld_yaku.proofs.Otherwise.{answer_no}
 use Rattle.sequence_yaku.proofs.check_iipeikou.Statement.{statement}
 use Rattle.sequence_yaku.proofs.check_iipeikou.Tie as tie
 
@@ -8,7 +8,7 @@ enum_told : tie.Need-enum-told
 enum_told c = search rules
 
 returns : tie.Need-returns
-returns c = answer-no c.before.args.h c.match.keys2 _
+returns c = answer_no c.before.args.h c.match.keys2 _
 
 count-peikou-requires : tie.Need-count-peikou-requires
 count-peikou-requires c κs = search rules

@@ -1,6 +1,6 @@
 -- `check_sanshoku` meets its contract. Assumes nothing.
 use borrow.Author.Rules.{rules}
-use Rattle.meld_yaku.proofs.Otherwise.{answer-no}
+use Rattle.meld_yaku.proofs.Otherwise.{answer_no}
 use Rattle.sequence_yaku.proofs.check_sanshoku.Statement.{statement}
 use Rattle.sequence_yaku.proofs.check_sanshoku.Tie as tie
 
@@ -8,7 +8,7 @@ enum_told : tie.Need-enum-told
 enum_told c = search rules
 
 returns : tie.Need-returns
-returns c = answer-no c.before.args.h c.match.keys2 _
+returns c = answer_no c.before.args.h c.match.keys2 _
 
 is-sanshoku-requires : tie.Need-is-sanshoku-requires
 is-sanshoku-requires c κs = search rules

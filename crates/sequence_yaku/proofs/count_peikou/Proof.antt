@@ -2,7 +2,7 @@
 use mathlib.Core.Path.{◌≡◌}
 use lib.ListN.{length}
 use borrow.Author.Rules.{rules}
-use Rattle.sequence_yaku.proofs.Peikou.{six-comparisons}
+use Rattle.sequence_yaku.proofs.Peikou.{six_comparisons}
 use Rattle.sequence_yaku.proofs.count_peikou.Statement.{statement}
 use Rattle.sequence_yaku.proofs.count_peikou.Tie as tie
 
@@ -66,7 +66,7 @@ returns c =
         c.before.before.before.before.is-same-run5.ensures,
         c.before.is-same-run6.ensures,
       )
-          (six-comparisons start.args.t1 _ size),
+          (six_comparisons start.args.t1 _ size),
       search rules,
     )
 

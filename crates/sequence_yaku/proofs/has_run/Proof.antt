@@ -2,7 +2,7 @@
 use mathlib.Core.Path.{◌≡◌}
 use lib.ListN.{length}
 use borrow.Author.Rules.{rules}
-use Rattle.structure.proofs.Four.{any-four}
+use Rattle.structure.proofs.Four.{any_four}
 use Rattle.meld_yaku.specs.Melds.{run_from}
 use Rattle.sequence_yaku.proofs.has_run.Statement.{statement}
 use Rattle.sequence_yaku.proofs.has_run.Tie as tie
@@ -41,7 +41,7 @@ returns c =
       c.before.before.is-run-from3.ensures,
       c.is-run-from4.ensures,
     )
-    (any-four (run_from start.args.t) start.args.t1 _ size)
+    (any_four (run_from start.args.t) start.args.t1 _ size)
 
 pub has-run-spec : {M : Type 1} → statement M
 has-run-spec =

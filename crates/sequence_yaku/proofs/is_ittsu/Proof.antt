@@ -2,7 +2,7 @@
 use mathlib.Core.Path.{◌≡◌}
 use lib.ListN.{length}
 use borrow.Author.Rules.{rules}
-use Rattle.sequence_yaku.proofs.Lines.{ittsu-lines}
+use Rattle.sequence_yaku.proofs.Lines.{ittsu_lines}
 use Rattle.sequence_yaku.proofs.is_ittsu.Statement.{statement}
 use Rattle.sequence_yaku.proofs.is_ittsu.Tie as tie
 
@@ -22,7 +22,7 @@ returns : tie.Need-returns
 returns c =
     let start = c.before.before.before.before in
     let size : length start.args.t1 ≡ 4 = search rules in
-    simp (c.before.straight-of-suit.ensures, c.straight-of-suit2.ensures) (ittsu-lines start.args.t1 _ size)
+    simp (c.before.straight-of-suit.ensures, c.straight-of-suit2.ensures) (ittsu_lines start.args.t1 _ size)
 
 pub is-ittsu-spec : {M : Type 1} → statement M
 is-ittsu-spec =

@@ -2,7 +2,7 @@
 use mathlib.Core.Path.{◌≡◌}
 use lib.ListN.{length}
 use borrow.Author.Rules.{rules}
-use Rattle.sequence_yaku.proofs.Lines.{doujun-lines}
+use Rattle.sequence_yaku.proofs.Lines.{doujun_lines}
 use Rattle.sequence_yaku.proofs.is_sanshoku.Statement.{statement}
 use Rattle.sequence_yaku.proofs.is_sanshoku.Tie as tie
 
@@ -22,7 +22,7 @@ returns : tie.Need-returns
 returns c =
     let start = c.before.before.before.before in
     let size : length start.args.t1 ≡ 4 = search rules in
-    simp (c.before.runs-of-number.ensures, c.runs-of-number2.ensures) (doujun-lines start.args.t1 _ size)
+    simp (c.before.runs-of-number.ensures, c.runs-of-number2.ensures) (doujun_lines start.args.t1 _ size)
 
 pub is-sanshoku-spec : {M : Type 1} → statement M
 is-sanshoku-spec =

@@ -1,7 +1,7 @@
 -- `check_sanankou` meets its contract. Assumes nothing.
 use borrow.Author.Rules.{rules}
-use Rattle.meld_yaku.proofs.Otherwise.{answer-no}
-use Rattle.set_yaku.specs.Sets.{sanAnkou}
+use Rattle.meld_yaku.proofs.Otherwise.{answer_no}
+use Rattle.set_yaku.specs.Sets.{san_ankou}
 use Rattle.set_yaku.proofs.check_sanankou.Statement.{statement}
 use Rattle.set_yaku.proofs.check_sanankou.Tie as tie
 
@@ -9,7 +9,7 @@ enum_told : tie.Need-enum-told
 enum_told c = search rules
 
 returns : tie.Need-returns
-returns c = answer-no c.before.args.h c.match.keys2 _
+returns c = answer_no c.before.args.h c.match.keys2 _
 
 winning-tile-in-closed-sequence-requires : tie.Need-winning-tile-in-closed-sequence-requires
 winning-tile-in-closed-sequence-requires c κs = search rules
@@ -18,7 +18,7 @@ count-concealed-requires : tie.Need-count-concealed-requires
 count-concealed-requires c κs = search rules
 
 returns-2 : tie.Need-returns-2
-unfolding sanAnkou
+unfolding san_ankou
 returns-2 c = simp (
   c.before.before.before.enum_told.given.1,
   c.count-concealed.ensures.0,

@@ -4,7 +4,7 @@ use mathlib.Core.Path.{sym, ◌∙◌}
 use lib.ListN.{length-map}
 use borrow.Author.Rules.{rules}
 use borrow.Author.Tests.{not-true}
-use Rattle.set_yaku.proofs.Few.{no-sets}
+use Rattle.set_yaku.proofs.Few.{no_sets_holds}
 use Rattle.set_yaku.proofs.check_sets.Statement.{statement}
 use Rattle.set_yaku.proofs.check_sets.Tie as tie
 
@@ -16,7 +16,7 @@ returns c =
     let start = c.before.before in
     let a = start.args in
     let size = sym (length-map a.h.melds _) ∙ start.well-formed.0.1.1.1.0.1.0.1 in
-    no-sets a.w a.h size (sym c.before.has-three-sets.ensures ∙ not-true _ c.if1.true)
+    no_sets_holds a.w a.h size (sym c.before.has-three-sets.ensures ∙ not-true _ c.if1.true)
 
 check-toitoi-requires : tie.Need-check-toitoi-requires
 check-toitoi-requires c κs = search rules

@@ -1,6 +1,6 @@
 -- `check_suuankou_tanki` meets its contract. Assumes nothing.
 use borrow.Author.Rules.{rules}
-use Rattle.meld_yaku.proofs.Otherwise.{answer-no}
+use Rattle.meld_yaku.proofs.Otherwise.{answer_no}
 use Rattle.set_yaku.specs.Sets.{suuankou}
 use Rattle.set_yaku.proofs.check_suuankou_tanki.Statement.{statement}
 use Rattle.set_yaku.proofs.check_suuankou_tanki.Tie as tie
@@ -9,7 +9,7 @@ enum-known-s : tie.Need-enum-known-s
 enum-known-s c = search rules
 
 returns : tie.Need-returns
-returns c = answer-no c.before.args.h c.match.keys2 _
+returns c = answer_no c.before.args.h c.match.keys2 _
 
 count-concealed-requires : tie.Need-count-concealed-requires
 count-concealed-requires c κs = search rules

@@ -2,7 +2,7 @@
 use mathlib.Core.Path.{◌≡◌}
 use lib.ListN.{length}
 use borrow.Author.Rules.{rules}
-use Rattle.structure.proofs.Four.{count-four}
+use Rattle.structure.proofs.Four.{count_four}
 use Rattle.wait.specs.Concealed.{concealed}
 use Rattle.set_yaku.proofs.count_concealed.Statement.{statement}
 use Rattle.set_yaku.proofs.count_concealed.Tie as tie
@@ -45,7 +45,7 @@ returns c =
         c.before.before.before.is-concealed-set3.ensures,
         c.before.is-concealed-set4.ensures,
       )
-          (count-four (concealed start.args.w start.args.kept) start.args.t1 _ size),
+          (count_four (concealed start.args.w start.args.kept) start.args.t1 _ size),
       c.how-many.ensures.1,
     )
 

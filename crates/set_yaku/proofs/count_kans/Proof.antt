@@ -2,8 +2,8 @@
 use mathlib.Core.Path.{◌≡◌}
 use lib.ListN.{length}
 use borrow.Author.Rules.{rules}
-use Rattle.meld.specs.Meld.{isKan}
-use Rattle.structure.proofs.Four.{count-four}
+use Rattle.meld.specs.Meld.{is_kan}
+use Rattle.structure.proofs.Four.{count_four}
 use Rattle.set_yaku.specs.Sets.{kans}
 use Rattle.set_yaku.proofs.count_kans.Statement.{statement}
 use Rattle.set_yaku.proofs.count_kans.Tie as tie
@@ -47,7 +47,7 @@ returns c =
         c.before.before.before.is-kan3.ensures,
         c.before.is-kan4.ensures,
       )
-          (count-four isKan start.args.t1 _ size),
+          (count_four is_kan start.args.t1 _ size),
       c.how-many.ensures.1,
     )
 

@@ -2,8 +2,8 @@
 use mathlib.Core.Path.{◌≡◌}
 use lib.ListN.{length}
 use borrow.Author.Rules.{rules}
-use Rattle.meld.specs.Meld.{isTripletOrKan}
-use Rattle.structure.proofs.Four.{count-four}
+use Rattle.meld.specs.Meld.{is_triplet_or_kan}
+use Rattle.structure.proofs.Four.{count_four}
 use Rattle.set_yaku.proofs.count_triplets.Statement.{statement}
 use Rattle.set_yaku.proofs.count_triplets.Tie as tie
 
@@ -45,7 +45,7 @@ returns c =
         c.before.before.before.is-triplet-or-kan3.ensures,
         c.before.is-triplet-or-kan4.ensures,
       )
-          (count-four isTripletOrKan start.args.t1 _ size),
+          (count_four is_triplet_or_kan start.args.t1 _ size),
       c.how-many.ensures.1,
     )
 

@@ -2,7 +2,7 @@
 use mathlib.Core.Path.{◌≡◌}
 use lib.ListN.{length}
 use borrow.Author.Rules.{rules}
-use Rattle.set_yaku.proofs.Lines.{doukou-lines}
+use Rattle.set_yaku.proofs.Lines.{doukou_lines}
 use Rattle.set_yaku.proofs.is_sanshoku_doukou.Statement.{statement}
 use Rattle.set_yaku.proofs.is_sanshoku_doukou.Tie as tie
 
@@ -22,7 +22,7 @@ returns : tie.Need-returns
 returns c =
     let start = c.before.before.before.before in
     let size : length start.args.t1 ≡ 4 = search rules in
-    simp (c.before.sets-of-number.ensures, c.sets-of-number2.ensures) (doukou-lines start.args.t1 _ size)
+    simp (c.before.sets-of-number.ensures, c.sets-of-number2.ensures) (doukou_lines start.args.t1 _ size)
 
 pub is-sanshoku-doukou-spec : {M : Type 1} → statement M
 is-sanshoku-doukou-spec =

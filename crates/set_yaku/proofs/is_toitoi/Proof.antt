@@ -2,8 +2,8 @@
 use mathlib.Core.Path.{◌≡◌}
 use lib.ListN.{length}
 use borrow.Author.Rules.{rules}
-use Rattle.meld.specs.Meld.{isTripletOrKan}
-use Rattle.structure.proofs.Four.{all-four}
+use Rattle.meld.specs.Meld.{is_triplet_or_kan}
+use Rattle.structure.proofs.Four.{all_four}
 use Rattle.set_yaku.specs.Sets.{toitoi}
 use Rattle.set_yaku.proofs.is_toitoi.Statement.{statement}
 use Rattle.set_yaku.proofs.is_toitoi.Tie as tie
@@ -43,7 +43,7 @@ returns c =
       c.before.before.is-triplet-or-kan3.ensures,
       c.is-triplet-or-kan4.ensures,
     )
-    (all-four isTripletOrKan start.args.t1 _ size)
+    (all_four is_triplet_or_kan start.args.t1 _ size)
 
 pub is-toitoi-spec : {M : Type 1} → statement M
 is-toitoi-spec =

@@ -6,8 +6,8 @@ use Prim.Native.Nat.{ℕ, ◌+◌, ◌≤◌}
 use native.Mathlib.Omega.{arith}
 use lib.Dec.{eqb}
 use Rattle.seat_book.specs.declared.Settlement.{Settlement}
-use Rattle.settlements.specs.Settlements.{gain, given, winSettlement}
-use Rattle.settlements.proofs.Fours.{four-le}
+use Rattle.settlements.specs.Settlements.{gain, given, win_settlement}
+use Rattle.settlements.proofs.Fours.{four_le}
 use borrow.Author.Rules.{rules}
 use Rattle.settlements.proofs.win_settlement.Statement.{statement}
 use Rattle.settlements.proofs.win_settlement.Tie as tie
@@ -61,7 +61,7 @@ given-requires-4 : tie.Need-given-requires-4
 given-requires-4 c κs = search rules
 
 returns : tie.Need-returns
-unfolding winSettlement
+unfolding win_settlement
 returns c =
     let g₃ = c.before in
     let g₂ = g₃.before in
@@ -83,7 +83,7 @@ returns c =
     let seat = a.w.seat in
     let all = gain a.p a.counter a.w a.d in
     let same : (o₀.owes.result + o₁.owes2.result + o₂.owes3.result + o₃.owes4.result) ≡ all = λ i. e₀.0 i + e₁.0 i + e₂.0 i + e₃.0 i in
-    (made (f₀.0 ∙ ap (given (eqb 0 seat)) same) (f₁.0 ∙ ap (given (eqb 1 seat)) same) (f₂.0 ∙ ap (given (eqb 2 seat)) same) (f₃.0 ∙ ap (given (eqb 3 seat)) same) e₀.0 e₁.0 e₂.0 e₃.0, record { gets = four-le (wider f₀.1) (wider f₁.1) (wider f₂.1) (wider f₃.1); pays = four-le (wide e₀.1) (wide e₁.1) (wide e₂.1) (wide e₃.1) })
+    (made (f₀.0 ∙ ap (given (eqb 0 seat)) same) (f₁.0 ∙ ap (given (eqb 1 seat)) same) (f₂.0 ∙ ap (given (eqb 2 seat)) same) (f₃.0 ∙ ap (given (eqb 3 seat)) same) e₀.0 e₁.0 e₂.0 e₃.0, record { gets = four_le (wider f₀.1) (wider f₁.1) (wider f₂.1) (wider f₃.1); pays = four_le (wide e₀.1) (wide e₁.1) (wide e₂.1) (wide e₃.1) })
 
 pub win-settlement-spec : {M : Type 1} → statement M
 win-settlement-spec =

@@ -3,7 +3,7 @@ use mathlib.Core.Path.{◌≡◌, ap, ◌∙◌}
 use Prim.Native.Nat.{ℕ, ◌%◌}
 use native.Mathlib.Omega.{arith}
 use borrow.Author.Rules.{rules}
-use Rattle.tile.specs.Tile.{isTerminalOrHonor}
+use Rattle.tile.specs.Tile.{is_terminal_or_honor}
 use Rattle.special.proofs.is_orphan.Statement.{statement}
 use Rattle.special.proofs.is_orphan.Tie as tie
 
@@ -16,7 +16,7 @@ is-terminal-or-honor-requires c κs = search rules
 returns : tie.Need-returns
 returns c =
     let same : c.before.args.t % 256 ≡ c.before.args.t = omega arith in
-    c.is-terminal-or-honor.ensures ∙ ap (λ (t : ℕ). isTerminalOrHonor t) same
+    c.is-terminal-or-honor.ensures ∙ ap (λ (t : ℕ). is_terminal_or_honor t) same
 
 pub is-orphan-spec : {M : Type 1} → statement M
 is-orphan-spec = tie.close (tie.spec cast-t4 is-terminal-or-honor-requires returns)

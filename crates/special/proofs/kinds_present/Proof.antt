@@ -5,12 +5,12 @@ use native.Mathlib.Omega.{arith}
 use lib.ListN.{length}
 use borrow.Author.Rules.{rules}
 use Rattle.hand.specs.Counts.{held}
-use Rattle.special.proofs.Words.{wordFrom, word_end, word_more, word_first, word_small}
+use Rattle.special.proofs.Words.{word_from, word_end, word_more, word_first, word_small}
 use Rattle.special.proofs.kinds_present.Statement.{statement}
 use Rattle.special.proofs.kinds_present.Tie as tie
 
 abbrev invariant-loop : tie.invariant-loop
-invariant-loop counts word₀ i₀ word i = (i ≤ 34) × (length counts ≡ 34) × (word ≡ wordFrom (held counts) i)
+invariant-loop counts word₀ i₀ word i = (i ≤ 34) × (length counts ≡ 34) × (word ≡ word_from (held counts) i)
 
 abbrev decreases-loop : tie.decreases-loop
 decreases-loop counts word₀ i₀ word i = i

@@ -9,21 +9,21 @@ use borrow.Author.Tests.{not-true, not-false}
 use Rattle.lists.specs.Fold.{all}
 use Rattle.tile.specs.Tile.{tiles}
 use Rattle.hand.specs.Counts.{held}
-use Rattle.special.proofs.Loops.{rest, rest-first, all_pass, all-fail, all_end}
-use Rattle.special.proofs.Special.{noneOrTwo}
+use Rattle.special.proofs.Loops.{rest, rest_first, all_pass, all_fail, all_end}
+use Rattle.special.proofs.Special.{none_or_two}
 use Rattle.special.proofs.none_or_two.Statement.{statement}
 use Rattle.special.proofs.none_or_two.Tie as tie
 
 abbrev invariant-loop : tie.invariant-loop
 invariant-loop counts i₀ i =
-    (i ≤ 34) × (length counts ≡ 34) × (all (noneOrTwo (held counts)) tiles ≡ all (noneOrTwo (held counts)) (rest i))
+    (i ≤ 34) × (length counts ≡ 34) × (all (none_or_two (held counts)) tiles ≡ all (none_or_two (held counts)) (rest i))
 
 abbrev decreases-loop : tie.decreases-loop
 decreases-loop counts i₀ i = 34 - i
 
 loop-holds : tie.Need-loop-init invariant-loop decreases-loop
 loop-holds c =
-    (omega arith, c.requires, ap (λ (l : List ℕ). all (noneOrTwo (held c.args.counts.now)) l) (sym rest-first))
+    (omega arith, c.requires, ap (λ (l : List ℕ). all (none_or_two (held c.args.counts.now)) l) (sym rest_first))
 
 shared-slice-read-x : tie.Need-shared-slice-read-x invariant-loop decreases-loop
 shared-slice-read-x c = search rules
@@ -32,7 +32,7 @@ returns : tie.Need-returns invariant-loop decreases-loop
 returns c =
     let l = c.before.before.before.loop in
     let a = c.before.before.before.before.args in
-    sym (l.invariant.2 ∙ all-fail (noneOrTwo (held a.counts.now)) l.i (omega arith) (not-true _ c.if1.true))
+    sym (l.invariant.2 ∙ all_fail (none_or_two (held a.counts.now)) l.i (omega arith) (not-true _ c.if1.true))
 
 add-i : tie.Need-overflow-add-i invariant-loop decreases-loop
 add-i c = search rules
@@ -44,12 +44,12 @@ loop-again : tie.Need-loop-preserved invariant-loop decreases-loop
 loop-again c =
     let l = c.before.before.before.loop in
     let a = c.before.before.before.before.args in
-    (omega arith, l.invariant.1, l.invariant.2 ∙ all_pass (noneOrTwo (held a.counts.now)) l.i (omega arith) (not-false _ c.if1.false))
+    (omega arith, l.invariant.1, l.invariant.2 ∙ all_pass (none_or_two (held a.counts.now)) l.i (omega arith) (not-false _ c.if1.false))
 
 returns-2 : tie.Need-returns-2 invariant-loop decreases-loop
 returns-2 c =
     let l = c.before.loop in
-    sym (l.invariant.2 ∙ all_end (noneOrTwo (held c.before.before.args.counts.now)) l.i (omega arith))
+    sym (l.invariant.2 ∙ all_end (none_or_two (held c.before.before.args.counts.now)) l.i (omega arith))
 
 pub none-or-two-spec : {M : Type 1} → statement M
 none-or-two-spec =

@@ -1,11 +1,11 @@
 -- `special::write_chiitoitsu` meets its contract. Assumes nothing.
 use native.Mathlib.Omega.{arith}
 use borrow.Author.Rules.{rules}
-use Rattle.lists.proofs.Finite.{true→T}
+use Rattle.lists.proofs.Finite.{true→t}
 use Rattle.hand.specs.Counts.{held}
-use Rattle.hand.specs.Readings.{isPairs}
-use Rattle.hand.proofs.Tests.{seven-twos}
-use Rattle.special.proofs.Special.{pairs-written}
+use Rattle.hand.specs.Readings.{is_pairs}
+use Rattle.hand.proofs.Tests.{seven_twos}
+use Rattle.special.proofs.Special.{pairs_written}
 use Rattle.special.proofs.write_chiitoitsu.Statement.{statement}
 use Rattle.special.proofs.write_chiitoitsu.Tie as tie
 
@@ -19,7 +19,7 @@ write-twos-requires : tie.Need-write-twos-requires
 write-twos-requires c κs =
     let s = c.before.before.before.before.before.before.before in
     let h = held s.args.counts.now in
-    (s.requires.0, omega (arith, s.requires.1.1, seven-twos h (true→T (isPairs h) s.requires.1.0)))
+    (s.requires.0, omega (arith, s.requires.1.1, seven_twos h (true→t (is_pairs h) s.requires.1.0)))
 
 same_length : tie.Need-same-length
 same_length c = search rules
@@ -29,8 +29,8 @@ returns c =
     let s = c.before.before.before.before.before.before.before.before.before.before in
     let w = c.before.before.write-twos.ensures in
     let h = held s.args.counts.now in (
-      omega (arith, w.0, seven-twos h (true→T (isPairs h) s.requires.1.0)),
-      pairs-written h s.requires.1.0 s.args.out.now _ _ s.args.at c.before.before.before.before.before.before.write-head.ensures w.1,
+      omega (arith, w.0, seven_twos h (true→t (is_pairs h) s.requires.1.0)),
+      pairs_written h s.requires.1.0 s.args.out.now _ _ s.args.at c.before.before.before.before.before.before.write-head.ensures w.1,
     )
 
 pub write-chiitoitsu-spec : {M : Type 1} → statement M

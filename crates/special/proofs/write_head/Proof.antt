@@ -2,7 +2,7 @@
 use native.Mathlib.Omega.{arith}
 use lib.ListN.{length-set}
 use borrow.Author.Rules.{rules}
-use Rattle.special.proofs.Special.{head-written}
+use Rattle.special.proofs.Special.{head_written}
 use Rattle.special.proofs.write_head.Statement.{statement}
 use Rattle.special.proofs.write_head.Tie as tie
 
@@ -31,7 +31,7 @@ same_length : tie.Need-same-length
 same_length c = search rules
 
 returns : tie.Need-returns
-returns c = head-written c.args.out.now c.args.at c.args.size c.args.kind
+returns c = head_written c.args.out.now c.args.at c.args.size c.args.kind
 
 pub write-head-spec : {M : Type 1} → statement M
 write-head-spec =

@@ -1,7 +1,7 @@
 -- `special::write_kokushi` meets its contract. Assumes nothing.
 use mathlib.Core.Path.{refl}
 use borrow.Author.Rules.{rules}
-use Rattle.special.proofs.Special.{orphans-written}
+use Rattle.special.proofs.Special.{orphans_written}
 use Rattle.special.proofs.write_kokushi.Statement.{statement}
 use Rattle.special.proofs.write_kokushi.Tie as tie
 
@@ -23,7 +23,7 @@ same_length c = search rules
 returns : tie.Need-returns
 returns c =
     let a = c.before.before.before.before.before.args in
-    (refl, orphans-written a.out.now _ a.at a.p c.before.before.write-head.ensures)
+    (refl, orphans_written a.out.now _ a.at a.p c.before.before.write-head.ensures)
 
 pub write-kokushi-spec : {M : Type 1} → statement M
 write-kokushi-spec =

@@ -7,20 +7,20 @@ use lib.ListN.{length}
 use borrow.Author.Rules.{rules}
 use borrow.Author.Tests.{eq-eqb, ne_eqb}
 use Rattle.hand.specs.Counts.{held}
-use Rattle.special.proofs.Loops.{Writing, writing-first, writing-room, writing_pass, writing-fail, writing-end}
-use Rattle.special.proofs.Special.{isTwo}
+use Rattle.special.proofs.Loops.{Writing, writing_first, writing_room, writing_pass, writing_fail, writing_end}
+use Rattle.special.proofs.Special.{is_two}
 use Rattle.special.proofs.write_twos.Statement.{statement}
 use Rattle.special.proofs.write_twos.Tie as tie
 
 abbrev invariant-loop : tie.invariant-loop
-invariant-loop counts out₀ at pos₀ i₀ out pos i = (i ≤ 34) × (length counts ≡ 34) × Writing (isTwo (held counts)) out₀ at out pos i
+invariant-loop counts out₀ at pos₀ i₀ out pos i = (i ≤ 34) × (length counts ≡ 34) × Writing (is_two (held counts)) out₀ at out pos i
 
 abbrev decreases-loop : tie.decreases-loop
 decreases-loop counts out₀ at pos₀ i₀ out pos i = 34 - i
 
 loop-holds : tie.Need-loop-init invariant-loop decreases-loop
 loop-holds c =
-    (omega arith, c.requires.0, writing-first (isTwo (held c.args.counts.now)) c.args.out.now c.args.at)
+    (omega arith, c.requires.0, writing_first (is_two (held c.args.counts.now)) c.args.out.now c.args.at)
 
 shared-slice-read-if1 : tie.Need-shared-slice-read-if1 invariant-loop decreases-loop
 shared-slice-read-if1 c = search rules
@@ -32,7 +32,7 @@ slice-write-out : tie.Need-slice-write-out invariant-loop decreases-loop
 slice-write-out c =
     let l = c.before.before.before.loop in
     let a = c.before.before.before.before.args in
-    writing-room (isTwo (held a.counts.now)) a.out.now a.at l.out l.pos l.i l.invariant.2 (omega arith)
+    writing_room (is_two (held a.counts.now)) a.out.now a.at l.out l.pos l.i l.invariant.2 (omega arith)
     (eq-eqb _ _ c.if1.true) c.before.before.before.before.requires.1
 
 add-pos : tie.Need-overflow-add-pos invariant-loop decreases-loop
@@ -48,13 +48,13 @@ loop-again : tie.Need-loop-preserved invariant-loop decreases-loop
 loop-again c =
     let l = c.before.before.before.loop in
     let a = c.before.before.before.before.args in
-    let p = isTwo (held a.counts.now) in
+    let p = is_two (held a.counts.now) in
     let same : l.i % 256 ≡ l.i = omega arith in (
       omega arith,
       l.invariant.1,
       ⊎_elim
           (λ w. writing_pass p a.out.now a.at l.out l.pos l.i l.invariant.2 (omega arith) (eq-eqb _ _ w.0.taken) (l.i % 256) same c.if1.out c.if1.pos w.1 w.2)
-          (λ w. writing-fail p a.out.now a.at l.out l.pos l.i l.invariant.2 (omega arith) (ne_eqb _ _ w.0.left) c.if1.out c.if1.pos w.1 w.2)
+          (λ w. writing_fail p a.out.now a.at l.out l.pos l.i l.invariant.2 (omega arith) (ne_eqb _ _ w.0.left) c.if1.out c.if1.pos w.1 w.2)
           c.if1.branch,
     )
 
@@ -65,7 +65,7 @@ returns : tie.Need-returns invariant-loop decreases-loop
 returns c =
     let l = c.before.loop in
     let a = c.before.before.args in
-    writing-end (isTwo (held a.counts.now)) a.out.now a.at l.out l.pos l.i l.invariant.2 (omega arith)
+    writing_end (is_two (held a.counts.now)) a.out.now a.at l.out l.pos l.i l.invariant.2 (omega arith)
 
 pub write-twos-spec : {M : Type 1} → statement M
 write-twos-spec =

@@ -1,6 +1,6 @@
 -- `add_tile` meets its contract: what is stored at one tile. Assumes nothing.
 use lib.ListN.{length-set}
-use Rattle.tile_words.proofs.Adding.{add_none, add-full, add-next}
+use Rattle.tile_words.proofs.Adding.{add_none, add_full, add_next}
 use borrow.Author.Rules.{rules}
 use Rattle.tile_words.proofs.add_tile.Statement.{statement}
 use Rattle.tile_words.proofs.add_tile.Tie as tie
@@ -24,12 +24,12 @@ returns-2 : tie.Need-returns-2
 returns-2 c =
     let s = c.before.before.before.before in
     let cs = s.args.counts.now in
-    (simp length-set s.requires, λ u h. add-next cs s.args.t u (search rules) (search rules))
+    (simp length-set s.requires, λ u h. add_next cs s.args.t u (search rules) (search rules))
 
 returns-3 : tie.Need-returns-3
 returns-3 c =
     let s = c.before.before.before in
-    (s.requires, λ u h. add-full s.args.counts.now s.args.t u (search rules))
+    (s.requires, λ u h. add_full s.args.counts.now s.args.t u (search rules))
 
 pub add-tile-spec : {M : Type 1} → statement M
 add-tile-spec =

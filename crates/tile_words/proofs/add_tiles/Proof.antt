@@ -7,15 +7,15 @@ use lib.Dec.{eqb}
 use lib.ListN.{length, drop}
 use Rattle.lists.specs.Fold.{one, count}
 use Rattle.hand.specs.Counts.{held}
-use Rattle.tile_words.specs.Words.{tilesFrom, addTo, charBefore}
-use Rattle.tile_words.proofs.Adding.{add_turn, add-end}
+use Rattle.tile_words.specs.Words.{tiles_from, add_to, char_before}
+use Rattle.tile_words.proofs.Adding.{add_turn, add_end}
 use borrow.Author.Rules.{rules}
 use Rattle.tile_words.proofs.add_tiles.Statement.{statement}
 use Rattle.tile_words.proofs.add_tiles.Tie as tie
 
 -- of the tile u: what is counted, with the tiles that the word names from i on
 abbrev with_rest : List ℕ → List ℕ → ℕ → ℕ → ℕ
-with_rest counts word i u = addTo (held counts u) (count (eqb u) (tilesFrom (charBefore word i) (drop i word)))
+with_rest counts word i u = add_to (held counts u) (count (eqb u) (tiles_from (char_before word i) (drop i word)))
 
 abbrev invariant-loop : tie.invariant-loop
 invariant-loop counts₀ word i₀ i-end counts i =
@@ -50,7 +50,7 @@ loop-again c =
         omega arith,
         λ u h.
             let n = held l.counts u in
-            let here = c.add-tile.ensures.1 u h ∙ ap (λ (t : ℕ). addTo n (one (eqb u t))) tile in
+            let here = c.add-tile.ensures.1 u h ∙ ap (λ (t : ℕ). add_to n (one (eqb u t))) tile in
             add_turn w l.i within u n _ here ∙ l.invariant.1.1 u h,
       ),
     )
@@ -59,7 +59,7 @@ returns : tie.Need-returns invariant-loop decreases-loop
 returns c =
     let w = c.before.before.before.args.word.now in
     let l = c.before.loop in
-    (l.invariant.0, λ u h. add-end w l.i c.loop-test.false (charBefore w l.i) u (held l.counts u) ∙ l.invariant.1.1 u h)
+    (l.invariant.0, λ u h. add_end w l.i c.loop-test.false (char_before w l.i) u (held l.counts u) ∙ l.invariant.1.1 u h)
 
 pub add-tiles-spec : {M : Type 1} → statement M
 add-tiles-spec =

@@ -3,14 +3,14 @@ use mathlib.Core.Path.{sym, ◌∙◌, ◌≡◌}
 use Prim.Native.Nat.{◌+◌, ◌-◌}
 use lib.ListN.{length, drop}
 use borrow.Author.Tests.{not-true, not-false}
-use Rattle.tile_words.proofs.Places.{good-next, good-stop, good-end}
-use Rattle.tile_words.specs.Words.{goodLength, charBefore}
+use Rattle.tile_words.proofs.Places.{good_next, good_stop, good_end}
+use Rattle.tile_words.specs.Words.{good_length, char_before}
 use borrow.Author.Rules.{rules}
 use Rattle.tile_words.proofs.good_length.Statement.{statement}
 use Rattle.tile_words.proofs.good_length.Tie as tie
 
 abbrev invariant-loop : tie.invariant-loop
-invariant-loop word i₀ i = i + goodLength (charBefore word i) (drop i word) ≡ goodLength 0 word
+invariant-loop word i₀ i = i + good_length (char_before word i) (drop i word) ≡ good_length 0 word
 
 abbrev decreases-loop : tie.decreases-loop
 decreases-loop word i₀ i = length word - i
@@ -24,7 +24,7 @@ is-good-at-requires c κs = search rules
 returns : tie.Need-returns invariant-loop decreases-loop
 returns c =
     let l = c.before.before.before.loop in
-    good-stop c.before.before.before.before.before.args.word.now l.i c.before.before.loop-test.true (sym c.before.is-good-at.ensures ∙ not-true _ c.if1.true) ∙ l.invariant
+    good_stop c.before.before.before.before.before.args.word.now l.i c.before.before.loop-test.true (sym c.before.is-good-at.ensures ∙ not-true _ c.if1.true) ∙ l.invariant
 
 add-i : tie.Need-overflow-add-i invariant-loop decreases-loop
 add-i c = search rules
@@ -35,12 +35,12 @@ loop-less c = search rules
 loop-again : tie.Need-loop-preserved invariant-loop decreases-loop
 loop-again c =
     let l = c.before.before.before.loop in
-    good-next c.before.before.before.before.before.args.word.now l.i c.before.before.loop-test.true (sym c.before.is-good-at.ensures ∙ not-false _ c.if1.false) ∙ l.invariant
+    good_next c.before.before.before.before.before.args.word.now l.i c.before.before.loop-test.true (sym c.before.is-good-at.ensures ∙ not-false _ c.if1.false) ∙ l.invariant
 
 returns-2 : tie.Need-returns-2 invariant-loop decreases-loop
 returns-2 c =
     let l = c.before.loop in
-    good-end c.before.before.before.args.word.now l.i c.loop-test.false ∙ l.invariant
+    good_end c.before.before.before.args.word.now l.i c.loop-test.false ∙ l.invariant
 
 pub good-length-spec : {M : Type 1} → statement M
 good-length-spec =

@@ -1,6 +1,6 @@
 -- `is_good_at` meets its contract. Assumes nothing.
-use Rattle.tile_words.specs.Words.{charBefore}
-use Rattle.tile_words.proofs.Places.{good-here}
+use Rattle.tile_words.specs.Words.{char_before}
+use Rattle.tile_words.proofs.Places.{good_here}
 use borrow.Author.Rules.{rules}
 use Rattle.tile_words.proofs.is_good_at.Statement.{statement}
 use Rattle.tile_words.proofs.is_good_at.Tie as tie
@@ -21,7 +21,7 @@ returns : tie.Need-returns
 returns c =
     let s = c.before.before.before.before.before in
     let w = s.args.word.now in
-    simp (c.before.before.before.tile-at.ensures, c.before.before.char_before.ensures, c.is-silent.ensures, good-here w s.args.i s.requires (charBefore w s.args.i))
+    simp (c.before.before.before.tile-at.ensures, c.before.before.char_before.ensures, c.is-silent.ensures, good_here w s.args.i s.requires (char_before w s.args.i))
 
 pub is-good-at-spec : {M : Type 1} → statement M
 is-good-at-spec =

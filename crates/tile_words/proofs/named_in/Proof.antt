@@ -6,17 +6,17 @@ use native.Mathlib.Omega.{arith}
 use lib.Dec.{ltb}
 use lib.ListN.{length, drop}
 use Rattle.lists.specs.Fold.{one, count}
-use Rattle.tile_words.specs.Words.{tilesFrom, named_in, charBefore}
-use Rattle.tile_words.proofs.Places.{turn, count-here, count-end}
+use Rattle.tile_words.specs.Words.{tiles_from, named_in, char_before}
+use Rattle.tile_words.proofs.Places.{turn, count_here, count_end}
 use borrow.Author.Rules.{rules}
 use Rattle.tile_words.proofs.named_in.Statement.{statement}
 use Rattle.tile_words.proofs.named_in.Tie as tie
 
-abbrev isTile : ℕ → Bool
-isTile t = ltb t 34
+abbrev is_tile : ℕ → Bool
+is_tile t = ltb t 34
 
 abbrev invariant-loop : tie.invariant-loop
-invariant-loop word n₀ i₀ i-end n i = (n ≤ i) × ((i ≤ length word) × (n + count isTile (tilesFrom (charBefore word i) (drop i word)) ≡ named_in word))
+invariant-loop word n₀ i₀ i-end n i = (n ≤ i) × ((i ≤ length word) × (n + count is_tile (tiles_from (char_before word i) (drop i word)) ≡ named_in word))
 
 abbrev decreases-loop : tie.decreases-loop
 decreases-loop word n₀ i₀ i-end n i = length word - i
@@ -47,14 +47,14 @@ loop-again c =
     let l = c.before.before.before.loop in
     let w = c.before.before.before.before.before.args.word.now in
     let tile = c.one-if.ensures.0 ∙ ap (λ (t : ℕ). one (ltb t 34)) c.before.tile-at.ensures in
-    let here = count-here w l.i c.before.before.loop-test.true (charBefore w l.i) isTile in
-    (omega arith, (omega arith, turn l.n _ _ _ _ (here ∙ ap (λ (m : ℕ). m + count isTile (tilesFrom (charBefore w (l.i + 1)) (drop (l.i + 1) w))) (sym tile)) l.invariant.1.1))
+    let here = count_here w l.i c.before.before.loop-test.true (char_before w l.i) is_tile in
+    (omega arith, (omega arith, turn l.n _ _ _ _ (here ∙ ap (λ (m : ℕ). m + count is_tile (tiles_from (char_before w (l.i + 1)) (drop (l.i + 1) w))) (sym tile)) l.invariant.1.1))
 
 returns : tie.Need-returns invariant-loop decreases-loop
 returns c =
     let l = c.before.loop in
     let w = c.before.before.before.args.word.now in
-    let n = count-end w l.i c.loop-test.false (charBefore w l.i) isTile in
+    let n = count_end w l.i c.loop-test.false (char_before w l.i) is_tile in
     let e = l.invariant.1.1 in
     omega arith
 

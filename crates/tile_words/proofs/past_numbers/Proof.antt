@@ -3,7 +3,7 @@ use mathlib.Core.Path.{sym, ◌∙◌, ◌≡◌}
 use Prim.Native.Nat.{◌+◌, ◌-◌}
 use lib.ListN.{length, drop}
 use borrow.Author.Tests.{not-true, not-false}
-use Rattle.tile_words.proofs.Places.{skip, stop, stop-end}
+use Rattle.tile_words.proofs.Places.{skip, stop, stop_end}
 use Rattle.tile_words.specs.Words.{leading}
 use borrow.Author.Rules.{rules}
 use Rattle.tile_words.proofs.past_numbers.Statement.{statement}
@@ -45,7 +45,7 @@ loop-again c =
 returns-2 : tie.Need-returns-2 invariant-loop decreases-loop
 returns-2 c =
     let l = c.before.loop in
-    stop-end c.before.before.before.args.word.now l.i c.loop-test.false ∙ l.invariant
+    stop_end c.before.before.before.args.word.now l.i c.loop-test.false ∙ l.invariant
 
 pub past-numbers-spec : {M : Type 1} → statement M
 past-numbers-spec =

@@ -1,9 +1,9 @@
 -- `tile_at` meets its contract: a number names a tile of its suit, a letter that stands behind no number an honor. Assumes nothing.
 use mathlib.Core.Path.{sym, ap, ◌∙◌}
 use lib.ListN.{get_or}
-use Rattle.tile_words.specs.Words.{charBefore}
-use Rattle.tile_words.specs.Chars.{isNumber, honorOf, tileOf}
-use Rattle.tile_words.proofs.Places.{read-end, read_number, read-suit, read-honor}
+use Rattle.tile_words.specs.Words.{char_before}
+use Rattle.tile_words.specs.Chars.{is_number, honor_of, tile_of}
+use Rattle.tile_words.proofs.Places.{read_end, read_number, read_suit, read_honor}
 use borrow.Author.Rules.{rules}
 use Rattle.tile_words.proofs.tile_at.Statement.{statement}
 use Rattle.tile_words.proofs.tile_at.Tie as tie
@@ -11,7 +11,7 @@ use Rattle.tile_words.proofs.tile_at.Tie as tie
 returns : tie.Need-returns
 returns c =
     let a = c.before.before.args in
-    read-end a.word.now a.i c.if1.true (charBefore a.word.now a.i)
+    read_end a.word.now a.i c.if1.true (char_before a.word.now a.i)
 
 shared-slice-read-c : tie.Need-shared-slice-read-c
 shared-slice-read-c c = search rules
@@ -34,7 +34,7 @@ returns-2 c =
     let w = s.args.word.now in
     let i = s.args.i in
     let h = c.before.before.before.before.before.if1.false in
-    c.tile-of.ensures ∙ ap (tileOf (get_or w i 0)) c.before.suit-after.ensures ∙ read_number w i h (charBefore w i) (sym c.before.before.before.is_number.ensures ∙ c.before.before.if2.true)
+    c.tile-of.ensures ∙ ap (tile_of (get_or w i 0)) c.before.suit-after.ensures ∙ read_number w i h (char_before w i) (sym c.before.before.before.is_number.ensures ∙ c.before.before.if2.true)
 
 char-before-requires : tie.Need-char-before-requires
 char-before-requires c κs = search rules
@@ -48,8 +48,8 @@ returns-3 c =
     let w = s.args.word.now in
     let i = s.args.i in
     let h = c.before.before.before.before.before.before.if1.false in
-    let behind = ap isNumber (sym c.before.before.char_before.ensures) ∙ sym c.before.is-number2.ensures ∙ c.if3.true in
-    read-suit w i h (charBefore w i) (sym c.before.before.before.before.is_number.ensures ∙ c.before.before.before.if2.false) behind
+    let behind = ap is_number (sym c.before.before.char_before.ensures) ∙ sym c.before.is-number2.ensures ∙ c.if3.true in
+    read_suit w i h (char_before w i) (sym c.before.before.before.before.is_number.ensures ∙ c.before.before.before.if2.false) behind
 
 add-char-at : tie.Need-overflow-add-char-at
 add-char-at c = search rules
@@ -66,8 +66,8 @@ returns-4 c =
     let w = s.args.word.now in
     let i = s.args.i in
     let h = c.before.before.before.before.before.before.before.before.if1.false in
-    let free = ap isNumber (sym c.before.before.before.before.char_before.ensures) ∙ sym c.before.before.before.is-number2.ensures ∙ c.before.before.if3.false in
-    c.honor-of.ensures ∙ ap (honorOf (get_or w i 0)) c.before.char-at.ensures ∙ read-honor w i h (charBefore w i) (sym c.before.before.before.before.before.before.is_number.ensures ∙ c.before.before.before.before.before.if2.false) free
+    let free = ap is_number (sym c.before.before.before.before.char_before.ensures) ∙ sym c.before.before.before.is-number2.ensures ∙ c.before.before.if3.false in
+    c.honor-of.ensures ∙ ap (honor_of (get_or w i 0)) c.before.char-at.ensures ∙ read_honor w i h (char_before w i) (sym c.before.before.before.before.before.before.is_number.ensures ∙ c.before.before.before.before.before.if2.false) free
 
 pub tile-at-spec : {M : Type 1} → statement M
 tile-at-spec =

@@ -5,7 +5,7 @@ use Prim.Native.Nat.{ℕ}
 use lib.Dec.{eqb}
 use borrow.Author.Tests.{not-true, not-false}
 use Rattle.hand.specs.Counts.{held}
-use Rattle.tile_yaku.proofs.Gates.{not-without-flush, not-in-suits, by_total}
+use Rattle.tile_yaku.proofs.Gates.{not_without_flush, not_in_suits, by_total}
 use borrow.Author.Rules.{rules}
 use Rattle.tile_yaku.proofs.check_chuuren_poutou.Statement.{statement}
 use Rattle.tile_yaku.proofs.check_chuuren_poutou.Tie as tie
@@ -13,7 +13,7 @@ use Rattle.tile_yaku.proofs.check_chuuren_poutou.Tie as tie
 returns : tie.Need-returns
 returns c =
     let start = c.before.before in
-    not-without-flush (held start.args.counts.now) start.args.full-flush start.requires.1 (not-true _ c.if1.true)
+    not_without_flush (held start.args.counts.now) start.args.full-flush start.requires.1 (not-true _ c.if1.true)
 
 gates-of-requires : tie.Need-gates-of-requires
 gates-of-requires c κs = search rules
@@ -27,7 +27,7 @@ gates-of-requires-3 c κs = search rules
 returns-2 : tie.Need-returns-2
 returns-2 c =
     let start = c.before.before.before.before.before.before in
-    not-in-suits (held start.args.counts.now) start.args.full-flush start.requires.1 (not-false _ c.before.before.before.before.if1.false) _ _ _
+    not_in_suits (held start.args.counts.now) start.args.full-flush start.requires.1 (not-false _ c.before.before.before.before.if1.false) _ _ _
     c.before.before.before.gates-of.ensures c.before.before.gates-of2.ensures c.before.gates-of3.ensures (not-true _ c.if2.true)
 
 sum-range-requires : tie.Need-sum-range-requires

@@ -6,7 +6,7 @@ use native.Mathlib.Omega.{arith}
 use lib.Dec.{ltb}
 use borrow.Author.Tests.{lt-ltb, le-ltb}
 use Rattle.hand.specs.Counts.{held}
-use Rattle.tile_yaku.proofs.Suits.{SoFar, skip, found, second, next-suit, flush-end, flush-not}
+use Rattle.tile_yaku.proofs.Suits.{SoFar, skip, found, second, next_suit, flush_end, flush_not}
 use borrow.Author.Rules.{rules}
 use Rattle.tile_yaku.proofs.check_flush.Statement.{statement}
 use Rattle.tile_yaku.proofs.check_flush.Tie as tie
@@ -66,16 +66,16 @@ suits-again : tie.Need-suits-preserved invariant-loop decreases-loop invariant-s
 suits-again c =
     let h : ℕ → ℕ = held c.before.before.before.before.args.counts.now in
     let l = c.before.loop in
-    (omega arith, next-suit h c.before.before.before.suits.suit l.n l.only l.invariant.1 (omega arith) (omega arith))
+    (omega arith, next_suit h c.before.before.before.suits.suit l.n l.only l.invariant.1 (omega arith) (omega arith))
 
 returns : tie.Need-returns invariant-loop decreases-loop invariant-suits decreases-suits
 returns c =
     let h : ℕ → ℕ = held c.before.before.args.counts.now in
     let s : ℕ = c.before.suits.suit in
     ⊎_elim
-    (λ w. ap (λ (o : ℕ). ltb o 3) w.1 ∙ flush-end h s _ w.0.left c.before.suits.invariant.0 c.before.suits.invariant.1)
+    (λ w. ap (λ (o : ℕ). ltb o 3) w.1 ∙ flush_end h s _ w.0.left c.before.suits.invariant.0 c.before.suits.invariant.1)
     (λ w. ap (λ (o : ℕ). ltb o 3) w.6
-    ∙ flush-not h s w.0.taken (second h s w.1.n _ w.1.inv.1 (lt-ltb _ _ w.4.taken) w.2.taken w.5.taken))
+    ∙ flush_not h s w.0.taken (second h s w.1.n _ w.1.inv.1 (lt-ltb _ _ w.4.taken) w.2.taken w.5.taken))
     c.suits-test.branch
 
 pub check-flush-spec : {M : Type 1} → statement M

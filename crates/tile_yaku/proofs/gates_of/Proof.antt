@@ -7,7 +7,7 @@ use borrow.Author.Tests.{not-true, not-false}
 use Rattle.lists.specs.Fold.{all_below}
 use Rattle.hand.specs.Counts.{held}
 use Rattle.tile_yaku.specs.Tiles.{gate}
-use Rattle.tile_yaku.proofs.Gates.{first-number, fits, misfit, next-suit, all-suits}
+use Rattle.tile_yaku.proofs.Gates.{first_number, fits, misfit, next_suit, all_suits}
 use borrow.Author.Rules.{rules}
 use Rattle.tile_yaku.proofs.gates_of.Statement.{statement}
 use Rattle.tile_yaku.proofs.gates_of.Tie as tie
@@ -31,7 +31,7 @@ loop-holds : tie.Need-loop-init invariant-loop decreases-loop invariant-suits de
 loop-holds c =
     let a = c.before.before.before.args in
     let o = c.before.suits in
-    (omega arith, (o.invariant.1.0, first-number (held a.counts.now) a.of o.suit o.invariant.1.1))
+    (omega arith, (o.invariant.1.0, first_number (held a.counts.now) a.of o.suit o.invariant.1.1))
 
 mul-fits-gate : tie.Need-overflow-mul-fits-gate invariant-loop decreases-loop invariant-suits decreases-suits
 mul-fits-gate c = search rules
@@ -73,13 +73,13 @@ suits-again c =
     let a = c.before.before.before.before.before.args in
     let l = c.before.loop in
     let s : ℕ = c.before.before.before.suits.suit in
-    (omega arith, (l.invariant.1.0, next-suit (held a.counts.now) a.of s l.n (omega arith) (omega arith) l.invariant.1.1))
+    (omega arith, (l.invariant.1.0, next_suit (held a.counts.now) a.of s l.n (omega arith) (omega arith) l.invariant.1.1))
 
 returns : tie.Need-returns invariant-loop decreases-loop invariant-suits decreases-suits
 returns c =
     let a = c.before.before.before.args in
     let l = c.before.suits in
-    l.invariant.1.0 ∙ all-suits (held a.counts.now) a.of l.suit c.suits-test.false l.invariant.0 l.invariant.1.1
+    l.invariant.1.0 ∙ all_suits (held a.counts.now) a.of l.suit c.suits-test.false l.invariant.0 l.invariant.1.1
 
 returns-2 : tie.Need-returns-2 invariant-loop decreases-loop invariant-suits decreases-suits
 returns-2 c =

@@ -6,21 +6,21 @@ use Prim.Native.Nat.{ℕ, ◌≤◌}
 use native.Mathlib.Omega.{arith}
 use lib.Dec.{eqb}
 use lib.ListN.{length, get_or-eq_default}
-use Rattle.tile.specs.Tile.{isTerminal}
+use Rattle.tile.specs.Tile.{is_terminal}
 use Rattle.hand.specs.Counts.{held}
-use Rattle.tile_yaku.specs.Tiles.{pureWait}
+use Rattle.tile_yaku.specs.Tiles.{pure_wait}
 use borrow.Author.Rules.{rules}
 use Rattle.tile_yaku.proofs.is_pure_wait.Statement.{statement}
 use Rattle.tile_yaku.proofs.is_pure_wait.Tie as tie
 
-none-held : (b : Bool) → eqb 0 (cond b 4 2) ≡ false
-none-held true = refl
-none-held false = refl
+none_held : (b : Bool) → eqb 0 (cond b 4 2) ≡ false
+none_held true = refl
+none_held false = refl
 
-no_tile : (cs : List ℕ) (t : ℕ) → length cs ≤ t → false ≡ pureWait (held cs) t
-unfolding pureWait
+no_tile : (cs : List ℕ) (t : ℕ) → length cs ≤ t → false ≡ pure_wait (held cs) t
+unfolding pure_wait
 no_tile cs t h =
-    sym (ap (λ (n : ℕ). eqb n (cond (isTerminal t) 4 2)) (get_or-eq_default cs 0 {n = t} h) ∙ none-held (isTerminal t))
+    sym (ap (λ (n : ℕ). eqb n (cond (is_terminal t) 4 2)) (get_or-eq_default cs 0 {n = t} h) ∙ none_held (is_terminal t))
 
 returns : tie.Need-returns
 returns c = no_tile c.before.before.args.counts.now c.before.before.args.t (omega (arith, c.before.before.requires, c.if1.true))
@@ -32,14 +32,14 @@ shared-slice-read-result : tie.Need-shared-slice-read-result
 shared-slice-read-result c = search rules
 
 returns-2 : tie.Need-returns-2
-unfolding pureWait
+unfolding pure_wait
 returns-2 c = simp (← c.before.before.is-terminal.ensures, c.before.if2.true)
 
 shared-slice-read-result-2 : tie.Need-shared-slice-read-result-2
 shared-slice-read-result-2 c = search rules
 
 returns-3 : tie.Need-returns-3
-unfolding pureWait
+unfolding pure_wait
 returns-3 c = simp (← c.before.before.is-terminal.ensures, c.before.if2.false)
 
 pub is-pure-wait-spec : {M : Type 1} → statement M

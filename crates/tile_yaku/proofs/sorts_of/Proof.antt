@@ -3,7 +3,7 @@ use mathlib.Core.Path.{refl}
 use Prim.Native.Nat.{◌-◌, ◌≤◌}
 use native.Mathlib.Omega.{arith}
 use Rattle.hand.specs.Counts.{held}
-use Rattle.tile_yaku.proofs.Questions.{Flags, flags-on, flags-end}
+use Rattle.tile_yaku.proofs.Questions.{Flags, flags_on, flags_end}
 use borrow.Author.Rules.{rules}
 use Rattle.tile_yaku.proofs.sorts_of.Statement.{statement}
 use Rattle.tile_yaku.proofs.sorts_of.Tie as tie
@@ -46,14 +46,14 @@ loop-again c =
     let l = c.before.before.before.before.before.before.loop in
     let cs = c.before.before.before.before.before.before.before.before.args.counts.now in (
       omega arith,
-      flags-on (held cs) l.i (omega arith) l.invariant.1 _ _ _ _ c.before.before.before.is-simple.ensures
+      flags_on (held cs) l.i (omega arith) l.invariant.1 _ _ _ _ c.before.before.before.is-simple.ensures
           c.before.before.is-terminal.ensures c.before.is-honor.ensures c.is-green.ensures,
     )
 
 returns : tie.Need-returns invariant-loop decreases-loop
 returns c =
     let l = c.before.loop in
-    flags-end (held c.before.before.before.args.counts.now) l.i c.loop-test.false l.invariant.0 l.invariant.1
+    flags_end (held c.before.before.before.args.counts.now) l.i c.loop-test.false l.invariant.0 l.invariant.1
 
 pub sorts-of-spec : {M : Type 1} → statement M
 sorts-of-spec =

@@ -1,6 +1,6 @@
 -- `tile_yaku` meets its contract: each answer by the sorts of tiles there are and by the calls. Assumes nothing.
 use Rattle.hand.specs.Counts.{held}
-use Rattle.tile_yaku.proofs.Questions.{chinitsu-is, answers}
+use Rattle.tile_yaku.proofs.Questions.{chinitsu_is, answers}
 use borrow.Author.Rules.{rules}
 use Rattle.tile_yaku.proofs.tile_yaku.Statement.{statement}
 use Rattle.tile_yaku.proofs.tile_yaku.Tie as tie
@@ -16,7 +16,7 @@ check-chuuren-poutou-requires c κs =
     let start = c.before.before.before.before in
     let s = c.before.before.sorts-of in
     let f = c.before.check-flush in
-    (start.requires, chinitsu-is (held start.args.counts.now) s.result s.ensures f.result f.ensures)
+    (start.requires, chinitsu_is (held start.args.counts.now) s.result s.ensures f.result f.ensures)
 
 is-pure-wait-requires : tie.Need-is-pure-wait-requires
 is-pure-wait-requires c κs = search rules

@@ -3,7 +3,7 @@ use mathlib.Core.Path.{sym, ap₂, ◌∙◌}
 use lib.ListN.{length-map}
 use Rattle.rules.specs.Rules.{game}
 use Rattle.twins.specs.Twins.{agrees}
-use Rattle.twins.proofs.Agreed.{calls-agree}
+use Rattle.twins.proofs.Agreed.{calls_agree}
 use borrow.Author.Rules.{rules}
 use Rattle.twins.proofs.agree_in.Statement.{statement}
 use Rattle.twins.proofs.agree_in.Tie as tie
@@ -53,7 +53,7 @@ returns c =
     ) at c.before.score-win-in2.ensures in
     let first = c.before.before.before.before.before.before.score-win-in.ensures in
     let answer = c.same_answer.ensures ∙ ap₂ agrees second first in
-    (answer, λ stays passes plain plain' fair. answer ∙ calls-agree g by stays cs k w long passes plain plain' fair)
+    (answer, λ stays passes plain plain' fair. answer ∙ calls_agree g by stays cs k w long passes plain plain' fair)
 
 pub agree-in-spec : {M : Type 1} → statement M
 agree-in-spec =

@@ -2,7 +2,7 @@
 use mathlib.Core.Path.{sym, ◌∙◌}
 use lib.ListN.{length-map}
 use borrow.Author.Rules.{rules}
-use Rattle.twins.proofs.Renamed.{calls-four}
+use Rattle.twins.proofs.Renamed.{calls_four_holds}
 use Rattle.twins.proofs.renamed_calls.Statement.{statement}
 use Rattle.twins.proofs.renamed_calls.Tie as tie
 use Rattle.twins.proofs.renamed_calls.Reads as reads
@@ -48,7 +48,7 @@ returns c =
     let k = s.args.k in
     let long = sym (length-map k.melds _) ∙ s.well-formed.0.1.1.1.0.1.0.1 in
     simp (c.before.before.before.renamed.ensures, c.before.before.renamed2.ensures, c.before.renamed3.ensures, c.renamed4.ensures)
-    (calls-four s.args.by k _ long)
+    (calls_four_holds s.args.by k _ long)
 
 pub renamed-calls-spec : {M : Type 1} → statement M
 renamed-calls-spec =

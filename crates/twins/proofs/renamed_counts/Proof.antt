@@ -6,7 +6,7 @@ use native.Mathlib.Omega.{arith}
 use lib.ListN.{length, drop, length-set}
 use lib.Seq.{sets}
 use borrow.Author.Rules.{rules}
-use Rattle.twins.proofs.Renamed.{moved, moved-next, moved-end, moved-whole, moved-counts}
+use Rattle.twins.proofs.Renamed.{moved, moved_next, moved_end, moved_whole, moved_counts}
 use Rattle.twins.proofs.renamed_counts.Statement.{statement}
 use Rattle.twins.proofs.renamed_counts.Tie as tie
 use Rattle.twins.proofs.renamed_counts.Reads as reads
@@ -51,7 +51,7 @@ loop-again c =
     let l = c.before.before.loop in
     let s = c.before.before.before.before.before in
     let undo = c.before.before.before.back.result in (
-      moved-next undo s.args.counts.now l.renamed l.t c.count_of.result (omega arith) c.count_of.ensures ∙ l.invariant.0,
+      moved_next undo s.args.counts.now l.renamed l.t c.count_of.result (omega arith) c.count_of.ensures ∙ l.invariant.0,
       simp length-set l.invariant.1,
     )
 
@@ -62,11 +62,11 @@ returns c =
     let s = c.before.before.before.before in
     let undo = c.before.before.back.result in
     let cs = s.args.counts.now in
-    moved-end undo cs l.renamed l.t (omega arith)
+    moved_end undo cs l.renamed l.t (omega arith)
     ∙ l.invariant.0
-    ∙ moved-whole undo cs _ 0 refl
+    ∙ moved_whole undo cs _ 0 refl
     ∙ ap (λ (u : _). moved u cs) c.before.before.back.ensures
-    ∙ moved-counts s.args.by cs
+    ∙ moved_counts s.args.by cs
 
 pub renamed-counts-spec : {M : Type 1} → statement M
 renamed-counts-spec =

@@ -4,7 +4,7 @@ use Prim.Native.Nat.{ℕ, ◌-◌, ◌%◌}
 use native.Mathlib.Omega.{arith}
 use lib.ListN.{length}
 use Rattle.tile.specs.Tile.{tiles}
-use Rattle.decompose.specs.Pairs.{foundWith, OnlyAt}
+use Rattle.decompose.specs.Pairs.{found_with, OnlyAt}
 use Rattle.checks.proofs.Passed.{passed}
 use borrow.Author.Rules.{rules}
 use Rattle.unit.proofs.find_readings.Statement.{statement}
@@ -35,7 +35,7 @@ returns c =
     let n : 4 - k.count % 256 ≡ 4 - k.count = omega arith in
     record {
       special = c.before.find-special.ensures;
-      standard = c.count-standard.ensures.0 ∙ ap₂ (λ (m : ℕ) (d : ℕ → ℕ). length (foundWith m d tiles)) n s.requires.1.0;
+      standard = c.count-standard.ensures.0 ∙ ap₂ (λ (m : ℕ) (d : ℕ → ℕ). length (found_with m d tiles)) n s.requires.1.0;
       few = c.count-standard.ensures.1;
     }
 

@@ -6,9 +6,9 @@ use native.Mathlib.Omega.{arith}
 use lib.ListN.{length}
 use Rattle.rules.specs.Rules.{game}
 use Rattle.decompose.specs.Pairs.{OnlyAt}
-use Rattle.checks.proofs.Passed.{passed, passes-four}
-use Rattle.unit.proofs.Answers.{refused-answer, refused-buffer, short-answer, short-buffer, listed_answer, listed-buffer}
-use Rattle.unit.proofs.Listed.{bytes-are, readings-are, records-length, room-behind, all-written}
+use Rattle.checks.proofs.Passed.{passed, passes_four}
+use Rattle.unit.proofs.Answers.{refused_answer, refused_buffer, short_answer, short_buffer, listed_answer, listed_buffer}
+use Rattle.unit.proofs.Listed.{bytes_are, readings_are, records_length, room_behind, all_written}
 use borrow.Author.Rules.{rules}
 use Rattle.unit.proofs.list_readings_in.Statement.{statement}
 use Rattle.unit.proofs.list_readings_in.Tie as tie
@@ -21,7 +21,7 @@ returns c =
     let a = c.before.before.before.before.args in
     let e = c.before.check-hand.ensures in
     let n = c.before.check-hand.result in
-    (refused-answer (game a.v) a.counts.now a.k n (length a.out.now) e c.if1.true, refused-buffer (game a.v) a.counts.now a.k n a.out.now e c.if1.true)
+    (refused_answer (game a.v) a.counts.now a.k n (length a.out.now) e c.if1.true, refused_buffer (game a.v) a.counts.now a.k n a.out.now e c.if1.true)
 
 pack-requires : tie.Need-pack-requires
 pack-requires c κs =
@@ -37,7 +37,7 @@ pair-places-requires c κs =
 find-readings-requires : tie.Need-find-readings-requires
 find-readings-requires c κs =
     let a = c.before.before.before.before.before.before.args in (
-      passes-four (game a.v) a.counts.now a.k (sym c.before.before.before.check-hand.ensures ∙ c.before.before.if1.false),
+      passes_four (game a.v) a.counts.now a.k (sym c.before.before.before.check-hand.ensures ∙ c.before.before.if1.false),
       (c.before.pack.ensures.0, (c.before.pack.ensures.1, c.pair-places.ensures)),
     )
 
@@ -48,32 +48,32 @@ returns-2 : tie.Need-returns-2
 returns-2 c =
     let a = c.before.before.before.before.before.before.before.before.before.args in
     let inGame = sym c.before.before.before.before.before.before.check-hand.ensures ∙ c.before.before.before.before.before.if1.false in
-    let ok = passes-four (game a.v) a.counts.now a.k inGame in
-    let need = bytes-are a.counts.now a.k ok _ c.before.before.find-readings.ensures ∙ sym c.before.bytes.ensures in
+    let ok = passes_four (game a.v) a.counts.now a.k inGame in
+    let need = bytes_are a.counts.now a.k ok _ c.before.before.find-readings.ensures ∙ sym c.before.bytes.ensures in
     let short = c.if2.true in (
-      short-answer (game a.v) a.counts.now a.k inGame (length a.out.now) (omega (arith, need, short)),
-      short-buffer (game a.v) a.counts.now a.k inGame a.out.now (omega (arith, need, short)),
+      short_answer (game a.v) a.counts.now a.k inGame (length a.out.now) (omega (arith, need, short)),
+      short_buffer (game a.v) a.counts.now a.k inGame a.out.now (omega (arith, need, short)),
     )
 
 write-found-requires : tie.Need-write-found-requires
 write-found-requires c κs =
     let a = c.before.before.before.before.before.before.before.before.before.before.before.args in
     let inGame = sym c.before.before.before.before.before.before.before.before.check-hand.ensures ∙ c.before.before.before.before.before.before.before.if1.false in
-    let ok = passes-four (game a.v) a.counts.now a.k inGame in
+    let ok = passes_four (game a.v) a.counts.now a.k inGame in
     let f = c.before.before.before.before.find-readings.ensures in
-    let need = bytes-are a.counts.now a.k ok _ f ∙ sym c.before.before.before.bytes.ensures in
+    let need = bytes_are a.counts.now a.k ok _ f ∙ sym c.before.before.before.bytes.ensures in
     let room = c.before.before.if2.false in
-    (ok, (f.special, omega (arith, need, room, records-length a.counts.now a.k ok f.special.calls)))
+    (ok, (f.special, omega (arith, need, room, records_length a.counts.now a.k ok f.special.calls)))
 
 write-standards-requires : tie.Need-write-standards-requires
 write-standards-requires c κs =
     let t = c.before.before.before.before.before.before.before.before in
     let a = t.before.before.before.before.before.before.before.args in
     let inGame = sym t.before.before.before.before.check-hand.ensures ∙ t.before.before.before.if1.false in
-    let ok = passes-four (game a.v) a.counts.now a.k inGame in
+    let ok = passes_four (game a.v) a.counts.now a.k inGame in
     let f = t.find-readings.ensures in
     let h = t.before.before.pack in
-    let need = bytes-are a.counts.now a.k ok _ f ∙ sym c.before.before.before.before.before.before.before.bytes.ensures in
+    let need = bytes_are a.counts.now a.k ok _ f ∙ sym c.before.before.before.before.before.before.before.bytes.ensures in
     let room = c.before.before.before.before.before.before.if2.false in
     let w = c.before.before.before.write-found.ensures in (
       (passed a.counts.now a.k ok).few,
@@ -81,7 +81,7 @@ write-standards-requires c κs =
         h.ensures.1,
         (
           subst (λ (d : ℕ → ℕ). OnlyAt d t.before.pair-places.result) (sym h.ensures.0) t.before.pair-places.ensures,
-          omega (arith, room-behind a.counts.now a.k ok f.special.calls h.result h.ensures.0 a.out.now _ _ w.1 w.0 (omega (arith, need, room))),
+          omega (arith, room_behind a.counts.now a.k ok f.special.calls h.result h.ensures.0 a.out.now _ _ w.1 w.0 (omega (arith, need, room))),
         ),
       ),
     )
@@ -98,17 +98,17 @@ returns-3 c =
     let t = b.before in
     let a = t.before.before.before.before.before.before.before.args in
     let inGame = sym t.before.before.before.before.check-hand.ensures ∙ t.before.before.before.if1.false in
-    let ok = passes-four (game a.v) a.counts.now a.k inGame in
+    let ok = passes_four (game a.v) a.counts.now a.k inGame in
     let f = t.find-readings.ensures in
     let h = t.before.before.pack in
-    let need = bytes-are a.counts.now a.k ok _ f ∙ sym b.bytes.ensures in
-    let count = readings-are a.counts.now a.k ok _ f ∙ sym c.readings.ensures in
+    let need = bytes_are a.counts.now a.k ok _ f ∙ sym b.bytes.ensures in
+    let count = readings_are a.counts.now a.k ok _ f ∙ sym c.readings.ensures in
     let room = c.before.before.before.before.before.before.before.before.before.before.if2.false in
     let w = c.before.before.before.before.before.before.before.write-found.ensures in
     let d = c.before.before.before.write-standards.ensures in (
       listed_answer (game a.v) a.counts.now a.k inGame (length a.out.now) c.readings.result b.bytes.result (omega (arith, need, room)) (sym count) (sym need),
-      listed-buffer (game a.v) a.counts.now a.k inGame a.out.now _ (omega (arith, need, room))
-          (all-written a.counts.now a.k ok f.special.calls h.result h.ensures.0 a.out.now _ _ w.1 w.0 _ d.1),
+      listed_buffer (game a.v) a.counts.now a.k inGame a.out.now _ (omega (arith, need, room))
+          (all_written a.counts.now a.k ok f.special.calls h.result h.ensures.0 a.out.now _ _ w.1 w.0 _ d.1),
     )
 
 pub list-readings-in-spec : {M : Type 1} → statement M

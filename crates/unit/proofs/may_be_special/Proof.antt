@@ -3,22 +3,22 @@ use mathlib.Core.Path.{◌≡◌, refl, sym, subst, ◌∙◌}
 use mathlib.Core.Bool.{Bool, true, false, ◌||◌}
 use lib.Dec.{T}
 use Rattle.hand.specs.Counts.{held}
-use Rattle.special.proofs.Special.{pairs-even, orphans-ends}
+use Rattle.special.proofs.Special.{pairs_even, orphans_ends}
 use borrow.Author.Rules.{rules}
 use Rattle.unit.proofs.may_be_special.Statement.{statement}
 use Rattle.unit.proofs.may_be_special.Tie as tie
 
 -- neither of two where one of them is not
-first-no : (a b : Bool) → (a || b) ≡ false → a ≡ false
-first-no true b e = e
-first-no false b e = refl
+first_no : (a b : Bool) → (a || b) ≡ false → a ≡ false
+first_no true b e = e
+first_no false b e = refl
 
-second-no : (a b : Bool) → (a || b) ≡ false → b ≡ false
-second-no true b e = absurd (true-false e)
+second_no : (a b : Bool) → (a || b) ≡ false → b ≡ false
+second_no true b e = absurd (true_false e)
   where
-    true-false : {A : Type 0} → true ≡ false → A
-    true-false e = absurd (subst T e tt)
-second-no false b e = e
+    true_false : {A : Type 0} → true ≡ false → A
+    true_false e = absurd (subst T e tt)
+second_no false b e = e
 
 none-odd-requires : tie.Need-none-odd-requires
 none-odd-requires c κs = search rules
@@ -33,8 +33,8 @@ returns : tie.Need-returns
 returns c =
     let cs = c.before.before.before.before.args.counts.now in
     let odd = c.before.before.none-odd in (
-      λ e. pairs-even (held cs) (sym odd.ensures ∙ first-no odd.result _ e),
-      λ e. orphans-ends (held cs) (second-no odd.result _ e),
+      λ e. pairs_even (held cs) (sym odd.ensures ∙ first_no odd.result _ e),
+      λ e. orphans_ends (held cs) (second_no odd.result _ e),
     )
 
 pub may-be-special-spec : {M : Type 1} → statement M

@@ -7,7 +7,7 @@ use Rattle.lists.specs.Fold.{all, up_from}
 use Rattle.tile.specs.Tile.{tiles}
 use Rattle.hand.specs.Counts.{held}
 use Rattle.special.proofs.Special.{even}
-use Rattle.checks.proofs.Turns.{test-next, test-end}
+use Rattle.checks.proofs.Turns.{test_next, test_end}
 use borrow.Author.Rules.{rules}
 use Rattle.unit.proofs.none_odd.Statement.{statement}
 use Rattle.unit.proofs.none_odd.Tie as tie
@@ -33,12 +33,12 @@ loop-less c = search rules
 loop-again : tie.Need-loop-preserved invariant-loop decreases-loop
 loop-again c =
     let l = c.before.before.loop in
-    test-next (even (held c.before.before.before.args.counts.now)) l.good l.i 34 c.before.loop-test.true ∙ l.invariant
+    test_next (even (held c.before.before.before.args.counts.now)) l.good l.i 34 c.before.loop-test.true ∙ l.invariant
 
 returns : tie.Need-returns invariant-loop decreases-loop
 returns c =
     let l = c.before.loop in
-    test-end (even (held c.before.before.args.counts.now)) l.good l.i 34 c.loop-test.false ∙ l.invariant
+    test_end (even (held c.before.before.args.counts.now)) l.good l.i 34 c.loop-test.false ∙ l.invariant
 
 pub none-odd-spec : {M : Type 1} → statement M
 none-odd-spec = tie.close (tie.spec invariant-loop decreases-loop loop-holds shared-slice-read-good add-i loop-less loop-again returns)

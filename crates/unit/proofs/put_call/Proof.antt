@@ -6,8 +6,8 @@ use Rattle.unit.proofs.put_call.Tie as tie
 key-requires : tie.Need-key-requires
 key-requires c κs = search rules
 
-put-in-requires : tie.Need-put-in-requires
-put-in-requires c κs = search rules
+put_in_requires : tie.Need-put-in-requires
+put_in_requires c κs = search rules
 
 returns : tie.Need-returns
 returns c = simp (c.before.before.if1.true, ← c.before.key.ensures, c.put_in.ensures)
@@ -16,4 +16,4 @@ returns-2 : tie.Need-returns-2
 returns-2 c = simp c.if1.false
 
 pub put-call-spec : {M : Type 1} → statement M
-put-call-spec = tie.close (tie.spec key-requires put-in-requires returns returns-2)
+put-call-spec = tie.close (tie.spec key-requires put_in_requires returns returns-2)

@@ -5,8 +5,8 @@ use lib.Dec.{ltb}
 use lib.ListN.{get_or, length-map, take}
 use Rattle.meld.specs.Meld.{key, meld}
 use Rattle.search.specs.Slots.{put_all, slots_of}
-use Rattle.unit.specs.FirstPass.{putCall}
-use Rattle.unit.proofs.Special.{slots-are}
+use Rattle.unit.specs.FirstPass.{put_call}
+use Rattle.unit.proofs.Special.{slots_are}
 use borrow.Author.Rules.{rules}
 use Rattle.unit.proofs.slots_of.Statement.{statement}
 use Rattle.unit.proofs.slots_of.Tie as tie
@@ -45,12 +45,12 @@ returns-2 c =
     let k = s.args.k in
     let long = sym (length-map k.melds _) ∙ s.well-formed.0.1.1.1.0.1.0.1 in
     c.put-call4.ensures
-    ∙ ap (putCall (ltb 3 k.count) (key (get_or k.melds 3 (meld 0 0))))
+    ∙ ap (put_call (ltb 3 k.count) (key (get_or k.melds 3 (meld 0 0))))
     (c.before.before.put-call3.ensures
-    ∙ ap (putCall (ltb 2 k.count) (key (get_or k.melds 2 (meld 0 0))))
+    ∙ ap (put_call (ltb 2 k.count) (key (get_or k.melds 2 (meld 0 0))))
     (c.before.before.before.before.put-call2.ensures
-    ∙ ap (putCall (ltb 1 k.count) (key (get_or k.melds 1 (meld 0 0)))) c.before.before.before.before.before.before.put-call.ensures))
-    ∙ sym (slots-are k.count k.melds long s.requires)
+    ∙ ap (put_call (ltb 1 k.count) (key (get_or k.melds 1 (meld 0 0)))) c.before.before.before.before.before.before.put-call.ensures))
+    ∙ sym (slots_are k.count k.melds long s.requires)
 
 pub slots-of-spec : {M : Type 1} → statement M
 slots-of-spec =

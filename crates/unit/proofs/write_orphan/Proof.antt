@@ -5,9 +5,9 @@ use native.Mathlib.Omega.{arith}
 use lib.ListN.{length}
 use lib.Seq.{sets}
 use Rattle.hand.specs.Reading.{orphans}
-use Rattle.hand.specs.Records.{recordOf}
+use Rattle.hand.specs.Records.{record_of}
 use borrow.Author.Rules.{rules}
-use Rattle.unit.proofs.Listed.{orphans-there, orphans-not, orphans-size}
+use Rattle.unit.proofs.Listed.{orphans_there, orphans_not, orphans_size}
 use Rattle.unit.proofs.write_orphan.Statement.{statement}
 use Rattle.unit.proofs.write_orphan.Tie as tie
 
@@ -15,7 +15,7 @@ cast-write-kokushi : tie.Need-overflow-cast-write-kokushi
 cast-write-kokushi c = search rules
 
 write-kokushi-requires : tie.Need-write-kokushi-requires
-write-kokushi-requires c κs = omega (arith, orphans-size c.before.before.before.args.orphan c.before.if1.true)
+write-kokushi-requires c κs = omega (arith, orphans_size c.before.before.before.args.orphan c.before.if1.true)
 
 same_length : tie.Need-same-length
 same_length c = search rules
@@ -27,15 +27,15 @@ returns c =
     let h = c.before.before.before.before.if1.true in
     let e : p % 256 ≡ p = omega arith in
     let f = c.before.before.write-kokushi.ensures in (
-      omega (arith, f.0, orphans-size p h),
-      f.1 ∙ ap (λ (q : ℕ). sets s.args.out.now s.args.at (recordOf (orphans q))) e
-          ∙ ap (sets s.args.out.now s.args.at) (sym (orphans-there p h)),
+      omega (arith, f.0, orphans_size p h),
+      f.1 ∙ ap (λ (q : ℕ). sets s.args.out.now s.args.at (record_of (orphans q))) e
+          ∙ ap (sets s.args.out.now s.args.at) (sym (orphans_there p h)),
     )
 
 returns-2 : tie.Need-returns-2
 returns-2 c =
     let s = c.before.before in
-    let e = orphans-not s.args.orphan c.if1.false in
+    let e = orphans_not s.args.orphan c.if1.false in
     (omega (arith, ap length e), ap (sets s.args.out.now s.args.at) (sym e))
 
 pub write-orphan-spec : {M : Type 1} → statement M

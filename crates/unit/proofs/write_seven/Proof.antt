@@ -5,9 +5,9 @@ use native.Mathlib.Omega.{arith}
 use lib.ListN.{length}
 use lib.Seq.{sets}
 use Rattle.hand.specs.Counts.{held}
-use Rattle.unit.specs.FirstPass.{sevenRecords}
+use Rattle.unit.specs.FirstPass.{seven_records}
 use borrow.Author.Rules.{rules}
-use Rattle.unit.proofs.Listed.{seven-length}
+use Rattle.unit.proofs.Listed.{seven_length}
 use Rattle.unit.proofs.write_seven.Statement.{statement}
 use Rattle.unit.proofs.write_seven.Tie as tie
 
@@ -16,7 +16,7 @@ write-chiitoitsu-requires c κs =
     let s = c.before.before.before.before in
     let t = c.before.if1.true in
     let pairs = s.requires.1.0 t in
-    let e = ap (λ (b : Bool). length (sevenRecords s.args.counts.now b)) t ∙ seven-length (held s.args.counts.now) pairs in
+    let e = ap (λ (b : Bool). length (seven_records s.args.counts.now b)) t ∙ seven_length (held s.args.counts.now) pairs in
     (s.requires.0, (pairs, omega (arith, s.requires.1.1, e)))
 
 same_length : tie.Need-same-length
@@ -26,9 +26,9 @@ returns : tie.Need-returns
 returns c =
     let s = c.before.before.before.before.before.before.before in
     let t = c.before.before.before.before.if1.true in
-    let e = ap (λ (b : Bool). sevenRecords s.args.counts.now b) t in
+    let e = ap (λ (b : Bool). seven_records s.args.counts.now b) t in
     let f = c.before.before.write-chiitoitsu.ensures in (
-      omega (arith, f.0, ap length e, seven-length (held s.args.counts.now) (s.requires.1.0 t)),
+      omega (arith, f.0, ap length e, seven_length (held s.args.counts.now) (s.requires.1.0 t)),
       f.1 ∙ ap (sets s.args.out.now 0) (sym e),
     )
 

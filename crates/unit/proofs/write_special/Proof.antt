@@ -9,19 +9,19 @@ use Rattle.hand.specs.Records.{records}
 use Rattle.checks.specs.declared.Calls.{Calls}
 use Rattle.checks.proofs.Passed.{passed}
 use Rattle.unit.specs.declared.FoundSpecial.{FoundSpecial}
-use Rattle.unit.specs.FirstPass.{specials, FindsSpecial, sevenRecords, orphanRecords}
+use Rattle.unit.specs.FirstPass.{specials, FindsSpecial, seven_records, orphan_records}
 use borrow.Author.Rules.{rules}
-use Rattle.unit.proofs.Listed.{both-written, special-is}
+use Rattle.unit.proofs.Listed.{both_written, special_is}
 use Rattle.unit.proofs.write_special.Statement.{statement}
 use Rattle.unit.proofs.write_special.Tie as tie
 
 -- both parts
 module _ (cs : List ℕ) (k : Calls) (f : FoundSpecial) (finds : FindsSpecial cs k f) where
-  parts : records (specials cs k) ≡ sevenRecords cs f.seven ++ orphanRecords f.orphan
-  parts = finds.listed ∙ special-is cs f
+  parts : records (specials cs k) ≡ seven_records cs f.seven ++ orphan_records f.orphan
+  parts = finds.listed ∙ special_is cs f
 
-  sizes : length (records (specials cs k)) ≡ length (sevenRecords cs f.seven) + length (orphanRecords f.orphan)
-  sizes = ap length parts ∙ length-append (sevenRecords cs f.seven) (orphanRecords f.orphan)
+  sizes : length (records (specials cs k)) ≡ length (seven_records cs f.seven) + length (orphan_records f.orphan)
+  sizes = ap length parts ∙ length-append (seven_records cs f.seven) (orphan_records f.orphan)
 
 find-special-requires : tie.Need-find-special-requires
 find-special-requires c κs = search rules
@@ -42,7 +42,7 @@ write-orphan-requires c κs =
     let cs = s.args.counts.now in
     let f = c.before.before.before.before.before.before.find-special in
     let w = c.before.before.before.before.write-seven.ensures in
-    let long = ap length w.1 ∙ length-sets s.args.out.now 0 (sevenRecords cs f.result.seven) in
+    let long = ap length w.1 ∙ length-sets s.args.out.now 0 (seven_records cs f.result.seven) in
     omega (arith, s.requires.1, sizes cs s.args.k f.result f.ensures, w.0, long)
 
 same_length : tie.Need-same-length
@@ -62,7 +62,7 @@ returns c =
         r.1,
         (
           omega (arith, sizes cs k f.result f.ensures, w.0, o.0),
-          both-written (sevenRecords cs f.result.seven) (orphanRecords f.result.orphan) s.args.out.now _ _ _ w.1 w.0 o.1
+          both_written (seven_records cs f.result.seven) (orphan_records f.result.orphan) s.args.out.now _ _ _ w.1 w.0 o.1
               ∙ ap (sets s.args.out.now 0) (sym (parts cs k f.result f.ensures)),
         ),
       ),

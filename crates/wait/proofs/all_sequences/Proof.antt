@@ -2,8 +2,8 @@
 -- Assumes nothing.
 use mathlib.Core.Path.{◌≡◌}
 use lib.ListN.{length}
-use Rattle.meld.specs.Meld.{isSequence}
-use Rattle.structure.proofs.Four.{all-four}
+use Rattle.meld.specs.Meld.{is_sequence}
+use Rattle.structure.proofs.Four.{all_four}
 use borrow.Author.Rules.{rules}
 use Rattle.wait.proofs.all_sequences.Statement.{statement}
 use Rattle.wait.proofs.all_sequences.Tie as tie
@@ -42,7 +42,7 @@ returns c =
       c.before.before.is-sequence3.ensures,
       c.is-sequence4.ensures,
     )
-    (all-four isSequence start.args.t1 _ size)
+    (all_four is_sequence start.args.t1 _ size)
 
 pub all-sequences-spec : {M : Type 1} → statement M
 all-sequences-spec =

@@ -2,8 +2,8 @@
 -- Assumes nothing.
 use mathlib.Core.Path.{◌≡◌}
 use lib.ListN.{length}
-use Rattle.wait.specs.Wait.{closedRun, twoSided}
-use Rattle.structure.proofs.Four.{any-four}
+use Rattle.wait.specs.Wait.{closed_run, two_sided}
+use Rattle.structure.proofs.Four.{any_four}
 use borrow.Author.Rules.{rules}
 use Rattle.wait.proofs.any_ryanmen.Statement.{statement}
 use Rattle.wait.proofs.any_ryanmen.Tie as tie
@@ -42,7 +42,7 @@ returns c =
       c.before.before.is-ryanmen3.ensures,
       c.is-ryanmen4.ensures,
     )
-    (any-four (closedRun twoSided start.args.t) start.args.t1 _ size)
+    (any_four (closed_run two_sided start.args.t) start.args.t1 _ size)
 
 pub any-ryanmen-spec : {M : Type 1} → statement M
 any-ryanmen-spec =

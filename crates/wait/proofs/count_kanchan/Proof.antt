@@ -2,8 +2,8 @@
 -- Assumes nothing.
 use mathlib.Core.Path.{◌≡◌}
 use lib.ListN.{length}
-use Rattle.wait.specs.Wait.{closedRun, middle}
-use Rattle.structure.proofs.Four.{count-four}
+use Rattle.wait.specs.Wait.{closed_run, middle}
+use Rattle.structure.proofs.Four.{count_four}
 use borrow.Author.Rules.{rules}
 use Rattle.wait.proofs.count_kanchan.Statement.{statement}
 use Rattle.wait.proofs.count_kanchan.Tie as tie
@@ -46,7 +46,7 @@ returns c =
         c.before.before.before.is-kanchan3.ensures,
         c.before.is-kanchan4.ensures,
       )
-          (count-four (closedRun middle start.args.t) start.args.t1 _ size),
+          (count_four (closed_run middle start.args.t) start.args.t1 _ size),
       c.how-many.ensures.1,
     )
 

@@ -2,8 +2,8 @@
 -- Assumes nothing.
 use mathlib.Core.Path.{◌≡◌}
 use lib.ListN.{length}
-use Rattle.wait.specs.Wait.{closedRun, edge}
-use Rattle.structure.proofs.Four.{count-four}
+use Rattle.wait.specs.Wait.{closed_run, edge}
+use Rattle.structure.proofs.Four.{count_four}
 use borrow.Author.Rules.{rules}
 use Rattle.wait.proofs.count_penchan.Statement.{statement}
 use Rattle.wait.proofs.count_penchan.Tie as tie
@@ -46,7 +46,7 @@ returns c =
         c.before.before.before.is-penchan3.ensures,
         c.before.is-penchan4.ensures,
       )
-          (count-four (closedRun edge start.args.t) start.args.t1 _ size),
+          (count_four (closed_run edge start.args.t) start.args.t1 _ size),
       c.how-many.ensures.1,
     )
 

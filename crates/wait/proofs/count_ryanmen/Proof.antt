@@ -2,8 +2,8 @@
 -- Assumes nothing.
 use mathlib.Core.Path.{◌≡◌}
 use lib.ListN.{length}
-use Rattle.wait.specs.Wait.{closedRun, twoSided}
-use Rattle.structure.proofs.Four.{count-four}
+use Rattle.wait.specs.Wait.{closed_run, two_sided}
+use Rattle.structure.proofs.Four.{count_four}
 use borrow.Author.Rules.{rules}
 use Rattle.wait.proofs.count_ryanmen.Statement.{statement}
 use Rattle.wait.proofs.count_ryanmen.Tie as tie
@@ -46,7 +46,7 @@ returns c =
         c.before.before.before.is-ryanmen3.ensures,
         c.before.is-ryanmen4.ensures,
       )
-          (count-four (closedRun twoSided start.args.t) start.args.t1 _ size),
+          (count_four (closed_run two_sided start.args.t) start.args.t1 _ size),
       c.how-many.ensures.1,
     )
 

@@ -2,8 +2,8 @@
 -- Assumes nothing.
 use mathlib.Core.Path.{◌≡◌}
 use lib.ListN.{length}
-use Rattle.wait.specs.Wait.{closedTriplet}
-use Rattle.structure.proofs.Four.{count-four}
+use Rattle.wait.specs.Wait.{closed_triplet}
+use Rattle.structure.proofs.Four.{count_four}
 use borrow.Author.Rules.{rules}
 use Rattle.wait.proofs.count_shanpon.Statement.{statement}
 use Rattle.wait.proofs.count_shanpon.Tie as tie
@@ -46,7 +46,7 @@ returns c =
         c.before.before.before.is-shanpon3.ensures,
         c.before.is-shanpon4.ensures,
       )
-          (count-four (closedTriplet start.args.t) start.args.t1 _ size),
+          (count_four (closed_triplet start.args.t) start.args.t1 _ size),
       c.how-many.ensures.1,
     )
 

@@ -1,7 +1,7 @@
 -- `holds` meets its contract: the definition, asked of the number at which a closed sequence starts.
 -- Assumes nothing.
 use borrow.Author.Rules.{rules}
-use Rattle.wait.proofs.Starts.{closed-within}
+use Rattle.wait.proofs.Starts.{closed_within}
 use Rattle.wait.proofs.holds.Statement.{statement}
 use Rattle.wait.proofs.holds.Tie as tie
 
@@ -12,7 +12,7 @@ add-result : tie.Need-overflow-add-result
 add-result c = search rules
 
 returns : tie.Need-returns
-returns c = simp (c.closed-start.ensures, closed-within c.before.args.t c.before.args.m (search rules))
+returns c = simp (c.closed-start.ensures, closed_within c.before.args.t c.before.args.m (search rules))
 
 pub holds-spec : {M : Type 1} → statement M
 holds-spec = tie.close (tie.spec closed-start-requires add-result returns)

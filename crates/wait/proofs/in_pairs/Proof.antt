@@ -3,7 +3,7 @@
 use mathlib.Core.Path.{◌≡◌}
 use lib.Dec.{eqb}
 use lib.ListN.{length}
-use Rattle.structure.proofs.Seven.{any-seven}
+use Rattle.structure.proofs.Seven.{any_seven}
 use borrow.Author.Rules.{rules}
 use Rattle.wait.proofs.in_pairs.Statement.{statement}
 use Rattle.wait.proofs.in_pairs.Tie as tie
@@ -32,7 +32,7 @@ array-read-result-7 c = search rules
 returns : tie.Need-returns
 returns c =
     let size : length c.args.t1 ≡ 7 = search rules in
-    any-seven (eqb c.args.t) c.args.t1 0 size
+    any_seven (eqb c.args.t) c.args.t1 0 size
 
 pub in-pairs-spec : {M : Type 1} → statement M
 in-pairs-spec =

@@ -3,7 +3,7 @@
 use borrow.Author.Rules.{rules}
 use mathlib.Core.Bool.{not}
 use lib.Dec.{eqb}
-use Rattle.wait.proofs.Starts.{closedStart, at_first, at_last, closed-twoSided}
+use Rattle.wait.proofs.Starts.{closed_start, at_first, at_last, closed_two_sided_holds}
 use Rattle.wait.proofs.is_ryanmen.Statement.{statement}
 use Rattle.wait.proofs.is_ryanmen.Tie as tie
 
@@ -17,7 +17,7 @@ returns : tie.Need-returns
 returns c =
     let t = c.before.args.t in
     let m = c.before.args.m in
-    simp (c.closed-start.ensures, at_first (λ n. not (eqb n 6)) t (closedStart m), at_last not t (closedStart m), closed-twoSided t m (search rules))
+    simp (c.closed-start.ensures, at_first (λ n. not (eqb n 6)) t (closed_start m), at_last not t (closed_start m), closed_two_sided_holds t m (search rules))
 
 pub is-ryanmen-spec : {M : Type 1} → statement M
 is-ryanmen-spec = tie.close (tie.spec closed-start-requires add-result returns)

@@ -2,8 +2,8 @@
 -- Assumes nothing.
 use mathlib.Core.Path.{◌≡◌}
 use lib.ListN.{length}
-use Rattle.wait.specs.Wait.{closedRun, within}
-use Rattle.structure.proofs.Four.{any-four}
+use Rattle.wait.specs.Wait.{closed_run, within}
+use Rattle.structure.proofs.Four.{any_four}
 use borrow.Author.Rules.{rules}
 use Rattle.wait.proofs.winning_tile_in_closed_sequence.Statement.{statement}
 use Rattle.wait.proofs.winning_tile_in_closed_sequence.Tie as tie
@@ -42,7 +42,7 @@ returns c =
       c.before.before.holds3.ensures,
       c.holds4.ensures,
     )
-    (any-four (closedRun within start.args.w.winning_tile) start.args.t1 _ size)
+    (any_four (closed_run within start.args.w.winning_tile) start.args.t1 _ size)
 
 pub winning-tile-in-closed-sequence-spec : {M : Type 1} → statement M
 winning-tile-in-closed-sequence-spec =

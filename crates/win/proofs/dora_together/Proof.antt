@@ -4,11 +4,11 @@ use Prim.Native.Nat.{ℕ, ◌≤◌}
 use native.Mathlib.Omega.{arith}
 use lib.ListN.{length}
 use Rattle.lists.proofs.Finite.{T→true}
-use Rattle.context.proofs.Shown.{none_of, both-none}
-use Rattle.dora.specs.Dora.{doraIn}
-use Rattle.dora.proofs.Counting.{none-shown}
+use Rattle.context.proofs.Shown.{none_of, both_none}
+use Rattle.dora.specs.Dora.{dora_in}
+use Rattle.dora.proofs.Counting.{none_shown_holds}
 use Rattle.checks.specs.Checks.{called, together}
-use Rattle.checks.proofs.Four.{four-each}
+use Rattle.checks.proofs.Four.{four_each}
 use Rattle.checks.proofs.Passed.{passed}
 use borrow.Author.Rules.{rules}
 use Rattle.win.proofs.dora_together.Statement.{statement}
@@ -20,10 +20,10 @@ shows-none-requires c κs = search rules
 returns : tie.Need-returns
 returns c =
     let a = c.before.before.before.args in
-    let none = both-none a.w (sym c.before.shows-none.ensures ∙ c.if1.true) in
+    let none = both_none a.w (sym c.before.shows-none.ensures ∙ c.if1.true) in
     let d = none_of a.w.dora_indicators none.0 in
     let u = none_of a.w.ura_dora_indicators none.1 in
-    (sym (none-shown (together a.counts.now (called a.k)) a.w d u), (omega arith, omega arith))
+    (sym (none_shown_holds (together a.counts.now (called a.k)) a.w d u), (omega arith, omega arith))
 
 with-calls-requires : tie.Need-with-calls-requires
 with-calls-requires c κs =
@@ -40,14 +40,14 @@ count-dora-detailed-requires c κs =
     let all = c.before.with-calls in
     let h = passed s.args.counts.now s.args.k s.requires.0 in
     let long : length all.result ≡ 34 = search rules in
-    (long, (four-each all.result long (λ t i. subst (λ (n : ℕ). n ≤ 4) (sym (all.ensures t)) (h.whole t i)), s.requires.1))
+    (long, (four_each all.result long (λ t i. subst (λ (n : ℕ). n ≤ 4) (sym (all.ensures t)) (h.whole t i)), s.requires.1))
 
 returns-2 : tie.Need-returns-2
 returns-2 c =
     let a = c.before.before.before.before.before.before.args in
     let all = fun_ext c.before.before.with-calls.ensures in
     let dora = c.count-dora-detailed.ensures in
-    (dora.0 ∙ ap (λ (f : ℕ → ℕ). doraIn f a.w) all, dora.1)
+    (dora.0 ∙ ap (λ (f : ℕ → ℕ). dora_in f a.w) all, dora.1)
 
 pub dora-together-spec : {M : Type 1} → statement M
 dora-together-spec =

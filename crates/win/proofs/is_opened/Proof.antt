@@ -1,8 +1,8 @@
 -- `is_opened` meets its contract. Assumes nothing.
 use mathlib.Core.Path.{sym, ◌∙◌}
 use lib.ListN.{length-map}
-use Rattle.meld.specs.Meld.{isOpen}
-use Rattle.win.proofs.Opened.{any-of-four}
+use Rattle.meld.specs.Meld.{is_open}
+use Rattle.win.proofs.Opened.{any_of_four}
 use borrow.Author.Rules.{rules}
 use Rattle.win.proofs.is_opened.Statement.{statement}
 use Rattle.win.proofs.is_opened.Tie as tie
@@ -45,7 +45,7 @@ returns-2 c =
       c.before.before.is-open-call3.ensures,
       c.is-open-call4.ensures,
     )
-    (any-of-four isOpen k.count k.melds long)
+    (any_of_four is_open k.count k.melds long)
 
 pub is-opened-spec : {M : Type 1} → statement M
 is-opened-spec =

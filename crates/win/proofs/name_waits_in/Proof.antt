@@ -2,14 +2,14 @@
 use mathlib.Core.Path.{sym, ap, ◌∙◌}
 use lib.ListN.{length-map}
 use Rattle.rules.specs.Rules.{game}
-use Rattle.checks.proofs.Passed.{passes-four}
+use Rattle.checks.proofs.Passed.{passes_four}
 use Rattle.promises.proofs.Listing.{room}
-use Rattle.win.proofs.Checked.{hand-passes}
-use Rattle.win.proofs.Readings.{held-readings}
-use Rattle.win.proofs.Answers.{waits-refused, waits-none, waits-named}
+use Rattle.win.proofs.Checked.{hand_passes}
+use Rattle.win.proofs.Readings.{held_readings}
+use Rattle.win.proofs.Answers.{waits_refused, waits_none, waits_named}
 use Rattle.structure.specs.Structure.{reading_of}
-use Rattle.records.specs.Buffer.{readingAt}
-use Rattle.win.specs.Win.{namedWaits}
+use Rattle.records.specs.Buffer.{reading_at}
+use Rattle.win.specs.Win.{named_waits}
 use borrow.Author.Rules.{rules}
 use Rattle.win.proofs.name_waits_in.Statement.{statement}
 use Rattle.win.proofs.name_waits_in.Tie as tie
@@ -24,7 +24,7 @@ returns : tie.Need-returns
 returns c =
     let s = c.before.before.before.before in
     let e = c.before.before.check-win in
-    c.refused-waits.ensures ∙ waits-refused (game s.args.v) s.args.counts.now s.args.k s.args.w e.result e.ensures c.before.if1.true s.args.n
+    c.refused-waits.ensures ∙ waits_refused (game s.args.v) s.args.counts.now s.args.k s.args.w e.result e.ensures c.before.if1.true s.args.n
 
 slice-aggregate-write-all : tie.Need-slice-aggregate-write-all
 slice-aggregate-write-all c = search rules
@@ -36,8 +36,8 @@ write-all-requires c κs =
     let k = s.args.k in
     let passes = sym c.before.before.check-win.ensures ∙ c.before.if1.false in
     let g = game s.args.v in
-    let inGame = hand-passes g cs k s.args.w passes in
-    let ok = passes-four g cs k inGame in
+    let inGame = hand_passes g cs k s.args.w passes in
+    let ok = passes_four g cs k inGame in
     let four = sym (length-map k.melds _) ∙ s.well-formed.1.0.1.1.1.0.1.0.1 in
     (ok, room g cs k four inGame)
 
@@ -51,12 +51,12 @@ returns-2 c =
     let k = s.args.k in
     let passes = sym c.before.before.before.before.before.before.check-win.ensures ∙ c.before.before.before.before.before.if1.false in
     let g = game s.args.v in
-    let inGame = hand-passes g cs k s.args.w passes in
-    let ok = passes-four g cs k inGame in
+    let inGame = hand_passes g cs k s.args.w passes in
+    let ok = passes_four g cs k inGame in
     let four = sym (length-map k.melds _) ∙ s.well-formed.1.0.1.1.1.0.1.0.1 in
     let b = c.before.before.before.write-all in
-    let holds = held-readings cs k four ok _ _ b.result b.ensures.1.1 (room g cs k four inGame) b.ensures.0 in
-    c.refused-waits2.ensures ∙ waits-none g cs k s.args.w passes _ b.result holds s.args.n c.before.if2.true
+    let holds = held_readings cs k four ok _ _ b.result b.ensures.1.1 (room g cs k four inGame) b.ensures.0 in
+    c.refused-waits2.ensures ∙ waits_none g cs k s.args.w passes _ b.result holds s.args.n c.before.if2.true
 
 slice-aggregate-reading-at : tie.Need-slice-aggregate-reading-at
 slice-aggregate-reading-at c = search rules
@@ -80,16 +80,16 @@ returns-3 c =
     let k = s.args.k in
     let passes = sym c.before.before.before.before.before.before.before.before.before.before.check-win.ensures ∙ c.before.before.before.before.before.before.before.before.before.if1.false in
     let g = game s.args.v in
-    let inGame = hand-passes g cs k s.args.w passes in
-    let ok = passes-four g cs k inGame in
+    let inGame = hand_passes g cs k s.args.w passes in
+    let ok = passes_four g cs k inGame in
     let four = sym (length-map k.melds _) ∙ s.well-formed.1.0.1.1.1.0.1.0.1 in
     let b = c.before.before.before.before.before.before.before.write-all in
-    let holds = held-readings cs k four ok _ _ b.result b.ensures.1.1 (room g cs k four inGame) b.ensures.0 in
+    let holds = held_readings cs k four ok _ _ b.result b.ensures.1.1 (room g cs k four inGame) b.ensures.0 in
     let h = c.before.reading-at in
     let place = c.before.before.place_of in
-    ap namedWaits c.detect-wait-types.ensures
-    ∙ waits-named g cs k s.args.w passes _ b.result holds s.args.n c.before.before.before.before.before.if2.false (reading_of h.result)
-    (h.ensures ∙ ap (readingAt _) place.ensures.0)
+    ap named_waits c.detect-wait-types.ensures
+    ∙ waits_named g cs k s.args.w passes _ b.result holds s.args.n c.before.before.before.before.before.if2.false (reading_of h.result)
+    (h.ensures ∙ ap (reading_at _) place.ensures.0)
 
 pub name-waits-in-spec : {M : Type 1} → statement M
 name-waits-in-spec =

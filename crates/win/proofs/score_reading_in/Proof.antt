@@ -3,14 +3,14 @@ use mathlib.Core.Path.{sym, ap, ◌∙◌}
 use lib.ListN.{length-map}
 use Rattle.lists.proofs.Finite.{T→true}
 use Rattle.rules.specs.Rules.{game}
-use Rattle.checks.proofs.Passed.{passes-four}
+use Rattle.checks.proofs.Passed.{passes_four}
 use Rattle.promises.proofs.Listing.{room}
-use Rattle.win.proofs.Checked.{hand-passes}
+use Rattle.win.proofs.Checked.{hand_passes}
 use Rattle.win.proofs.Passed.{checked}
-use Rattle.win.proofs.Readings.{held-readings}
-use Rattle.win.proofs.Answers.{reading-refused, reading-none, reading-scored}
+use Rattle.win.proofs.Readings.{held_readings}
+use Rattle.win.proofs.Answers.{reading_refused, reading_none, reading_scored}
 use Rattle.structure.specs.Structure.{reading_of}
-use Rattle.records.specs.Buffer.{readingAt}
+use Rattle.records.specs.Buffer.{reading_at}
 use Rattle.choice.specs.Choice.{scored}
 use borrow.Author.Rules.{rules}
 use Rattle.win.proofs.score_reading_in.Statement.{statement}
@@ -26,7 +26,7 @@ returns : tie.Need-returns
 returns c =
     let s = c.before.before.before.before in
     let e = c.before.before.check-win in
-    c.refused.ensures ∙ reading-refused (game s.args.v) s.args.counts.now s.args.k s.args.w e.result e.ensures c.before.if1.true s.args.n
+    c.refused.ensures ∙ reading_refused (game s.args.v) s.args.counts.now s.args.k s.args.w e.result e.ensures c.before.if1.true s.args.n
 
 slice-aggregate-write-all : tie.Need-slice-aggregate-write-all
 slice-aggregate-write-all c = search rules
@@ -38,8 +38,8 @@ write-all-requires c κs =
     let k = s.args.k in
     let passes = sym c.before.before.check-win.ensures ∙ c.before.if1.false in
     let g = game s.args.v in
-    let inGame = hand-passes g cs k s.args.w passes in
-    let ok = passes-four g cs k inGame in
+    let inGame = hand_passes g cs k s.args.w passes in
+    let ok = passes_four g cs k inGame in
     let four = sym (length-map k.melds _) ∙ s.well-formed.1.0.1.1.1.0.1.0.1 in
     (ok, room g cs k four inGame)
 
@@ -53,12 +53,12 @@ returns-2 c =
     let k = s.args.k in
     let passes = sym c.before.before.before.before.before.before.check-win.ensures ∙ c.before.before.before.before.before.if1.false in
     let g = game s.args.v in
-    let inGame = hand-passes g cs k s.args.w passes in
-    let ok = passes-four g cs k inGame in
+    let inGame = hand_passes g cs k s.args.w passes in
+    let ok = passes_four g cs k inGame in
     let four = sym (length-map k.melds _) ∙ s.well-formed.1.0.1.1.1.0.1.0.1 in
     let b = c.before.before.before.write-all in
-    let holds = held-readings cs k four ok _ _ b.result b.ensures.1.1 (room g cs k four inGame) b.ensures.0 in
-    c.refused2.ensures ∙ reading-none g cs k s.args.w passes _ b.result holds s.args.n c.before.if2.true
+    let holds = held_readings cs k four ok _ _ b.result b.ensures.1.1 (room g cs k four inGame) b.ensures.0 in
+    c.refused2.ensures ∙ reading_none g cs k s.args.w passes _ b.result holds s.args.n c.before.if2.true
 
 slice-aggregate-reading-at : tie.Need-slice-aggregate-reading-at
 slice-aggregate-reading-at c = search rules
@@ -77,13 +77,13 @@ dora-together-requires c κs =
     let s = c.before.before.before.before.before.before.before.before.before.before.before in
     let passes = sym c.before.before.before.before.before.before.before.before.before.check-win.ensures ∙ c.before.before.before.before.before.before.before.before.if1.false in
     let p = checked s.args.counts.now s.args.k s.args.w passes in
-    (passes-four (game s.args.v) s.args.counts.now s.args.k p.hand, T→true _ p.indicators)
+    (passes_four (game s.args.v) s.args.counts.now s.args.k p.hand, T→true _ p.indicators)
 
 tiles-together-requires : tie.Need-tiles-together-requires
 tiles-together-requires c κs =
     let s = c.before.before.before.before.before.before.before.before.before.before.before.before in
     let passes = sym c.before.before.before.before.before.before.before.before.before.before.check-win.ensures ∙ c.before.before.before.before.before.before.before.before.before.if1.false in
-    passes-four (game s.args.v) s.args.counts.now s.args.k (hand-passes (game s.args.v) s.args.counts.now s.args.k s.args.w passes)
+    passes_four (game s.args.v) s.args.counts.now s.args.k (hand_passes (game s.args.v) s.args.counts.now s.args.k s.args.w passes)
 
 is-opened-requires : tie.Need-is-opened-requires
 is-opened-requires c κs = search rules
@@ -101,11 +101,11 @@ returns-3 c =
     let k = s.args.k in
     let passes = sym c.before.before.before.before.before.before.before.before.before.before.before.before.before.before.check-win.ensures ∙ c.before.before.before.before.before.before.before.before.before.before.before.before.before.if1.false in
     let g = game s.args.v in
-    let inGame = hand-passes g cs k s.args.w passes in
-    let ok = passes-four g cs k inGame in
+    let inGame = hand_passes g cs k s.args.w passes in
+    let ok = passes_four g cs k inGame in
     let four = sym (length-map k.melds _) ∙ s.well-formed.1.0.1.1.1.0.1.0.1 in
     let b = c.before.before.before.before.before.before.before.before.before.before.before.write-all in
-    let holds = held-readings cs k four ok _ _ b.result b.ensures.1.1 (room g cs k four inGame) b.ensures.0 in
+    let holds = held_readings cs k four ok _ _ b.result b.ensures.1.1 (room g cs k four inGame) b.ensures.0 in
     let h = c.before.before.before.before.before.reading-at in
     let place = c.before.before.before.before.before.before.place_of in
     let dora = c.before.before.before.before.dora-together in
@@ -113,8 +113,8 @@ returns-3 c =
     let opened = c.before.before.is-opened in
     c.scored.ensures
     ∙ ap (scored s.args.n) c.before.calculate-score.ensures
-    ∙ reading-scored g cs k s.args.w passes _ b.result holds s.args.n c.before.before.before.before.before.before.before.before.before.if2.false tiles.result dora.result opened.result
-    tiles.ensures dora.ensures.0 opened.ensures (reading_of h.result) (h.ensures ∙ ap (readingAt _) place.ensures.0)
+    ∙ reading_scored g cs k s.args.w passes _ b.result holds s.args.n c.before.before.before.before.before.before.before.before.before.if2.false tiles.result dora.result opened.result
+    tiles.ensures dora.ensures.0 opened.ensures (reading_of h.result) (h.ensures ∙ ap (reading_at _) place.ensures.0)
 
 pub score-reading-in-spec : {M : Type 1} → statement M
 score-reading-in-spec =

@@ -3,12 +3,12 @@ use mathlib.Core.Path.{sym, ◌∙◌}
 use lib.ListN.{length-map}
 use Rattle.lists.proofs.Finite.{T→true}
 use Rattle.rules.specs.Rules.{game}
-use Rattle.checks.proofs.Passed.{passes-four}
+use Rattle.checks.proofs.Passed.{passes_four}
 use Rattle.promises.proofs.Listing.{room}
-use Rattle.win.proofs.Checked.{hand-passes}
+use Rattle.win.proofs.Checked.{hand_passes}
 use Rattle.win.proofs.Passed.{checked}
-use Rattle.win.proofs.Readings.{held-readings}
-use Rattle.win.proofs.Answers.{win_refused, win-none, win-chosen}
+use Rattle.win.proofs.Readings.{held_readings}
+use Rattle.win.proofs.Answers.{win_refused, win_none, win_chosen}
 use borrow.Author.Rules.{rules}
 use Rattle.win.proofs.score_win_in.Statement.{statement}
 use Rattle.win.proofs.score_win_in.Tie as tie
@@ -35,8 +35,8 @@ write-all-requires c κs =
     let k = s.args.k in
     let passes = sym c.before.before.check-win.ensures ∙ c.before.if1.false in
     let g = game s.args.v in
-    let inGame = hand-passes g cs k s.args.w passes in
-    let ok = passes-four g cs k inGame in
+    let inGame = hand_passes g cs k s.args.w passes in
+    let ok = passes_four g cs k inGame in
     let four = sym (length-map k.melds _) ∙ s.well-formed.1.0.1.1.1.0.1.0.1 in
     (ok, room g cs k four inGame)
 
@@ -50,25 +50,25 @@ returns-2 c =
     let k = s.args.k in
     let passes = sym c.before.before.before.before.before.before.check-win.ensures ∙ c.before.before.before.before.before.if1.false in
     let g = game s.args.v in
-    let inGame = hand-passes g cs k s.args.w passes in
-    let ok = passes-four g cs k inGame in
+    let inGame = hand_passes g cs k s.args.w passes in
+    let ok = passes_four g cs k inGame in
     let four = sym (length-map k.melds _) ∙ s.well-formed.1.0.1.1.1.0.1.0.1 in
     let b = c.before.before.before.write-all in
-    let holds = held-readings cs k four ok _ _ b.result b.ensures.1.1 (room g cs k four inGame) b.ensures.0 in
-    c.refused2.ensures ∙ win-none g cs k s.args.w passes _ b.result holds c.before.if2.true
+    let holds = held_readings cs k four ok _ _ b.result b.ensures.1.1 (room g cs k four inGame) b.ensures.0 in
+    c.refused2.ensures ∙ win_none g cs k s.args.w passes _ b.result holds c.before.if2.true
 
 dora-together-requires : tie.Need-dora-together-requires
 dora-together-requires c κs =
     let s = c.before.before.before.before.before.before.before in
     let passes = sym c.before.before.before.before.before.check-win.ensures ∙ c.before.before.before.before.if1.false in
     let p = checked s.args.counts.now s.args.k s.args.w passes in
-    (passes-four (game s.args.v) s.args.counts.now s.args.k p.hand, T→true _ p.indicators)
+    (passes_four (game s.args.v) s.args.counts.now s.args.k p.hand, T→true _ p.indicators)
 
 tiles-together-requires : tie.Need-tiles-together-requires
 tiles-together-requires c κs =
     let s = c.before.before.before.before.before.before.before.before in
     let passes = sym c.before.before.before.before.before.before.check-win.ensures ∙ c.before.before.before.before.before.if1.false in
-    passes-four (game s.args.v) s.args.counts.now s.args.k (hand-passes (game s.args.v) s.args.counts.now s.args.k s.args.w passes)
+    passes_four (game s.args.v) s.args.counts.now s.args.k (hand_passes (game s.args.v) s.args.counts.now s.args.k s.args.w passes)
 
 slice-aggregate-choose : tie.Need-slice-aggregate-choose
 slice-aggregate-choose c = search rules
@@ -86,15 +86,15 @@ returns-3 c =
     let k = s.args.k in
     let passes = sym c.before.before.before.before.before.before.before.before.before.before.check-win.ensures ∙ c.before.before.before.before.before.before.before.before.before.if1.false in
     let g = game s.args.v in
-    let inGame = hand-passes g cs k s.args.w passes in
-    let ok = passes-four g cs k inGame in
+    let inGame = hand_passes g cs k s.args.w passes in
+    let ok = passes_four g cs k inGame in
     let four = sym (length-map k.melds _) ∙ s.well-formed.1.0.1.1.1.0.1.0.1 in
     let b = c.before.before.before.before.before.before.before.write-all in
-    let holds = held-readings cs k four ok _ _ b.result b.ensures.1.1 (room g cs k four inGame) b.ensures.0 in
+    let holds = held_readings cs k four ok _ _ b.result b.ensures.1.1 (room g cs k four inGame) b.ensures.0 in
     let dora = c.before.before.before.before.dora-together in
     let tiles = c.before.before.before.tiles-together in
     let opened = c.before.is-opened in
-    win-chosen g cs k s.args.w passes _ b.result holds tiles.result dora.result opened.result tiles.ensures dora.ensures.0
+    win_chosen g cs k s.args.w passes _ b.result holds tiles.result dora.result opened.result tiles.ensures dora.ensures.0
     opened.ensures c.choose.result c.choose.ensures
 
 pub score-win-in-spec : {M : Type 1} → statement M

@@ -2,7 +2,7 @@
 use mathlib.Core.Path.{ap, fun_ext, ◌∙◌}
 use Prim.Native.Nat.{ℕ}
 use Rattle.lists.proofs.Finite.{T→true}
-use Rattle.tile_yaku.specs.Tiles.{tileYaku}
+use Rattle.tile_yaku.specs.Tiles.{tile_yaku}
 use Rattle.checks.proofs.Passed.{passed}
 use borrow.Author.Rules.{rules}
 use Rattle.win.proofs.tiles_together.Statement.{statement}
@@ -23,7 +23,7 @@ tile-yaku-requires c κs = search rules
 returns : tie.Need-returns
 returns c =
     let a = c.before.before.before.before.args in
-    c.tile-yaku.ensures ∙ ap (λ (f : ℕ → ℕ). tileYaku f a.w.winning_tile) (fun_ext c.before.before.with-calls.ensures)
+    c.tile-yaku.ensures ∙ ap (λ (f : ℕ → ℕ). tile_yaku f a.w.winning_tile) (fun_ext c.before.before.with-calls.ensures)
 
 pub tiles-together-spec : {M : Type 1} → statement M
 tiles-together-spec =

@@ -2,7 +2,7 @@
 use mathlib.Core.Path.{◌≡◌}
 use lib.ListN.{length}
 use Rattle.yaku.specs.Tally.{ordinary}
-use Rattle.yaku.proofs.Loops.{last-part, all-parts}
+use Rattle.yaku.proofs.Loops.{last_part, all_parts}
 use borrow.Author.Rules.{rules}
 use Rattle.yaku.proofs.all_tallies.Statement.{statement}
 use Rattle.yaku.proofs.all_tallies.Tie as tie
@@ -20,7 +20,7 @@ returns : tie.Need-returns
 returns c =
     let a = c.before.before.before.before.before.args in
     let size : length a.t5 ≡ 15 = search rules in
-    simp (c.before.before.put_all_lem.ensures, c.if1.true) (last-part a.t5 size)
+    simp (c.before.before.put_all_lem.ensures, c.if1.true) (last_part a.t5 size)
 
 one-han-requires : tie.Need-one-han-requires
 one-han-requires c κs = search rules
@@ -61,7 +61,7 @@ returns-2 c =
     let ones-size : length ones.result ≡ 17 = search rules in
     let more-size : length more.result ≡ 15 = search rules in
     simp (put-more.put-all3.ensures, put-ones.put-all2.ensures, at-if.before.before.put_all_lem.ensures, at-if.if1.false, ← ones.ensures, ← more.ensures)
-    (all-parts a.t5 size ones.result more.result ones-size more-size)
+    (all_parts a.t5 size ones.result more.result ones-size more-size)
 
 pub all-tallies-spec : {M : Type 1} → statement M
 all-tallies-spec =

@@ -4,8 +4,8 @@ use mathlib.Core.Path.{sym, ◌∙◌}
 use lib.ListN.{length-map}
 use Rattle.structure.specs.Structure.{reading_of}
 use Rattle.yaku.proofs.Found.{all_found}
-use Rattle.structure.proofs.Short.{short-reading}
-use Rattle.yaku.proofs.Laws.{han-small}
+use Rattle.structure.proofs.Short.{short_reading}
+use Rattle.yaku.proofs.Laws.{han_small}
 use borrow.Author.Rules.{rules}
 use Rattle.yaku.proofs.detect_yaku_with_context.Statement.{statement}
 use Rattle.yaku.proofs.detect_yaku_with_context.Tie as tie
@@ -43,7 +43,7 @@ cast-t13 c =
     let start = c.before.before.before.before.before.before in
     let a = start.args in
     let four = sym (length-map a.h.melds _) ∙ start.well-formed.0.1.1.1.0.1.0.1 in
-    let small = han-small a.w a.opened a.s (reading_of a.h) (short-reading a.h four) in
+    let small = han_small a.w a.opened a.s (reading_of a.h) (short_reading a.h four) in
     let found = returns c in
     search rules
 

@@ -1,7 +1,7 @@
 -- `may_be_yakuman` meets its contract: where each part of the answer is no, there is no yakuman. Assumes nothing.
 use mathlib.Core.Path.{sym, ◌∙◌}
 use Rattle.structure.specs.Structure.{reading_of}
-use Rattle.yaku.proofs.NoYakuman.{neither, no-yakuman}
+use Rattle.yaku.proofs.NoYakuman.{neither, no_yakuman_holds}
 use borrow.Author.Rules.{rules}
 use Rattle.yaku.proofs.may_be_yakuman.Statement.{statement}
 use Rattle.yaku.proofs.may_be_yakuman.Tie as tie
@@ -28,7 +28,7 @@ returns c = λ e.
     let suited = neither _ _ tiles.1 in
     let shape = neither _ _ rest.1 in
     let orphans = neither _ _ shape.0 in
-    no-yakuman a.w a.opened a.s first.0 first.1 honors.0 honors.1 suited.0 suited.1 (reading_of a.h)
+    no_yakuman_holds a.w a.opened a.s first.0 first.1 honors.0 honors.1 suited.0 suited.1 (reading_of a.h)
     (sym on.ensures ∙ orphans.0) (sym beside.ensures ∙ orphans.1) (sym c.has-three-sets.ensures ∙ shape.1)
 
 pub may-be-yakuman-spec : {M : Type 1} → statement M

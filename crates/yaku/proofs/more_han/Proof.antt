@@ -1,6 +1,6 @@
 -- `more_han` meets its contract: the fifteen tallies of more han, each by what its check ensures.
 -- Assumes nothing.
-use Rattle.yaku.specs.Tally.{moreHan}
+use Rattle.yaku.specs.Tally.{more_han}
 use borrow.Author.Rules.{rules}
 use Rattle.yaku.proofs.more_han.Statement.{statement}
 use Rattle.yaku.proofs.more_han.Tie as tie
@@ -84,7 +84,7 @@ one-if-requires-15 : tie.Need-one-if-requires-15
 one-if-requires-15 c κs = search rules
 
 returns : tie.Need-returns
-unfolding moreHan
+unfolding more_han
 returns c =
     let e15 = c in
     let e14 = e15.before.before in

@@ -1,6 +1,6 @@
 -- `one_han` meets its contract: the seventeen tallies of one han, each by what its check ensures.
 -- Assumes nothing.
-use Rattle.yaku.specs.Tally.{oneHan}
+use Rattle.yaku.specs.Tally.{one_han}
 use borrow.Author.Rules.{rules}
 use Rattle.yaku.proofs.one_han.Statement.{statement}
 use Rattle.yaku.proofs.one_han.Tie as tie
@@ -51,7 +51,7 @@ one-if-requires-10 : tie.Need-one-if-requires-10
 one-if-requires-10 c κs = search rules
 
 returns : tie.Need-returns
-unfolding oneHan
+unfolding one_han
 returns c =
     let e17 = c in
     let e16 = e17.before.before in

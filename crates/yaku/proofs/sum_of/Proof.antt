@@ -4,13 +4,13 @@ use Prim.Native.Nat.{◌+◌, ◌-◌, ◌*◌, ◌≤◌}
 use native.Mathlib.Nat.{mul-le-mul}
 use native.Mathlib.Omega.{arith}
 use lib.ListN.{length}
-use Rattle.yaku.proofs.Loops.{dotFrom, dot-all, dot-turn, dot-end}
+use Rattle.yaku.proofs.Loops.{dot_from, dot_all, dot_turn, dot_end}
 use borrow.Author.Rules.{rules}
 use Rattle.yaku.proofs.sum_of.Statement.{statement}
 use Rattle.yaku.proofs.sum_of.Tie as tie
 
 abbrev invariant-loop : tie.invariant-loop
-invariant-loop values tallies han₀ i₀ han i = (i ≤ 47) × ((han ≤ i * 65025) × (han + dotFrom values tallies i ≡ dotFrom values tallies 0))
+invariant-loop values tallies han₀ i₀ han i = (i ≤ 47) × ((han ≤ i * 65025) × (han + dot_from values tallies i ≡ dot_from values tallies 0))
 
 abbrev decreases-loop : tie.decreases-loop
 decreases-loop values tallies han₀ i₀ han i = 47 - i
@@ -50,7 +50,7 @@ loop-again c =
     let same : length a.t2 ≡ 47 = search rules in
     let small = mul-le-mul c.before.wide.ensures.1 c.wide2.ensures.1 in
     let product = ap₂ ◌*◌ c.before.wide.ensures.0 c.wide2.ensures.0 in
-    let turn = dot-turn a.t1 a.t2 l.i (omega arith) (omega arith) in
+    let turn = dot_turn a.t1 a.t2 l.i (omega arith) (omega arith) in
     (omega arith, (omega arith, omega arith))
 
 returns : tie.Need-returns invariant-loop decreases-loop
@@ -58,9 +58,9 @@ returns c =
     let l = c.before.loop in
     let a = c.before.before.args in
     let size : length a.t1 ≡ 47 = search rules in
-    let rest = dot-end a.t1 a.t2 l.i (omega arith) in
-    let whole : l.han ≡ dotFrom a.t1 a.t2 0 = omega arith in
-    whole ∙ dot-all a.t1 a.t2
+    let rest = dot_end a.t1 a.t2 l.i (omega arith) in
+    let whole : l.han ≡ dot_from a.t1 a.t2 0 = omega arith in
+    whole ∙ dot_all a.t1 a.t2
 
 pub sum-of-spec : {M : Type 1} → statement M
 sum-of-spec =

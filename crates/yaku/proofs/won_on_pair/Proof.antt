@@ -2,8 +2,8 @@
 -- Assumes nothing.
 use mathlib.Core.Path.{◌≡◌, refl}
 use mathlib.Core.Bool.{true, false}
-use Rattle.structure.proofs.Cases.{otherwise-orphans}
-use Rattle.yaku.specs.Tally.{orphansWon}
+use Rattle.structure.proofs.Cases.{otherwise_orphans}
+use Rattle.yaku.specs.Tally.{orphans_won}
 use borrow.Author.Rules.{rules}
 use Rattle.yaku.proofs.won_on_pair.Statement.{statement}
 use Rattle.yaku.proofs.won_on_pair.Tie as tie
@@ -13,7 +13,7 @@ enum-known-s c = search rules
 
 returns : tie.Need-returns
 returns c =
-    otherwise-orphans (λ r. false ≡ orphansWon c.before.args.w true r) c.before.args.h (λ p. refl) refl c.match.keys2
+    otherwise_orphans (λ r. false ≡ orphans_won c.before.args.w true r) c.before.args.h (λ p. refl) refl c.match.keys2
 
 returns-2 : tie.Need-returns-2
 returns-2 c = simp c.before.before.before.s.given.1

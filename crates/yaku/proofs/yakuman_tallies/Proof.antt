@@ -1,8 +1,8 @@
 -- `yakuman_tallies` meets its contract: the fifteen tallies of yakuman, 0 where none may be, else each by what its check ensures.
 -- Assumes nothing.
-use Rattle.set_yaku.specs.Sets.{kans, suuKantsu}
+use Rattle.set_yaku.specs.Sets.{kans, suu_kantsu}
 use Rattle.structure.specs.Structure.{reading_of}
-use Rattle.yaku.proofs.NoYakuman.{all-zero}
+use Rattle.yaku.proofs.NoYakuman.{all_zero}
 use borrow.Author.Rules.{rules}
 use borrow.Author.Tests.{not-true}
 use Rattle.yaku.proofs.yakuman_tallies.Statement.{statement}
@@ -14,7 +14,7 @@ may-be-yakuman-requires c κs = search rules
 returns : tie.Need-returns
 returns c =
     let a = c.before.before.args in
-    all-zero a.w a.opened a.s (reading_of a.h) (c.before.may-be-yakuman.ensures (not-true _ c.if1.true))
+    all_zero a.w a.opened a.s (reading_of a.h) (c.before.may-be-yakuman.ensures (not-true _ c.if1.true))
 
 is-tsumo-requires : tie.Need-is-tsumo-requires
 is-tsumo-requires c κs = search rules
@@ -107,7 +107,7 @@ one-if-requires-15 : tie.Need-one-if-requires-15
 one-if-requires-15 c κs = search rules
 
 returns-2 : tie.Need-returns-2
-unfolding suuKantsu kans
+unfolding suu_kantsu kans
 returns-2 c =
     let e15 = c in
     let e14 = e15.before.before.before in

@@ -10,7 +10,7 @@ use Rattle.lent.proofs.gather.Symbol.{name as #g}
 use Rattle.lent.proofs.gather.Met as g-thm
 use Rattle.unit.specs.Listing.{listing, written}
 use Rattle.answers.specs.declared.ListingAnswer.{ListingAnswer}
-use Rattle.answers.specs.Answers.{listingAnswer}
+use Rattle.answers.specs.Answers.{listing_answer}
 use Rattle.checks.specs.declared.Calls.{Calls}
 use Rattle.ziwhakemo.proofs.Listed.{Handed, listed}
 use Rattle.ziwhakemo.proofs.list_values.Symbol as h-def
@@ -22,7 +22,7 @@ use Rattle.ziwhakemo.proofs.ziwhakemo_list_readings.Code as code
 
 -- what is said of the answer, and of the buffer's last list
 abbrev answered : List ℕ → Calls → List ℕ → ListingAnswer → Type 0
-answered cs k out r = r ≡ listingAnswer (listing cs k (length out))
+answered cs k out r = r ≡ listing_answer (listing cs k (length out))
 
 abbrev left : List ℕ → Calls → List ℕ → List ℕ → Type 0
 left cs k out last = last ≡ written cs k out

@@ -1,6 +1,6 @@
 -- `ziwhakemo::ziwhakemo_score_level` meets its contract: it hands on what `scoring::determine_score_level` answers. Assumes nothing.
 use mathlib.Core.Path.{ap, ◌∙◌}
-use Rattle.answers.specs.Answers.{levelAnswer}
+use Rattle.answers.specs.Answers.{level_answer}
 use borrow.Author.Rules.{rules}
 use Rattle.ziwhakemo.proofs.ziwhakemo_score_level.Statement.{statement}
 use Rattle.ziwhakemo.proofs.ziwhakemo_score_level.Tie as tie
@@ -12,7 +12,7 @@ level-of-requires : tie.Need-level-of-requires
 level-of-requires c κs = search rules
 
 returns : tie.Need-returns
-returns c = c.level-of.ensures ∙ ap levelAnswer c.before.determine-score-level.ensures
+returns c = c.level-of.ensures ∙ ap level_answer c.before.determine-score-level.ensures
 
 pub ziwhakemo-score-level-spec : {M : Type 1} → statement M
 ziwhakemo-score-level-spec =

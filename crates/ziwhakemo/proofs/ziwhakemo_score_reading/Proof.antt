@@ -6,8 +6,8 @@ use Rattle.lent.proofs.Handed.{Gather}
 use Rattle.lent.proofs.gather.Symbol as g-def
 use Rattle.lent.proofs.gather.Symbol.{name as #g}
 use Rattle.lent.proofs.gather.Met as g-thm
-use Rattle.win.specs.Win.{scoreReading}
-use Rattle.answers.specs.Answers.{scoreValues}
+use Rattle.win.specs.Win.{score_reading}
+use Rattle.answers.specs.Answers.{score_values}
 use Rattle.ziwhakemo.proofs.Numbered.{Handed, numbered}
 use Rattle.answers.specs.contracts.ScoreValues as R
 use Rattle.answers.proofs.ScoreValues.TheLaws as R'
@@ -21,7 +21,7 @@ use Rattle.ziwhakemo.proofs.ziwhakemo_score_reading.Code as code
 pub ziwhakemo-score-reading-spec : {M : Type 1} → stated.statement M
 unfolding code.routine
 ziwhakemo-score-reading-spec 𝓤 𝓛 𝓜 𝓡 =
-    numbered R.the_row R'.mir (λ cs k w n r. r ≡ scoreValues (scoreReading cs k w n)) #h 𝓛 𝓜 𝓡 code.env #f
+    numbered R.the_row R'.mir (λ cs k w n r. r ≡ score_values (score_reading cs k w n)) #h 𝓛 𝓜 𝓡 code.env #f
     (λ r v is. ((LL.lawful R.the_type R'.the_laws 𝓛).typed r _ is).0) (code.unfolded 𝓤 𝓛.H 𝓜 𝓡)
     (cited 𝓤 𝓛.H (Gather 𝓛 𝓜.mem 𝓡.run) 𝓜 𝓡 code.env #g g-def.routine code.calls-lent::gather (g-thm.met 𝓤 𝓛 𝓜 𝓡))
-    (cited 𝓤 𝓛.H (Handed R.the_row (λ cs k w n r. r ≡ scoreValues (scoreReading cs k w n)) 𝓛) 𝓜 𝓡 code.env #h h-def.routine code.calls-ziwhakemo::reading-values (h_thm.met 𝓤 𝓛 𝓜 𝓡))
+    (cited 𝓤 𝓛.H (Handed R.the_row (λ cs k w n r. r ≡ score_values (score_reading cs k w n)) 𝓛) 𝓜 𝓡 code.env #h h-def.routine code.calls-ziwhakemo::reading_values (h_thm.met 𝓤 𝓛 𝓜 𝓡))

@@ -2,7 +2,7 @@
 -- Assumes nothing.
 use mathlib.Core.Path.{sym, ◌∙◌}
 use borrow.Author.Rules.{rules}
-use Rattle.context.proofs.Shown.{both-none, none-checked}
+use Rattle.context.proofs.Shown.{both_none, none_checked}
 use Rattle.context.proofs.GameContext.has_indicators.Statement.{statement}
 use Rattle.context.proofs.GameContext.has_indicators.Tie as tie
 
@@ -12,8 +12,8 @@ shows-none-requires c κs = search rules
 returns : tie.Need-returns
 returns c =
     let w = c.before.before.args.self in
-    let none = both-none w (sym c.before.shows-none.ensures ∙ c.if1.true) in
-    sym (none-checked w none.0 none.1)
+    let none = both_none w (sym c.before.shows-none.ensures ∙ c.if1.true) in
+    sym (none_checked w none.0 none.1)
 
 are-indicators-requires : tie.Need-are-indicators-requires
 are-indicators-requires c κs = search rules

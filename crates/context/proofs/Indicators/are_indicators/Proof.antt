@@ -6,7 +6,7 @@ use native.Mathlib.Omega.{arith}
 use lib.Dec.{ltb}
 use lib.ListN.{length, get_or, take, drop}
 use Rattle.lists.specs.Fold.{all}
-use Rattle.lists.proofs.First.{first-pass, first-fail, first-end}
+use Rattle.lists.proofs.First.{first_pass, first_fail, first_end}
 use borrow.Author.Tests.{le-leb, lt-leb, lt-ltb, le-ltb}
 use borrow.Author.Rules.{rules}
 use Rattle.context.proofs.Indicators.are_indicators.Statement.{statement}
@@ -42,7 +42,7 @@ returns-2 c =
     sym
     (ap (λ (b : Bool). b && all (λ t. ltb t 34) (take i.count i.tiles)) few
     ∙ sym l.invariant.1.1
-    ∙ first-fail (λ t. ltb t 34) i.tiles i.count l.i (omega arith) 0 c.before.loop-test.true bad)
+    ∙ first_fail (λ t. ltb t 34) i.tiles i.count l.i (omega arith) 0 c.before.loop-test.true bad)
 
 add-i : tie.Need-overflow-add-i invariant-loop decreases-loop
 add-i c = search rules
@@ -58,7 +58,7 @@ loop-again c =
       l.invariant.0,
       (
         omega arith,
-        first-pass (λ t. ltb t 34) i.tiles i.count l.i (omega arith) 0 c.before.loop-test.true good ∙ l.invariant.1.1,
+        first_pass (λ t. ltb t 34) i.tiles i.count l.i (omega arith) 0 c.before.loop-test.true good ∙ l.invariant.1.1,
       ),
     )
 
@@ -70,7 +70,7 @@ returns-3 c =
     sym
     (ap (λ (b : Bool). b && all (λ t. ltb t 34) (take i.count i.tiles)) few
     ∙ sym l.invariant.1.1
-    ∙ first-end (λ t. ltb t 34) i.tiles i.count l.i (omega arith) c.loop-test.false)
+    ∙ first_end (λ t. ltb t 34) i.tiles i.count l.i (omega arith) c.loop-test.false)
 
 pub are-indicators-spec : {M : Type 1} → statement M
 are-indicators-spec =

@@ -7,7 +7,7 @@ use native.Mathlib.Omega.{arith}
 use lib.ListN.{length, drop, set, length-map, length-set}
 use lib.Seq.{sets}
 use Rattle.lists.proofs.Members.{at_map}
-use Rattle.lists.proofs.Stores.{sets-next, copy-end, copy-whole}
+use Rattle.lists.proofs.Stores.{sets_next, copy_end, copy_whole}
 use Rattle.tile.specs.Renaming.{ren}
 use borrow.Author.Rules.{rules}
 use Rattle.context.specs.declared.Indicators.{Indicators}
@@ -47,7 +47,7 @@ loop-again c =
     let long = length-map ts (ren a.by) in (
       ap (λ (x : ℕ). sets (set l.to l.i x) (l.i + 1) (drop (l.i + 1) (map (ren a.by) ts)))
           (c.renamed.ensures ∙ sym (at_map (ren a.by) ts l.i 0 0 (omega arith)))
-          ∙ sym (sets-next l.to (map (ren a.by) ts) l.i l.i (omega arith)) ∙ l.invariant.0,
+          ∙ sym (sets_next l.to (map (ren a.by) ts) l.i l.i (omega arith)) ∙ l.invariant.0,
       (simp length-set l.invariant.1.0, l.invariant.1.1),
     )
 
@@ -57,11 +57,11 @@ returns c =
     let l = c.before.loop in
     let ts = map (ren a.by) a.self.tiles in
     let long = length-map a.self.tiles (ren a.by) in
-    ap (λ (l : List ℕ). the-indicators a.self.count l)
-    (copy-end l.to ts l.i (omega arith) ∙ l.invariant.0 ∙ copy-whole _ ts (omega arith))
+    ap (λ (l : List ℕ). the_indicators a.self.count l)
+    (copy_end l.to ts l.i (omega arith) ∙ l.invariant.0 ∙ copy_whole _ ts (omega arith))
   where
-    the-indicators : ℕ → List ℕ → Indicators
-    the-indicators n l = record { count = n; tiles = l }
+    the_indicators : ℕ → List ℕ → Indicators
+    the_indicators n l = record { count = n; tiles = l }
 
 pub renamed-spec : {M : Type 1} → statement M
 renamed-spec =

@@ -1,6 +1,6 @@
 -- `decompose::Packed::without_pair` meets its contract. Assumes nothing.
 use native.Mathlib.Omega.{arith}
-use Rattle.decompose.proofs.Words.{high_small, low-there, low-less, high-there, high-less}
+use Rattle.decompose.proofs.Words.{high_small, low_there, low_less, high_there, high_less}
 use borrow.Author.Rules.{rules}
 use Rattle.decompose.proofs.Packed.without_pair.Statement.{statement}
 use Rattle.decompose.proofs.Packed.without_pair.Tie as tie
@@ -17,7 +17,7 @@ shl-t6 c = search rules
 sub-t7 : tie.Need-overflow-sub-t7
 sub-t7 c =
     let s = c.before.before in
-    low-there s.args.self s.requires.1.0 s.args.p c.before.if1.true s.requires.1.1
+    low_there s.args.self s.requires.1.0 s.args.p c.before.if1.true s.requires.1.1
 
 mul-t8 : tie.Need-overflow-mul-t8
 mul-t8 c =
@@ -27,7 +27,7 @@ mul-t8 c =
 returns : tie.Need-returns
 returns c =
     let s = c.before.before.before in
-    low-less s.args.self s.requires.1.0 s.args.p c.before.before.if1.true s.requires.1.1
+    low_less s.args.self s.requires.1.0 s.args.p c.before.before.if1.true s.requires.1.1
 
 mul-t10 : tie.Need-overflow-mul-t10
 mul-t10 c = search rules
@@ -41,7 +41,7 @@ shl-t12 c = search rules
 sub-t13 : tie.Need-overflow-sub-t13
 sub-t13 c =
     let s = c.before.before in
-    high-there s.args.self s.requires.1.0 s.args.p c.before.if1.false s.requires.0 s.requires.1.1
+    high_there s.args.self s.requires.1.0 s.args.p c.before.if1.false s.requires.0 s.requires.1.1
 
 mul-t14 : tie.Need-overflow-mul-t14
 mul-t14 c =
@@ -51,7 +51,7 @@ mul-t14 c =
 returns-2 : tie.Need-returns-2
 returns-2 c =
     let s = c.before.before in
-    high-less s.args.self s.requires.1.0 s.args.p c.before.if1.false s.requires.0 s.requires.1.1
+    high_less s.args.self s.requires.1.0 s.args.p c.before.if1.false s.requires.0 s.requires.1.1
 
 pub without-pair-spec : {M : Type 1} → statement M
 without-pair-spec =

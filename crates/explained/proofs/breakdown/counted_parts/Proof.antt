@@ -1,7 +1,7 @@
 -- The parts of a pair and four melds that are no pinfu: rounding never takes away. Assumes nothing.
 use native.Mathlib.Omega.{arith}
-use Rattle.explained.specs.Breakdown.{countedParts}
-use Rattle.explained.proofs.Rounded.{rounded-up}
+use Rattle.explained.specs.Breakdown.{counted_parts}
+use Rattle.explained.proofs.Rounded.{rounded_up}
 use borrow.Author.Rules.{rules}
 use Rattle.explained.proofs.breakdown.counted_parts.Statement.{statement}
 use Rattle.explained.proofs.breakdown.counted_parts.Tie as tie
@@ -21,7 +21,7 @@ rounded-fu-requires c κs = search rules
 sub-rounding : tie.Need-overflow-sub-rounding
 sub-rounding c =
     let told = c.rounded-fu.ensures in
-    let more = rounded-up c.before.before.before.before.args.opened c.before.raw-fu.result in
+    let more = rounded_up c.before.before.before.before.args.opened c.before.raw-fu.result in
     omega arith
 
 pick-requires : tie.Need-pick-requires
@@ -40,7 +40,7 @@ wait-fu-requires : tie.Need-wait-fu-requires
 wait-fu-requires c κs = search rules
 
 returns : tie.Need-returns
-unfolding countedParts
+unfolding counted_parts
 returns c =
     let picked = c.before.before.before in
     let rounded = picked.before.before in

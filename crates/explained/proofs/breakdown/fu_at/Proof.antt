@@ -2,7 +2,7 @@
 use mathlib.Core.Path.{◌≡◌}
 use native.Mathlib.Omega.{arith}
 use lib.ListN.{length}
-use Rattle.explained.proofs.Places.{past-places, at_place}
+use Rattle.explained.proofs.Places.{past_places, at_place}
 use borrow.Author.Rules.{rules}
 use Rattle.explained.proofs.breakdown.fu_at.Statement.{statement}
 use Rattle.explained.proofs.breakdown.fu_at.Tie as tie
@@ -11,7 +11,7 @@ returns : tie.Need-returns
 returns c =
     let start = c.before in
     let size : length start.args.t1 ≡ 4 = search rules in
-    past-places start.args.w start.args.t1 start.args.i (omega (arith, c.if1.true))
+    past_places start.args.w start.args.t1 start.args.i (omega (arith, c.if1.true))
 
 winning-tile-in-closed-sequence-requires : tie.Need-winning-tile-in-closed-sequence-requires
 winning-tile-in-closed-sequence-requires c κs = search rules

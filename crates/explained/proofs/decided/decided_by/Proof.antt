@@ -1,5 +1,5 @@
 -- What decided between two scores. Assumes nothing.
-use Rattle.explained.specs.Decided.{decidedBy}
+use Rattle.explained.specs.Decided.{decided_by}
 use borrow.Author.Rules.{rules}
 use Rattle.explained.proofs.decided.decided_by.Statement.{statement}
 use Rattle.explained.proofs.decided.decided_by.Tie as tie
@@ -14,7 +14,7 @@ first-of-requires : tie.Need-first-of-requires
 first-of-requires c κs = search rules
 
 returns : tie.Need-returns
-unfolding decidedBy
+unfolding decided_by
 returns c = simp (c.before.before.before.before.before.before.before.before.total.ensures, c.before.before.before.before.before.before.before.total2.ensures, c.first_of.ensures)
 
 pub decided-by-spec : {M : Type 1} → statement M

@@ -1,5 +1,5 @@
 -- Why a flag counts nothing: it is not set, or the first reason against it. Assumes nothing.
-use Rattle.explained.specs.Flags.{whyUncounted}
+use Rattle.explained.specs.Flags.{why_uncounted}
 use borrow.Author.Rules.{rules}
 use Rattle.explained.proofs.flags.why_uncounted.Statement.{statement}
 use Rattle.explained.proofs.flags.why_uncounted.Tie as tie
@@ -14,7 +14,7 @@ unless-requires : tie.Need-unless-requires
 unless-requires c κs = search rules
 
 returns : tie.Need-returns
-unfolding whyUncounted
+unfolding why_uncounted
 returns c = simp (c.before.before.is_set.ensures, c.before.reason.ensures, c.unless.ensures)
 
 pub why-uncounted-spec : {M : Type 1} → statement M

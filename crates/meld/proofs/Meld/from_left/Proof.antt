@@ -3,14 +3,14 @@
 use mathlib.Core.Path.{◌≡◌, sym, ap, ◌∙◌}
 use mathlib.Core.Bool.{Bool, cond}
 use Prim.Native.Nat.{ℕ}
-use Rattle.meld.specs.Meld.{isOpen, meldFrom, meld}
+use Rattle.meld.specs.Meld.{is_open, meld_from, meld}
 use borrow.Author.Rules.{rules}
 use Rattle.meld.proofs.Meld.from_left.Statement.{statement}
 use Rattle.meld.proofs.Meld.from_left.Tie as tie
 
 -- the meld as it is taken, by whether it is open
-left_is : (t k : ℕ) (b : Bool) → isOpen (meldFrom t k 0) ≡ b → meldFrom t k (cond b 3 0) ≡ meld t k
-left_is t k b e = ap (λ (o : Bool). meldFrom t k (cond o 3 0)) (sym e)
+left_is : (t k : ℕ) (b : Bool) → is_open (meld_from t k 0) ≡ b → meld_from t k (cond b 3 0) ≡ meld t k
+left_is t k b e = ap (λ (o : Bool). meld_from t k (cond o 3 0)) (sym e)
 
 is-open-requires : tie.Need-is-open-requires
 is-open-requires c κs = search rules

@@ -5,18 +5,18 @@ use mathlib.Core.Bool.{Bool, true, ◌&&◌}
 use Prim.Native.Nat.{ℕ, ◌<◌}
 use native.Mathlib.Omega.{arith}
 use lib.Dec.{ltb, ltb→lt}
-use Rattle.lists.proofs.Finite.{and_left, and_right, true→T, T→true}
-use Rattle.tile.specs.Tile.{isStart}
+use Rattle.lists.proofs.Finite.{and_left, and_right, true→t, T→true}
+use Rattle.tile.specs.Tile.{is_start}
 use borrow.Author.Rules.{rules}
 use Rattle.meld.proofs.Meld.renamed.Statement.{statement}
 use Rattle.meld.proofs.Meld.renamed.Tie as tie
 
-and-true : (a b : Bool) → a && b ≡ true → b ≡ true
-and-true a b h = T→true b (and_right a b (true→T (a && b) h))
+and_true : (a b : Bool) → a && b ≡ true → b ≡ true
+and_true a b h = T→true b (and_right a b (true→t (a && b) h))
 
 -- where the branch is taken
-low : (a b : Bool) (t : ℕ) → b ≡ isStart t → a && b ≡ true → t < 27
-low a b t e h = ltb→lt t 27 (and_left (ltb t 27) _ (true→T (isStart t) (sym e ∙ and-true a b h)))
+low : (a b : Bool) (t : ℕ) → b ≡ is_start t → a && b ≡ true → t < 27
+low a b t e h = ltb→lt t 27 (and_left (ltb t 27) _ (true→t (is_start t) (sym e ∙ and_true a b h)))
 
 renamed-requires : tie.Need-renamed-requires
 renamed-requires c κs = search rules

@@ -1,6 +1,6 @@
 -- `is_closed` meets its contract: a piece of one character is not closed. Assumes nothing.
 use mathlib.Core.Bool.{false}
-use Rattle.lists.proofs.Finite.{true→T}
+use Rattle.lists.proofs.Finite.{true→t}
 use borrow.Author.Rules.{rules}
 use Rattle.notation.proofs.pieces.is_closed.Statement.{statement}
 use Rattle.notation.proofs.pieces.is_closed.Tie as tie
@@ -9,7 +9,7 @@ sub-if1 : tie.Need-overflow-sub-if1
 sub-if1 c = search rules
 
 returns : tie.Need-returns
-returns c = λ e. absurd (true→T false e)
+returns c = λ e. absurd (true→t false e)
 
 sub-result : tie.Need-overflow-sub-result
 sub-result c = search rules

@@ -2,7 +2,7 @@
 use mathlib.Core.Path.{sym, ◌∙◌}
 use lib.ListN.{length-map}
 use Rattle.rules.specs.Rules.{game}
-use Rattle.notation.proofs.Table.{seated-four}
+use Rattle.notation.proofs.Table.{seated_four}
 use borrow.Author.Rules.{rules}
 use Rattle.notation.proofs.seats.seated.Statement.{statement}
 use Rattle.notation.proofs.seats.seated.Tie as tie
@@ -42,7 +42,7 @@ returns c =
       c.before.before.at-table3.ensures,
       c.at-table4.ensures,
     )
-    (seated-four (game s.args.v) k _ long)
+    (seated_four (game s.args.v) k _ long)
 
 pub seated-spec : {M : Type 1} → statement M
 seated-spec =

@@ -2,12 +2,12 @@
 -- record begins within the buffer and its length is in two bytes. Assumes nothing.
 use Prim.Native.Nat.{◌≤◌, ◌-◌}
 use borrow.Author.Rules.{rules}
-use Rattle.hand.specs.Records.{alwaysEnough}
+use Rattle.hand.specs.Records.{always_enough}
 use Rattle.play_exported.proofs.asked.same_records.Statement.{statement}
 use Rattle.play_exported.proofs.asked.same_records.Tie as tie
 
 abbrev invariant-loop : tie.invariant-loop
-invariant-loop buf readings bytes at₀ n₀ at n = (n ≤ readings) × ((at ≤ 70000) × (bytes ≤ alwaysEnough))
+invariant-loop buf readings bytes at₀ n₀ at n = (n ≤ readings) × ((at ≤ 70000) × (bytes ≤ always_enough))
 
 abbrev decreases-loop : tie.decreases-loop
 decreases-loop buf readings bytes at₀ n₀ at n = readings - n

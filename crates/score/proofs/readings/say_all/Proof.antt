@@ -2,7 +2,7 @@
 use mathlib.Core.Path.{sym, ◌∙◌}
 use lib.ListN.{length-map}
 use Rattle.rules.specs.Rules.{game}
-use Rattle.checks.proofs.Passed.{passes-four}
+use Rattle.checks.proofs.Passed.{passes_four}
 use Rattle.promises.proofs.Listing.{room}
 use borrow.Author.Rules.{rules}
 use Rattle.score.proofs.readings.say_all.Statement.{statement}
@@ -28,7 +28,7 @@ write-all-requires c κs =
     let g = game s.args.v in
     let inGame = sym c.before.before.before.before.check-hand.ensures ∙ c.before.before.before.if1.false in
     let four = sym (length-map k.melds _) ∙ s.well-formed.1.0.1.1.1.0.1.0.1 in
-    (passes-four g cs k inGame, room g cs k four inGame)
+    (passes_four g cs k inGame, room g cs k four inGame)
 
 slice-aggregate-say-readings : tie.Need-slice-aggregate-say-readings
 slice-aggregate-say-readings c = search rules

@@ -8,11 +8,11 @@ use Rattle.scoring.proofs.Payment.total.Statement.{statement}
 use Rattle.scoring.proofs.Payment.total.Tie as tie
 
 -- what at most three pay alike, and with what one more pays
-alike-fit : {n k : ℕ} → n ≤ 4294967295 → k ≤ 3 → n * k < 2 ^ 64
-alike-fit b c = omega (arith, mul-le-mul b c)
+alike_fit : {n k : ℕ} → n ≤ 4294967295 → k ≤ 3 → n * k < 2 ^ 64
+alike_fit b c = omega (arith, mul-le-mul b c)
 
-shares-fit : {m n k : ℕ} → m ≤ 4294967295 → n ≤ 4294967295 → k ≤ 3 → m + n * k < 2 ^ 64
-shares-fit a b c = omega (arith, mul-le-mul b c)
+shares_fit : {m n k : ℕ} → m ≤ 4294967295 → n ≤ 4294967295 → k ≤ 3 → m + n * k < 2 ^ 64
+shares_fit a b c = omega (arith, mul-le-mul b c)
 
 players-requires : tie.Need-players-requires
 players-requires c κs = search rules
@@ -33,7 +33,7 @@ sub-result : tie.Need-overflow-sub-result
 sub-result c = let seats = table c.before.before.before.before.args.v in omega arith
 
 mul-result : tie.Need-overflow-mul-result
-mul-result c = let seats = table c.before.before.before.before.args.v in record { fits = alike-fit (omega arith) (omega arith) }
+mul-result c = let seats = table c.before.before.before.before.args.v in record { fits = alike_fit (omega arith) (omega arith) }
 
 enum-known-self-3 : tie.Need-enum-known-self-3
 enum-known-self-3 c = search rules
@@ -48,10 +48,10 @@ sub-result-2 : tie.Need-overflow-sub-result-2
 sub-result-2 c = let seats = table c.before.before.before.before.args.v in omega arith
 
 mul-result-2 : tie.Need-overflow-mul-result-2
-mul-result-2 c = let seats = table c.before.before.before.before.args.v in record { fits = alike-fit (omega arith) (omega arith) }
+mul-result-2 c = let seats = table c.before.before.before.before.args.v in record { fits = alike_fit (omega arith) (omega arith) }
 
 add-result : tie.Need-overflow-add-result
-add-result c = let seats = table c.before.before.before.before.args.v in record { fits = shares-fit (omega arith) (omega arith) (omega arith) }
+add-result c = let seats = table c.before.before.before.before.args.v in record { fits = shares_fit (omega arith) (omega arith) (omega arith) }
 
 returns : tie.Need-returns
 returns c = search rules

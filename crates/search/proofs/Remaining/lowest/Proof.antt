@@ -6,8 +6,8 @@ use borrow.Author.Rules.{rules}
 use lib.Count.{count_trailing_zeros, trailing_le}
 use Rattle.search.specs.declared.Remaining.{Remaining}
 use Rattle.search.specs.Remaining.{Split, split, left, Fair, AtLowest}
-use Rattle.search.proofs.Digits.{lowest-place}
-use Rattle.search.proofs.Left.{lowest-tile, lowest-of, split-on}
+use Rattle.search.proofs.Digits.{lowest_place}
+use Rattle.search.proofs.Left.{lowest_tile, lowest_of, split_on}
 use Rattle.search.proofs.Remaining.lowest.Statement.{statement}
 use Rattle.search.proofs.Remaining.lowest.Tie as tie
 
@@ -15,16 +15,16 @@ module _ (s : Remaining) (f : Fair (split s)) (some : s.word ≡ 0 → ⊥) (fit
   abbrev zeros : ℕ
   zeros = count_trailing_zeros 64 s.word / 3
 
-  tile-below : s.behind % 64 + zeros < 34
-  tile-below = lowest-tile (split s) f zeros (lowest-place 64 s.word some fits)
+  tile_below : s.behind % 64 + zeros < 34
+  tile_below = lowest_tile (split s) f zeros (lowest_place 64 s.word some fits)
 
-  at-lowest : (c : ℕ → ℕ) → left (split s) ≡ c
+  at_lowest : (c : ℕ → ℕ) → left (split s) ≡ c
       → AtLowest (split (record { word = s.word / 2 ^ (3 * zeros); behind = s.behind + zeros }))
       × (left (split (record { word = s.word / 2 ^ (3 * zeros); behind = s.behind + zeros })) ≡ c)
-  at-lowest c e =
-      let l = lowest-of (split s) f zeros (lowest-place 64 s.word some fits) in
-      let h = tile-below in
-      subst (λ (t : Split). AtLowest t × (left t ≡ c)) (sym (split-on (s.word / 2 ^ (3 * zeros)) s.behind zeros (omega arith))) (l.0, l.1 ∙ e)
+  at_lowest c e =
+      let l = lowest_of (split s) f zeros (lowest_place 64 s.word some fits) in
+      let h = tile_below in
+      subst (λ (t : Split). AtLowest t × (left t ≡ c)) (sym (split_on (s.word / 2 ^ (3 * zeros)) s.behind zeros (omega arith))) (l.0, l.1 ∙ e)
 
 current-requires : tie.Need-current-requires
 current-requires c κs = search rules
@@ -46,13 +46,13 @@ add-t8 c =
     let p = c.before.before.before.current in
     let h : p.result.word < 2 ^ 64 = search rules in
     let b : p.result.behind < 2 ^ 64 = search rules in
-    omega (arith, tile-below p.result p.ensures.0 p.ensures.1.1 h)
+    omega (arith, tile_below p.result p.ensures.0 p.ensures.1.1 h)
 
 returns : tie.Need-returns
 returns c =
     let p = c.before.before.before.current in
     let h : p.result.word < 2 ^ 64 = search rules in
-    at-lowest p.result p.ensures.0 p.ensures.1.1 h _ p.ensures.1.0
+    at_lowest p.result p.ensures.0 p.ensures.1.1 h _ p.ensures.1.0
 
 pub lowest-spec : {M : Type 1} → statement M
 lowest-spec = tie.close (tie.spec current-requires mul-t4 cast-t5 shr-t6 cast-t7 add-t8 returns)

@@ -6,18 +6,18 @@ use Prim.Native.Nat.{ℕ, ◌-◌, ◌≤◌}
 use native.Mathlib.Omega.{arith}
 use lib.Dec.{eqb, leb, ltb, eqb→eq, leb→le}
 use borrow.Author.Rules.{rules}
-use Rattle.lists.proofs.Finite.{and_left, and_right, true→T, or_elim}
-use Rattle.tile.proofs.Orders.{order-bound}
+use Rattle.lists.proofs.Finite.{and_left, and_right, true→t, or_elim}
+use Rattle.tile.proofs.Orders.{order_bound}
 use Rattle.tile.proofs.Honors.of.Statement.{statement}
 use Rattle.tile.proofs.Honors.of.Tie as tie
 
 -- where the first branch is taken, and where the second is
 low : (d : Bool) (t : ℕ) → d && (eqb t 31 || eqb t 33) ≡ true → t ≤ 64
 low d t e =
-    or_elim (eqb t 31) (eqb t 33) (and_right d _ (true→T _ e)) (λ h. omega (arith, eqb→eq t 31 h)) (λ h. omega (arith, eqb→eq t 33 h))
+    or_elim (eqb t 31) (eqb t 33) (and_right d _ (true→t _ e)) (λ h. omega (arith, eqb→eq t 31 h)) (λ h. omega (arith, eqb→eq t 33 h))
 
 after : (t : ℕ) → leb 28 t && ltb t 31 ≡ true → 28 ≤ t
-after t e = leb→le 28 t (and_left (leb 28 t) (ltb t 31) (true→T _ e))
+after t e = leb→le 28 t (and_left (leb 28 t) (ltb t 31) (true→t _ e))
 
 sub-result : tie.Need-overflow-sub-result
 sub-result c = low c.before.before.args.self.dragons c.before.before.args.t c.if1.true
@@ -33,7 +33,7 @@ of-requires c κs = search rules
 
 add-result : tie.Need-overflow-add-result
 add-result c =
-    omega (arith, order-bound c.before.before.before.before.args.self.winds (c.before.before.before.before.args.t - 28) c.of.result c.of.ensures)
+    omega (arith, order_bound c.before.before.before.before.args.self.winds (c.before.before.before.before.args.t - 28) c.of.result c.of.ensures)
 
 returns-2 : tie.Need-returns-2
 returns-2 c = simp (c.before.before.if1.false, c.before.if2.true, c.of.ensures)

@@ -2,7 +2,7 @@
 use mathlib.Core.Path.{sym, ◌∙◌}
 use native.Mathlib.Omega.{arith}
 use lib.Dec.{leb, ltb, leb→le}
-use Rattle.lists.proofs.Finite.{and_left, true→T}
+use Rattle.lists.proofs.Finite.{and_left, true→t}
 use borrow.Author.Rules.{rules}
 use Rattle.yaku.proofs.names.honor_place.Statement.{statement}
 use Rattle.yaku.proofs.names.honor_place.Tie as tie
@@ -17,7 +17,7 @@ sub-result : tie.Need-overflow-sub-result
 sub-result c =
     let t = c.before.before.before.args.t.0 in
     let honor = sym c.before.before.is-honor.ensures ∙ c.before.if1.true in
-    let low = leb→le 27 t (and_left (leb 27 t) (ltb t 34) (true→T _ honor)) in
+    let low = leb→le 27 t (and_left (leb 27 t) (ltb t 34) (true→t _ honor)) in
     omega arith
 
 returns : tie.Need-returns

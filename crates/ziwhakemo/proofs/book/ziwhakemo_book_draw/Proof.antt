@@ -44,7 +44,7 @@ use Rattle.seat_book.specs.contracts.SeatBook as T
 use Rattle.seat_book.proofs.SeatBook.TheLaws as T'
 use Rattle.seat_book.specs.contracts.Deal as D
 use Rattle.seat_book.proofs.Deal.TheLaws as D'
-use Rattle.booking.specs.Booking.{drawOutcome, answer_of}
+use Rattle.booking.specs.Booking.{draw_outcome, answer_of}
 use Rattle.booking.specs.declared.Booked.{Booked}
 use Rattle.ziwhakemo.proofs.Booked.{low, parts, Ensured, ensured}
 use Rattle.booking.specs.contracts.Booked as R
@@ -89,14 +89,14 @@ module _ {M : Type 1} {𝓤 : Ura M} (𝓛 : Logic 𝓤) (at_mem : Memory → SP
 
   -- the answer
   abbrev x : Booked
-  x = answer_of was a.1.0 (drawOutcome was a.1.0)
+  x = answer_of was a.1.0 (draw_outcome was a.1.0)
 
   abbrev Post : Val → SProp 𝓤
   Post = (walk_of 𝓛 f.ended stayed (f.clauses 𝓛 at_mem run)).post ((κs, qs, tt, a, at), tt)
 
   -- what is handed on
-  abbrev to-h : (Callee 𝓛 at_mem run).Ghost
-  to-h = ((tt, tt, tt, (was, (a.1.0, tt)), (low was, (LL.vals D.the_type D'.the_laws a.1.0, tt))), tt)
+  abbrev to_h : (Callee 𝓛 at_mem run).Ghost
+  to_h = ((tt, tt, tt, (was, (a.1.0, tt)), (low was, (LL.vals D.the_type D'.the_laws a.1.0, tt))), tt)
 
   exits : x.number < 2 ^ 32 → ent 𝓤 (⋆ 𝓛 (‵ (fobs γ ((T.the_row).coded.code x.book)) ∷ ‵ (fbor κs.0 (Body (mem T.the_row) b o γ)) ∷ ‵ (flft κs.0 qs.0) ∷ [])) (Post (vint w32 x.number))
   exits fits =
@@ -124,8 +124,8 @@ module _ {M : Type 1} {𝓤 : Ura M} (𝓛 : Logic 𝓤) (at_mem : Memory → SP
         -- what is handed on: the book, the hands, the values
         nothing ! $ owned ! D.the_row (Is D.the_row) (LL.makes D.the_type D'.the_plain 𝓛) a.1.0 _ is1 $ fjoin ! $
         owned ! T.the_row (Is T.the_row) (LL.makes T.the_type T'.the_plain 𝓛) was _ isT $ fjoin ! $ nothing ! $ join ! $ nothing ! $ move ! (1 ∷ 0 ∷ []) $ join ! $
-        use1 𝓛 (raw ((Callee 𝓛 at_mem run).pre to-h)) (id⊢ 𝓤 _) $
-        gets 𝓛 fm h.ended (h.clauses 𝓛 at_mem run) known-h to-h x (λ r ws. id⊢ 𝓤 _) (LL.vals R.the_type R'.the_laws) (LL.tells R.the_type R'.the_laws)
+        use1 𝓛 (raw ((Callee 𝓛 at_mem run).pre to_h)) (id⊢ 𝓤 _) $
+        gets 𝓛 fm h.ended (h.clauses 𝓛 at_mem run) known-h to_h x (λ r ws. id⊢ 𝓤 _) (LL.vals R.the_type R'.the_laws) (LL.tells R.the_type R'.the_laws)
         (and_then ! (load ! (from ! (stop !)) (look ! 5 refl)) (and_then ! (load ! (from ! (stop !)) (look ! 9 refl)) (no_more !))) (λ isR. drop ! $
         land ! (from ! (stop !)) (init ! 6 refl ((LL.lawful R.the_type R'.the_laws 𝓛).typed x _ isR).0) $
         -- the book of the answer is stored, and its number is returned

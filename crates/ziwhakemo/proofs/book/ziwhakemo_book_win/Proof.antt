@@ -45,7 +45,7 @@ use Rattle.checks.specs.contracts.Calls as S
 use Rattle.checks.proofs.Calls.TheLaws as S'
 use Rattle.lent.specs.Lent.{calls_of}
 use Rattle.lent.proofs.Handed as Handed
-use Rattle.lent.proofs.Handed.{Gather, to-gather, gathers, gather-asked}
+use Rattle.lent.proofs.Handed.{Gather, to_gather, gathers, gather_asked}
 use Rattle.lent.proofs.gather.Symbol as g-def
 use Rattle.lent.proofs.gather.Symbol.{name as #g}
 use Rattle.lent.proofs.gather.Met as g-thm
@@ -60,7 +60,7 @@ use Rattle.seat_book.specs.contracts.Deal as D
 use Rattle.seat_book.proofs.Deal.TheLaws as D'
 use Rattle.settlements.specs.contracts.Winner as P
 use Rattle.settlements.proofs.Winner.TheLaws as P'
-use Rattle.booking.specs.Booking.{winOutcome, answer_of}
+use Rattle.booking.specs.Booking.{win_outcome, answer_of}
 use Rattle.booking.specs.declared.Booked.{Booked}
 use Rattle.ziwhakemo.proofs.Booked.{low, parts, Ensured, ensured}
 use Rattle.booking.specs.contracts.Booked as R
@@ -105,14 +105,14 @@ module _ {M : Type 1} {𝓤 : Ura M} (𝓛 : Logic 𝓤) (at_mem : Memory → SP
 
   -- the answer
   abbrev x : Booked
-  x = answer_of was a.1.1.1.1.0 (winOutcome was a.1.0.now (calls_of a.1.1.0.now) a.1.1.1.0 a.1.1.1.1.0 a.1.1.1.1.1.0)
+  x = answer_of was a.1.1.1.1.0 (win_outcome was a.1.0.now (calls_of a.1.1.0.now) a.1.1.1.0 a.1.1.1.1.0 a.1.1.1.1.1.0)
 
   abbrev Post : Val → SProp 𝓤
   Post = (walk_of 𝓛 f.ended stayed (f.clauses 𝓛 at_mem run)).post ((κs, qs, tt, a, at), tt)
 
   -- what is handed on
-  abbrev to-h : (Callee 𝓛 at_mem run).Ghost
-  to-h = (((κs.1.0, tt), (qs.1.0, tt), tt, (was, (a.1.0, (calls_of a.1.1.0.now, (a.1.1.1.0, (a.1.1.1.1.0, (a.1.1.1.1.1.0, tt)))))), (low was, (shr_slice_vals a.1.0, (Handed.low a.1.1.0, (LL.vals X.the_type X'.the_laws a.1.1.1.0, (LL.vals D.the_type D'.the_laws a.1.1.1.1.0, (LL.vals P.the_type P'.the_laws a.1.1.1.1.1.0, tt))))))), tt)
+  abbrev to_h : (Callee 𝓛 at_mem run).Ghost
+  to_h = (((κs.1.0, tt), (qs.1.0, tt), tt, (was, (a.1.0, (calls_of a.1.1.0.now, (a.1.1.1.0, (a.1.1.1.1.0, (a.1.1.1.1.1.0, tt)))))), (low was, (shr_slice_vals a.1.0, (Handed.low a.1.1.0, (LL.vals X.the_type X'.the_laws a.1.1.1.0, (LL.vals D.the_type D'.the_laws a.1.1.1.1.0, (LL.vals P.the_type P'.the_laws a.1.1.1.1.1.0, tt))))))), tt)
 
   exits : x.number < 2 ^ 32 → ent 𝓤 (⋆ 𝓛 (‵ (fobs γ ((T.the_row).coded.code x.book)) ∷ ‵ (fbor κs.0 (Body (mem T.the_row) b o γ)) ∷ ‵ (flft κs.0 qs.0) ∷ (‵ (flft κs.1.0 qs.1.0) ⊛ ‵ ftrue) ∷ (‵ (flft κs.1.1.0 qs.1.1.0) ⊛ ‵ ftrue) ∷ [])) (Post (vint w32 x.number))
   exits fits =
@@ -145,7 +145,7 @@ module _ {M : Type 1} {𝓤 : Ura M} (𝓛 : Logic 𝓤) (at_mem : Memory → SP
         -- [the book's cell; the open borrow; obs; auth; _9; …; _0; …; each slice and its token]
         assigns ! (of_opd ! (load ! (from ! (hop ! (look ! 20 refl) (stop !))) (look_raw ! 0 refl))) (from ! (stop !)) (init ! 6 refl ((LL.lawful T.the_type T'.the_laws 𝓛).typed was _ isT).0) $
         move ! (26 ∷ 27 ∷ []) $
-        use2 𝓛 (raw ((Gather 𝓛 at_mem run).pre (to-gather 𝓛 at_mem run κs.1.1.0 qs.1.1.0 a.1.1.0))) (gather-asked 𝓛 at_mem run (named 2) κs.1.1.0 qs.1.1.0 a.1.1.0) $
+        use2 𝓛 (raw ((Gather 𝓛 at_mem run).pre (to_gather 𝓛 at_mem run κs.1.1.0 qs.1.1.0 a.1.1.0))) (gather_asked 𝓛 at_mem run (named 2) κs.1.1.0 qs.1.1.0 a.1.1.0) $
         gathers 𝓛 at_mem run κs.1.1.0 qs.1.1.0 a.1.1.0 fm known-g (and_then ! (load ! (from ! (stop !)) (look ! 17 refl)) (no_more !)) (λ isS0.
         land ! (from ! (stop !)) (init ! 5 refl ((LL.lawful S.the_type S'.the_laws 𝓛).typed (calls_of a.1.1.0.now) _ isS0).0) $
         -- what is handed on: the book, the hands, the values
@@ -154,8 +154,8 @@ module _ {M : Type 1} {𝓤 : Ura M} (𝓛 : Logic 𝓤) (at_mem : Memory → SP
         owned ! X.the_row (Is X.the_row) (LL.makes X.the_type X'.the_plain 𝓛) a.1.1.1.0 _ is3 $ fjoin ! $
         owned ! S.the_row (Is S.the_row) (LL.makes S.the_type S'.the_plain 𝓛) (calls_of a.1.1.0.now) _ isS0 $ fjoin ! $ move ! (26 ∷ 0 ∷ []) $ fjoin ! $
         owned ! T.the_row (Is T.the_row) (LL.makes T.the_type T'.the_plain 𝓛) was _ isT $ fjoin ! $ nothing ! $ move ! (27 ∷ 0 ∷ []) $ join ! $ join ! $ nothing ! $
-        move ! (1 ∷ 0 ∷ []) $ join ! $ use1 𝓛 (raw ((Callee 𝓛 at_mem run).pre to-h)) (id⊢ 𝓤 _) $
-        gets 𝓛 fm h.ended (h.clauses 𝓛 at_mem run) known-h to-h x (λ r ws. id⊢ 𝓤 _) (LL.vals R.the_type R'.the_laws) (LL.tells R.the_type R'.the_laws)
+        move ! (1 ∷ 0 ∷ []) $ join ! $ use1 𝓛 (raw ((Callee 𝓛 at_mem run).pre to_h)) (id⊢ 𝓤 _) $
+        gets 𝓛 fm h.ended (h.clauses 𝓛 at_mem run) known-h to_h x (λ r ws. id⊢ 𝓤 _) (LL.vals R.the_type R'.the_laws) (LL.tells R.the_type R'.the_laws)
         (and_then ! (load ! (from ! (stop !)) (look ! 8 refl)) (and_then ! (load ! (from ! (stop !)) (look ! 20 refl)) (and_then ! (load ! (from ! (stop !)) (look ! 6 refl)) (and_then ! (load ! (from ! (stop !)) (look ! 16 refl)) (and_then ! (load ! (from ! (stop !)) (look ! 14 refl)) (and_then ! (load ! (from ! (stop !)) (look ! 12 refl)) (no_more !))))))) (λ isR.
         land ! (from ! (stop !)) (init ! 10 refl ((LL.lawful R.the_type R'.the_laws 𝓛).typed x _ isR).0) $
         -- the book of the answer is stored, and its number is returned

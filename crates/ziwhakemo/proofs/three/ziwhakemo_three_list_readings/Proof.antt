@@ -9,9 +9,9 @@ use Rattle.lent.proofs.Handed.{Gather}
 use Rattle.lent.proofs.gather.Symbol as g-def
 use Rattle.lent.proofs.gather.Symbol.{name as #g}
 use Rattle.lent.proofs.gather.Met as g-thm
-use Rattle.unit.specs.Listing.{listingIn, writtenIn}
+use Rattle.unit.specs.Listing.{listing_in, written_in}
 use Rattle.answers.specs.declared.ListingAnswer.{ListingAnswer}
-use Rattle.answers.specs.Answers.{listingAnswer}
+use Rattle.answers.specs.Answers.{listing_answer}
 use Rattle.checks.specs.declared.Calls.{Calls}
 use Rattle.ziwhakemo.proofs.Listed.{Handed, listed}
 use Rattle.ziwhakemo.proofs.three.list_values.Symbol as h-def
@@ -23,10 +23,10 @@ use Rattle.ziwhakemo.proofs.three.ziwhakemo_three_list_readings.Code as code
 
 -- what is said of the answer, and of the buffer's last list
 abbrev answered : List ℕ → Calls → List ℕ → ListingAnswer → Type 0
-answered cs k out r = r ≡ listingAnswer (listingIn three cs k (length out))
+answered cs k out r = r ≡ listing_answer (listing_in three cs k (length out))
 
 abbrev left : List ℕ → Calls → List ℕ → List ℕ → Type 0
-left cs k out last = last ≡ writtenIn three cs k out
+left cs k out last = last ≡ written_in three cs k out
 
 pub ziwhakemo-three-list-readings-spec : {M : Type 1} → stated.statement M
 unfolding code.routine

@@ -7,8 +7,8 @@ use Rattle.lent.proofs.Handed.{Gather}
 use Rattle.lent.proofs.gather.Symbol as g-def
 use Rattle.lent.proofs.gather.Symbol.{name as #g}
 use Rattle.lent.proofs.gather.Met as g-thm
-use Rattle.win.specs.Win.{nameWaitsIn}
-use Rattle.answers.specs.Answers.{waitsValues}
+use Rattle.win.specs.Win.{name_waits_in}
+use Rattle.answers.specs.Answers.{waits_values}
 use Rattle.ziwhakemo.proofs.Numbered.{Handed, numbered}
 use Rattle.answers.specs.contracts.WaitsValues as R
 use Rattle.answers.proofs.WaitsValues.TheLaws as R'
@@ -22,7 +22,7 @@ use Rattle.ziwhakemo.proofs.three.ziwhakemo_three_name_waits.Code as code
 pub ziwhakemo-three-name-waits-spec : {M : Type 1} → stated.statement M
 unfolding code.routine
 ziwhakemo-three-name-waits-spec 𝓤 𝓛 𝓜 𝓡 =
-    numbered R.the_row R'.mir (λ cs k w n r. r ≡ waitsValues (nameWaitsIn three cs k w n)) #h 𝓛 𝓜 𝓡 code.env #f
+    numbered R.the_row R'.mir (λ cs k w n r. r ≡ waits_values (name_waits_in three cs k w n)) #h 𝓛 𝓜 𝓡 code.env #f
     (λ r v is. ((LL.lawful R.the_type R'.the_laws 𝓛).typed r _ is).0) (code.unfolded 𝓤 𝓛.H 𝓜 𝓡)
     (cited 𝓤 𝓛.H (Gather 𝓛 𝓜.mem 𝓡.run) 𝓜 𝓡 code.env #g g-def.routine code.calls-lent::gather (g-thm.met 𝓤 𝓛 𝓜 𝓡))
-    (cited 𝓤 𝓛.H (Handed R.the_row (λ cs k w n r. r ≡ waitsValues (nameWaitsIn three cs k w n)) 𝓛) 𝓜 𝓡 code.env #h h-def.routine code.calls-ziwhakemo::three::waits-values (h_thm.met 𝓤 𝓛 𝓜 𝓡))
+    (cited 𝓤 𝓛.H (Handed R.the_row (λ cs k w n r. r ≡ waits_values (name_waits_in three cs k w n)) 𝓛) 𝓜 𝓡 code.env #h h-def.routine code.calls-ziwhakemo::three::waits_values_holds (h_thm.met 𝓤 𝓛 𝓜 𝓡))

@@ -1,6 +1,6 @@
 -- `ziwhakemo::three::ziwhakemo_three_payment` meets its contract: it hands on what `scoring::score_payment` answers. Assumes nothing.
 use mathlib.Core.Path.{ap, ◌∙◌}
-use Rattle.answers.specs.Answers.{paymentValuesAt}
+use Rattle.answers.specs.Answers.{payment_values_at}
 use borrow.Author.Rules.{rules}
 use Rattle.ziwhakemo.proofs.three.ziwhakemo_three_payment.Statement.{statement}
 use Rattle.ziwhakemo.proofs.three.ziwhakemo_three_payment.Tie as tie
@@ -12,7 +12,7 @@ payment-values-requires : tie.Need-payment-values-requires
 payment-values-requires c κs = search rules
 
 returns : tie.Need-returns
-returns c = c.payment-values.ensures ∙ ap (paymentValuesAt 3) c.before.score-payment.ensures
+returns c = c.payment-values.ensures ∙ ap (payment_values_at 3) c.before.score-payment.ensures
 
 pub ziwhakemo-three-payment-spec : {M : Type 1} → statement M
 ziwhakemo-three-payment-spec =

@@ -7,8 +7,8 @@ use Rattle.lent.proofs.Handed.{Gather}
 use Rattle.lent.proofs.gather.Symbol as g-def
 use Rattle.lent.proofs.gather.Symbol.{name as #g}
 use Rattle.lent.proofs.gather.Met as g-thm
-use Rattle.win.specs.Win.{scoreWinIn}
-use Rattle.answers.specs.Answers.{scoreValuesAt}
+use Rattle.win.specs.Win.{score_win_in}
+use Rattle.answers.specs.Answers.{score_values_at}
 use Rattle.ziwhakemo.proofs.Won.{Handed, won}
 use Rattle.answers.specs.contracts.ScoreValues as R
 use Rattle.answers.proofs.ScoreValues.TheLaws as R'
@@ -22,7 +22,7 @@ use Rattle.ziwhakemo.proofs.three.ziwhakemo_three_score_win.Code as code
 pub ziwhakemo-three-score-win-spec : {M : Type 1} → stated.statement M
 unfolding code.routine
 ziwhakemo-three-score-win-spec 𝓤 𝓛 𝓜 𝓡 =
-    won R.the_row R'.mir (λ cs k w r. r ≡ scoreValuesAt 3 (scoreWinIn three cs k w)) #h 𝓛 𝓜 𝓡 code.env #f
+    won R.the_row R'.mir (λ cs k w r. r ≡ score_values_at 3 (score_win_in three cs k w)) #h 𝓛 𝓜 𝓡 code.env #f
     (λ r v is. ((LL.lawful R.the_type R'.the_laws 𝓛).typed r _ is).0) (code.unfolded 𝓤 𝓛.H 𝓜 𝓡)
     (cited 𝓤 𝓛.H (Gather 𝓛 𝓜.mem 𝓡.run) 𝓜 𝓡 code.env #g g-def.routine code.calls-lent::gather (g-thm.met 𝓤 𝓛 𝓜 𝓡))
-    (cited 𝓤 𝓛.H (Handed R.the_row (λ cs k w r. r ≡ scoreValuesAt 3 (scoreWinIn three cs k w)) 𝓛) 𝓜 𝓡 code.env #h h-def.routine code.calls-ziwhakemo::three::win-values (h_thm.met 𝓤 𝓛 𝓜 𝓡))
+    (cited 𝓤 𝓛.H (Handed R.the_row (λ cs k w r. r ≡ score_values_at 3 (score_win_in three cs k w)) 𝓛) 𝓜 𝓡 code.env #h h-def.routine code.calls-ziwhakemo::three::win_values (h_thm.met 𝓤 𝓛 𝓜 𝓡))

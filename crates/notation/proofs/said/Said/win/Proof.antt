@@ -1,5 +1,5 @@
 -- `win` meets its contract. Assumes nothing.
-use Rattle.notation.proofs.Winds.{in-range}
+use Rattle.notation.proofs.Winds.{in_range_holds}
 use borrow.Author.Rules.{rules}
 use Rattle.notation.proofs.said.Said.win.Statement.{statement}
 use Rattle.notation.proofs.said.Said.win.Tie as tie
@@ -44,7 +44,7 @@ returns : tie.Need-returns
 returns c =
     let e = c.before.before.before.one-if.ensures.0 in
     let d = c.double-wind-fu.ensures in
-    (simp (e, d), simp (e, d) (in-range c.before.before.before.before.before.before.before.args.self))
+    (simp (e, d), simp (e, d) (in_range_holds c.before.before.before.before.before.before.before.args.self))
 
 pub win-spec : {M : Type 1} → statement M
 win-spec =

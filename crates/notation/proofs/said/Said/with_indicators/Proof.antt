@@ -20,13 +20,13 @@ with-word-requires : tie.Need-with-word-requires
 with-word-requires c κs = search rules
 
 returns-2 : tie.Need-returns-2
-returns-2 c = λ e. record { ofDora = simp c.before.if2.true; ofUra = simp (c.before.if2.true, c.with-word.ensures) }
+returns-2 c = λ e. record { of_dora = simp c.before.if2.true; of_ura = simp (c.before.if2.true, c.with-word.ensures) }
 
 with-word-requires-2 : tie.Need-with-word-requires-2
 with-word-requires-2 c κs = search rules
 
 returns-3 : tie.Need-returns-3
-returns-3 c = λ e. record { ofDora = simp (c.before.if2.false, c.with-word2.ensures); ofUra = simp c.before.if2.false }
+returns-3 c = λ e. record { of_dora = simp (c.before.if2.false, c.with-word2.ensures); of_ura = simp c.before.if2.false }
 
 pub with-indicators-spec : {M : Type 1} → statement M
 with-indicators-spec =

@@ -33,7 +33,7 @@ tile-at-requires c κs = search rules
 returns-3 : tie.Need-returns-3
 returns-3 c =
     let n = c.before.before.named_in.ensures in
-    λ e. record { isWon = refl; how = refl; single = omega (arith, c.before.if2.false); tile = c.tile-at.ensures }
+    λ e. record { is_won = refl; how = refl; single = omega (arith, c.before.if2.false); tile = c.tile-at.ensures }
 
 pub won-on-spec : {M : Type 1} → statement M
 won-on-spec =

@@ -1,7 +1,7 @@
 -- `Yaku::han` meets its contract: the table's value at the name's place. Assumes nothing.
 use mathlib.Core.Path.{refl}
-use Rattle.yaku.specs.Names.{hanClosed, names}
-use Rattle.yaku.proofs.NameTable.{at_name, past-names}
+use Rattle.yaku.specs.Names.{han_closed, names}
+use Rattle.yaku.proofs.NameTable.{at_name, past_names}
 use borrow.Author.Rules.{rules}
 use Rattle.yaku.proofs.names.Yaku.han.Statement.{statement}
 use Rattle.yaku.proofs.names.Yaku.han.Tie as tie
@@ -11,7 +11,7 @@ place-requires c κs = search rules
 
 returns : tie.Need-returns
 returns c =
-    past-names hanClosed (λ t. refl) c.before.before.args.self c.before.place.result c.before.place.ensures
+    past_names han_closed (λ t. refl) c.before.before.args.self c.before.place.result c.before.place.ensures
     (search rules)
 
 array-read-result : tie.Need-array-read-result
@@ -20,7 +20,7 @@ array-read-result c = search rules
 returns-2 : tie.Need-returns-2
 unfolding names
 returns-2 c =
-    at_name hanClosed (λ t. refl) c.before.before.args.self c.before.place.result c.before.place.ensures
+    at_name han_closed (λ t. refl) c.before.before.args.self c.before.place.result c.before.place.ensures
     (search rules)
 
 pub han-spec : {M : Type 1} → statement M

@@ -1,5 +1,5 @@
 -- `Yaku::is_yakuman` meets its contract: the yakuman stand last. Assumes nothing.
-use Rattle.yaku.proofs.NameTable.{yakuman-at}
+use Rattle.yaku.proofs.NameTable.{yakuman_at}
 use borrow.Author.Rules.{rules}
 use Rattle.yaku.proofs.names.Yaku.is_yakuman.Statement.{statement}
 use Rattle.yaku.proofs.names.Yaku.is_yakuman.Tie as tie
@@ -8,7 +8,7 @@ place-requires : tie.Need-place-requires
 place-requires c κs = search rules
 
 returns : tie.Need-returns
-returns c = simp c.place.ensures (yakuman-at c.before.args.self)
+returns c = simp c.place.ensures (yakuman_at c.before.args.self)
 
 pub is-yakuman-spec : {M : Type 1} → statement M
 is-yakuman-spec = tie.close (tie.spec place-requires returns)
