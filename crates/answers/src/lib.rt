@@ -1,11 +1,13 @@
 // The unit's answers as plain numbers, for C: a struct for each answer, and the function that makes it.
+#![tactic(auto)]
+
 ghost use Rattle.std.specs.Prelude.{◌≡◌};
 ghost use Rattle.rules.specs.Rules.{game};
 ghost use Rattle.answers.specs.Answers.{listing_answer, level_answer, paid, payment_values_at, settlement_beside, score_values_at, waits_values};
 
 // The answer to a listing: number 0 where accepted, else the refusal; the count of readings; the count of bytes written.
 #[repr(C)]
-#[derive(Drop)]
+#[derive(Clone, Copy)]
 pub struct ListingAnswer {
     pub number: u32,
     pub readings: usize,
@@ -32,7 +34,7 @@ pub fn listing_of(a: unit::Listing) -> ListingAnswer
 
 // A level: 0 Normal, 1 Mangan, 2 Haneman, 3 Baiman, 4 Sanbaiman, 5 Yakuman, and how many times a yakuman counts.
 #[repr(C)]
-#[derive(Drop)]
+#[derive(Clone, Copy)]
 pub struct LevelAnswer {
     pub level: u8,
     pub count: u8,
@@ -64,7 +66,7 @@ const TSUMO: u32 = 3;
 // A payment: number 0 where it is given, else the refusal; the settlement; what each non-dealer, the dealer and the discarder pays (0 for
 // who does not), and the total.
 #[repr(C)]
-#[derive(Drop)]
+#[derive(Clone, Copy)]
 pub struct PaymentValues {
     pub number: u32,
     pub settlement: u32,
@@ -131,7 +133,7 @@ pub fn payment_values(a: scoring::PaymentAnswer, v: rules::Variant) -> PaymentVa
 // fu, whether there is a yakuman, the level and how many times a yakuman counts, the dora of either sort, basic points, what each pays and the
 // total; or a refusal's number alone.
 #[repr(C)]
-#[derive(Drop)]
+#[derive(Clone, Copy)]
 pub struct ScoreValues {
     pub number: u32,
     pub settlement: u32,
@@ -193,7 +195,7 @@ pub fn score_values(a: choice::ScoreAnswer, v: rules::Variant) -> ScoreValues
 // The waits of a reading: number 0 and a tally for each of Ryanmen, Kanchan, Penchan, Shanpon, Tanki, Kokushi13; or a refusal's number
 // alone.
 #[repr(C)]
-#[derive(Drop)]
+#[derive(Clone, Copy)]
 pub struct WaitsValues {
     pub number: u32,
     pub waits: [u8; 6],

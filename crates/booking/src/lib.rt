@@ -1,4 +1,6 @@
 // Bookings, with the book, the calls and the rest by value: a draw, and a win that the unit scores.
+#![tactic(auto)]
+
 ghost use Rattle.std.specs.Prelude.{◌≡◌, true, ◌<◌};
 ghost use Rattle.seat_book.specs.Book.{has_room, Small};
 ghost use Rattle.seat_book.specs.History.{refused};
@@ -17,7 +19,7 @@ const MOST_COUNTER: u8 = 255;
 const EAST: u8 = 27;
 
 // The number, 0 where the deal is booked, and the book as the booking leaves it.
-#[derive(Drop)]
+#[derive(Clone, Copy)]
 pub struct Booked {
     pub number: u32,
     pub book: seat_book::SeatBook,

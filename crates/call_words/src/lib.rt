@@ -1,10 +1,12 @@
 // Calls from words of tiles.
+#![tactic(auto)]
+
 ghost use Rattle.std.specs.Prelude.{◌≡◌, ◌+◌, ◌-◌, min, get_or, set};
 ghost use Rattle.meld.specs.Meld.{is_open, meld};
 ghost use Rattle.call_words.specs.Calls.{made_of, is_kind, is_asked, IsLowest, IsCallOf, IsCallIn, with_call, with_source, can_come_from};
 
 // A call that was looked for.
-#[derive(Drop)]
+#[derive(Clone, Copy)]
 pub enum Found {
     Nothing,
     Call(meld::Meld),

@@ -1,4 +1,6 @@
 // The checks 1 to 6, which a hand and its calls pass before they are read.
+#![tactic(auto)]
+
 ghost use Rattle.std.specs.Prelude.{◌≡◌, true, ◌||◌, cond, ℕ, ◌+◌, ◌<◌, ◌≤◌, eqb, leb, length};
 ghost use Rattle.lists.specs.Fold.{all};
 ghost use Rattle.tile.specs.Tile.{tiles};
@@ -9,7 +11,7 @@ ghost use Rattle.checks.specs.Checks.{called, together, in_wall, is_played, is_c
 
 // The calls: how many there are, and the first four of them. With fewer than four the rest mean nothing; more than four are refused.
 #[repr(C)]
-#[derive(Drop)]
+#[derive(Clone, Copy)]
 pub struct Calls {
     pub count: usize,
     pub melds: [meld::Meld; 4],

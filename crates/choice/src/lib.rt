@@ -1,4 +1,6 @@
 // The choice among the readings whose records stand in a buffer.
+#![tactic(auto)]
+
 ghost use Rattle.std.specs.Prelude.{◌≡◌, map, ◌≤◌};
 ghost use Rattle.rules.specs.Rules.{game};
 ghost use Rattle.dora.specs.Dora.{AtMostForty};
@@ -7,7 +9,7 @@ ghost use Rattle.reading_score.specs.Score.{score_of};
 ghost use Rattle.choice.specs.Choice.{refused, scored, choice};
 
 // The answer to a scored win or reading: number 0, the number of the reading and its score; or a refusal's number alone.
-#[derive(Drop)]
+#[derive(Clone, Copy)]
 pub struct ScoreAnswer {
     pub number: u8,
     pub reading: usize,

@@ -1,10 +1,12 @@
 // The win (context.rs of agari): how it was won, the winning tile, the winds, the flags, a setting of the room, and the indicators of dora.
+#![tactic(auto)]
+
 ghost use Rattle.std.specs.Prelude.{◌≡◌};
 ghost use Rattle.context.specs.Context.{is_tsumo, is_dealer, is_setting, in_range, are_indicators, indicators_in, none_shown, ren_indicators, ren_win};
 
 // Indicators of dora: how many are shown, and the tiles. What stands behind the count is not read.
 #[repr(C)]
-#[derive(Drop)]
+#[derive(Clone, Copy)]
 pub struct Indicators {
     pub count: u8,
     pub tiles: [u8; 10],
@@ -51,7 +53,7 @@ impl Indicators {
 }
 
 #[repr(C)]
-#[derive(Drop)]
+#[derive(Clone, Copy)]
 pub struct GameContext {
     // 0 ron, 1 tsumo
     pub win_type: u8,

@@ -1,5 +1,7 @@
 // The standard readings of a hand from its 34 counts (decompose_hand and decompose_hand_with_melds of agari): a loop over the tiles
 // that can be the pair, and the search for the melds. The counts are packed three bits a tile for the search.
+#![tactic(auto)]
+
 ghost use Rattle.std.specs.Prelude.{◌≡◌, ◌+◌, ◌-◌, ◌*◌, ◌≤◌, ◌<◌, leb, length};
 ghost use Rattle.std.proofs.lemmas.List.Edits.{sets};
 ghost use Rattle.tile.specs.Tile.{tiles};
@@ -11,7 +13,7 @@ ghost use Rattle.decompose.specs.Packed.{pack_from, in_words, Fit};
 ghost use Rattle.decompose.specs.Pairs.{found_with, records_over, OnlyAt};
 
 // The counts packed three bits a tile: man and pin, and sou and the honors.
-#[derive(Drop)]
+#[derive(Clone, Copy)]
 pub struct Packed {
     pub low: u64,
     pub high: u64,
@@ -73,7 +75,7 @@ impl Packed {
 }
 
 // Where the pair can stand: at the tiles from `first` on in steps of three, below `end`.
-#[derive(Drop)]
+#[derive(Clone, Copy)]
 pub struct PairPlaces {
     pub first: usize,
     pub end: usize,

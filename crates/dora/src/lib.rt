@@ -1,12 +1,14 @@
 // Dora (context.rs of agari, and total_han_with_dora of its yaku.rs): the tile that an indicator names, how many of these tiles hand and calls
 // hold together, and the han with them. Red fives (aka) and set-aside Norths (nuki) are not counted here: both are 0.
+#![tactic(auto)]
+
 ghost use Rattle.std.specs.Prelude.{◌≡◌, true, false, ◌≤◌, length};
 ghost use Rattle.context.specs.Context.{shown, indicators_in};
 ghost use Rattle.hand.specs.Counts.{held, AtMostFour};
 ghost use Rattle.dora.specs.Dora.{dora_of, count_of, dora_in, AtMostForty, dora_total, total_han};
 
 // How many dora are there: by the indicators shown, and by those below them.
-#[derive(Drop)]
+#[derive(Clone, Copy)]
 pub struct DoraCount {
     pub regular: u8,
     pub ura: u8,

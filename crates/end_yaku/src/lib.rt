@@ -1,5 +1,7 @@
 // Yaku of the ends of the suits and of honors in each group, Chanta and Junchan (yaku.rs of agari). Each check takes its case apart and
 // otherwise answers no at that line.
+#![tactic(auto)]
+
 ghost use Rattle.std.specs.Prelude.{◌≡◌, not, ◌&&◌, ◌||◌};
 ghost use Rattle.lists.specs.Fold.{any};
 ghost use Rattle.tile.specs.Tile.{is_terminal, is_terminal_or_honor};

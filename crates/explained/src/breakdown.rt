@@ -5,7 +5,7 @@ ghost use Rattle.structure.specs.Structure.{reading_of};
 ghost use Rattle.explained.specs.Breakdown.{only_base, pinfu_parts, counted_parts, breakdown, fu_at, meld_fu_at};
 
 // The parts; they add up to the fu of the reading.
-#[derive(Drop)]
+#[derive(Clone, Copy)]
 pub struct FuBreakdown {
     pub base: u8,
     pub menzen_ron: u8,

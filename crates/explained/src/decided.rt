@@ -4,7 +4,7 @@ ghost use Rattle.rules.specs.Rules.{game};
 ghost use Rattle.explained.specs.Decided.{first_of, decided_by};
 
 // The rule by which one is preferred; `Order` where none tells them apart, so that the first listed is chosen.
-#[derive(Drop)]
+#[derive(Clone, Copy)]
 pub enum Decided {
     Total,
     Yakuman,

@@ -5,7 +5,7 @@ ghost use Rattle.context.specs.Context.{is_tsumo};
 ghost use Rattle.explained.specs.Flags.{declared, first_draw, is_set, reason, why_uncounted};
 
 // It counts (unless a yakuman leaves it out), it is not set, or the first reason why it does not count.
-#[derive(Drop)]
+#[derive(Clone, Copy)]
 pub enum Uncounted {
     Counts,
     NotSet,

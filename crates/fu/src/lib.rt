@@ -1,4 +1,6 @@
 // Fu of a reading (scoring.rs of agari).
+#![tactic(auto)]
+
 ghost use Rattle.std.specs.Prelude.{◌≡◌, cond, ◌&&◌, ◌||◌, ◌+◌, ◌*◌, ◌/◌, ◌≤◌, max, eqb};
 ghost use Rattle.lists.specs.Fold.{any, sum};
 ghost use Rattle.structure.specs.Structure.{reading_of};

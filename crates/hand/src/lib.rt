@@ -1,4 +1,6 @@
 // The hand (hand.rs of agari): what its readings are, in specs/, laws about them, in proofs/, and how many tiles it has.
+#![tactic(auto)]
+
 ghost use Rattle.std.specs.Prelude.{◌≡◌, ◌-◌, ◌*◌, ◌≤◌, length};
 ghost use Rattle.lists.specs.Fold.{sum, up_from};
 ghost use Rattle.hand.specs.Counts.{held};

@@ -1,4 +1,6 @@
 // Yaku of winds and dragons (yaku.rs of agari). Each check takes its case apart and otherwise answers no at that line.
+#![tactic(auto)]
+
 ghost use Rattle.std.specs.Prelude.{◌≡◌, ◌≤◌, eqb};
 ghost use Rattle.lists.specs.Fold.{any, count};
 ghost use Rattle.tile.specs.Tile.{is_dragon, is_honor, is_wind};
@@ -90,7 +92,7 @@ fn has_honor_set(ms: [meld::Meld; 4]) -> bool
 }
 
 // The tallies of the seven honors.
-#[derive(Drop)]
+#[derive(Clone, Copy)]
 pub struct Yakuhai {
     pub east: u8,
     pub south: u8,

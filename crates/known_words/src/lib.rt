@@ -1,4 +1,6 @@
 // The words that the program `score` knows, beside tiles and calls. A row of a table is filled up with spaces, which do not count.
+#![tactic(auto)]
+
 ghost use Rattle.std.specs.Prelude.{◌≡◌, ◌≤◌, ◌<◌, length, take};
 
 // Five calls, two ways to win and two winds, each with a word behind it; then the flags, in the order of the win's fields.

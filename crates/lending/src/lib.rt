@@ -1,4 +1,6 @@
 // The exported operations, for a caller that has its calls by value: the first of five melds are lent to them as a slice.
+#![tactic(auto)]
+
 ghost use Rattle.std.specs.Prelude.{◌≡◌, ◌≤◌, length, take};
 ghost use Rattle.unit.specs.Listing.{listing, written};
 ghost use Rattle.lent.specs.Lent.{calls_of};
@@ -20,7 +22,7 @@ pub fn list(
 }
 
 // What the three operations on a win answer: its score, and score and waits of a reading.
-#[derive(Drop)]
+#[derive(Clone, Copy)]
 pub struct Asked {
     pub win: answers::ScoreValues,
     pub reading: answers::ScoreValues,

@@ -1,4 +1,6 @@
 // The calls as a lent slice of melds, taken out of it by value.
+#![tactic(auto)]
+
 ghost use Rattle.std.specs.Prelude.{◌≡◌};
 ghost use Rattle.lent.specs.Lent.{call_at, calls_of};
 

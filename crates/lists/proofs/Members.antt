@@ -103,7 +103,7 @@ module _ {A : Type 0} where
       Permᴰ.trans (perm_eq (sym (append_assoc l m r)))
       (Permᴰ.trans (Permᴰ.append_right r (append_swap l m)) (perm_eq (append_assoc m l r)))
 
-  pub all_mem : (p : A → Bool) {l : List A} {a : A} → T (all p l) → Memᴰ a l → T (p a)
+  pub all_mem : (p : A → Bool) {a : A} {l : List A} → T (all p l) → Memᴰ a l → T (p a)
   all_mem p t (Memᴰ.head {x = x} e) = subst (λ (b : A). T (p b)) (sym e) (and_left (p x) _ t)
   all_mem p t (Memᴰ.tail {x = x} i) = all_mem p (and_right (p x) _ t) i
 
@@ -115,7 +115,7 @@ module _ {A : Type 0} where
   all_append p l m s t = all_intro p (l ++ m) (λ a i. ⊎_elim (all_mem p s) (all_mem p t) (Memᴰ.append_cases l i))
 
   -- where an element passes the test
-  pub any_of : (p : A → Bool) {l : List A} {a : A} → Memᴰ a l → T (p a) → T (any p l)
+  pub any_of : (p : A → Bool) {a : A} {l : List A} → Memᴰ a l → T (p a) → T (any p l)
   any_of p (Memᴰ.head {x = x} e) t = or_left (p x) _ (subst (λ (b : A). T (p b)) e t)
   any_of p (Memᴰ.tail {x = x} i) t = or_right (p x) _ (any_of p i t)
 
@@ -172,7 +172,7 @@ pub in_cond : {A : Type 0} {a : A} (b : Bool) (l : List A) → Memᴰ a (cond b 
 in_cond true l i = (tt, i)
 in_cond false l i = absurd (Memᴰ.not-nil i)
 
-pub flat_in : {A B : Type 0} (g : A → List B) {l : List A} {a : A} {b : B} → Memᴰ a l → Memᴰ b (g a) → Memᴰ b (flat g l)
+pub flat_in : {A B : Type 0} (g : A → List B) {a : A} {b : B} {l : List A} → Memᴰ a l → Memᴰ b (g a) → Memᴰ b (flat g l)
 flat_in g {b = b} (Memᴰ.head {xs = xs} e) j = Memᴰ.append_left (flat g xs) (subst (λ (x : _). Memᴰ b (g x)) e j)
 flat_in g (Memᴰ.tail {x = x} i) j = Memᴰ.append_right (g x) (flat_in g i j)
 

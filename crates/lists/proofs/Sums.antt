@@ -19,7 +19,7 @@ module _ {A : Type 0} where
   sum_append f (a ∷ k) l = let e = sum_append f k l in omega arith
 
   -- no member's number is above the sum
-  pub sum_in : (f : A → ℕ) {l : List A} {a : A} → Memᴰ a l → f a ≤ sum f l
+  pub sum_in : (f : A → ℕ) {a : A} {l : List A} → Memᴰ a l → f a ≤ sum f l
   sum_in f (Memᴰ.head e) = let h = ap f e in omega arith
   sum_in f (Memᴰ.tail i) = let h = sum_in f i in omega arith
 

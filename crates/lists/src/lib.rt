@@ -1,4 +1,6 @@
 // Definitions and laws on lists and finite tests that the other crates share, a yes or no as a number, and two loops over bytes.
+#![tactic(auto)]
+
 ghost use Rattle.std.specs.Prelude.{◌≡◌, not, ◌+◌, ◌≤◌, eqb, length};
 ghost use Rattle.std.proofs.lemmas.List.Edits.{sets};
 ghost use Rattle.lists.specs.Fold.{any, one};

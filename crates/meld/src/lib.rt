@@ -2,12 +2,14 @@
 // 2 closed triplet, 3 open triplet, 4 closed kan, 5 open kan, 6 added kan. Sources, of which agari has none: the player from whom the tile
 // was called, 1 to 3 seats onward from the one who called it (on the right, across, on the left), 0 where no tile was called.
 // Any bytes may stand in it: is_valid says whether it is one.
+#![tactic(auto)]
+
 ghost use Rattle.std.specs.Prelude.{◌≡◌, min};
 ghost use Rattle.meld.specs.Meld.{is_sequence, is_triplet_or_kan, is_kan, is_concealed, is_open, nearest, is_seat, is_sourced, is_meld, is_call, key, run_uses, set_size, uses, at_tile, from_seat, meld};
 ghost use Rattle.meld.specs.Renamed.{ren_meld};
 
 #[repr(C)]
-#[derive(Drop)]
+#[derive(Clone, Copy)]
 pub struct Meld {
     pub tile: u8,
     pub kind: u8,

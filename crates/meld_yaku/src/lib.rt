@@ -1,4 +1,6 @@
 // One meld and four melds, asked by the yaku of a standard reading (set_yaku, honor_yaku, sequence_yaku, end_yaku).
+#![tactic(auto)]
+
 ghost use Rattle.std.specs.Prelude.{◌≡◌, eqb};
 ghost use Rattle.lists.specs.Fold.{any};
 ghost use Rattle.meld_yaku.specs.Melds.{set_of};

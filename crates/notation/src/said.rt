@@ -10,7 +10,7 @@ use crate::{indicators, pieces, seats, sources};
 use tile_words::faults;
 
 // What has been said so far.
-#[derive(Drop)]
+#[derive(Clone, Copy)]
 pub struct Said {
     // the tiles not called, the winning tile included
     pub counts: [u8; 34],

@@ -31,6 +31,8 @@
 //     72..76   from the discarder
 //     76..80   total
 // The other bytes are zero.
+#![tactic(auto)]
+
 ghost use Rattle.std.specs.Prelude.{◌≡◌, ◌+◌, ◌≤◌, ◌<◌, length};
 
 // ---- what a record holds

@@ -2,6 +2,8 @@
 // sixteenth record, through the exported operations, the calls lent to them as slices, and says how often each was asked and how
 // many answers differ from the stored ones; of a stored listing every byte of the buffer is compared too, of the others count and lengths of the records. A difference is written with the row's
 // name.
+#![tactic(auto)]
+
 mod asked;
 mod hands;
 mod listings;

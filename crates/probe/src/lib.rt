@@ -1,8 +1,10 @@
 // For the comparison with agari only: what the layers below the operations answer for one reading that is handed in.
+#![tactic(auto)]
+
 
 // A reading in plain fields: kind 1 seven pairs, 2 thirteen orphans, else a pair and four melds.
 #[repr(C)]
-#[derive(Drop)]
+#[derive(Clone, Copy)]
 pub struct Reading {
     pub kind: u8,
     pub pair: u8,
@@ -12,7 +14,7 @@ pub struct Reading {
 
 // Its tallies, waits, han and fu, and whether there is a yakuman.
 #[repr(C)]
-#[derive(Drop)]
+#[derive(Clone, Copy)]
 pub struct ReadingScore {
     pub tallies: [u8; 47],
     pub waits: [u8; 6],

@@ -1,4 +1,6 @@
 // The score of a reading (calculate_score of agari's scoring.rs, with the tallies of its yaku and the dora), and its rank in the choice.
+#![tactic(auto)]
+
 ghost use Rattle.std.specs.Prelude.{◌≡◌};
 ghost use Rattle.rules.specs.Rules.{game};
 ghost use Rattle.structure.specs.Structure.{reading_of};
@@ -6,7 +8,7 @@ ghost use Rattle.dora.specs.Dora.{AtMostForty};
 ghost use Rattle.reading_score.specs.Score.{score_of, has_yaku, rank};
 
 // All that is answered of a reading. The han are those of the yaku, and of the dora where there is no yakuman.
-#[derive(Drop)]
+#[derive(Clone, Copy)]
 pub struct ScoringResult {
     pub tallies: [u8; 47],
     pub han: u8,

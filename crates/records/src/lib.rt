@@ -1,4 +1,6 @@
 // Records read back: the reading whose record stands at a place of a buffer.
+#![tactic(auto)]
+
 ghost use Rattle.std.specs.Prelude.{◌≡◌, ◌+◌, ◌*◌, ◌≤◌};
 ghost use Rattle.structure.specs.Structure.{reading_of};
 ghost use Rattle.records.specs.Buffer.{byte_at, meld_at, tiles_at, reading_at, place_of};

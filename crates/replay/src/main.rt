@@ -11,6 +11,8 @@
 //   60..62    the answer's count of bytes, 0 where it is refused
 //   64..184   the buffer after the call, as far as it is lent
 // The other bytes are zero. Before the call, byte i of the buffer is (7 i + 3) mod 256.
+#![tactic(auto)]
+
 ghost use Rattle.std.specs.Prelude.{◌≡◌, ◌≤◌, ◌<◌, length};
 
 // The kind of accepted hands. Kinds 1 to 7 are the refusals.

@@ -16,6 +16,8 @@
 //   145       its fu
 //   146       1 where it has a yakuman
 // The other bytes are zero.
+#![tactic(auto)]
+
 ghost use Rattle.std.specs.Prelude.{◌≡◌, length};
 
 // The kind of readings with a yakuman.

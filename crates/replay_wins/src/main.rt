@@ -17,6 +17,8 @@
 // The other bytes are zero. A score is the answer's number, the number of the reading, 47 tallies, han, fu, 1 where it has a yakuman, the
 // level, how many times a yakuman counts, the dora and the ura, each in one byte; then, in four bytes each, basic points, what each non-dealer,
 // the dealer and the discarder pays, and the total. A refusal has its number alone.
+#![tactic(auto)]
+
 ghost use Rattle.std.specs.Prelude.{◌≡◌, ◌+◌, ◌≤◌, length};
 
 // The kind of wins that are scored. Kinds 1 to 11 and 14 are the refusals of a win.

@@ -1,10 +1,12 @@
 // Which game is played (Variant in rules.rs of agari), and what differs between the two: the tiles in the wall, whether a sequence may be called,
 // how many players there are, and whether indicators of dora are shown.
+#![tactic(auto)]
+
 ghost use Rattle.std.specs.Prelude.{◌≡◌};
 ghost use Rattle.rules.specs.Rules.{game};
 
 // Four-player mahjong; or three-player mahjong: no man 2 to 8 and no chi.
-#[derive(Drop)]
+#[derive(Clone, Copy)]
 pub enum Variant {
     Yonma,
     Sanma,

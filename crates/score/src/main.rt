@@ -2,6 +2,8 @@
 // of scoring the win. The words stand in its arguments; without any it writes how to use it. Nothing is said about unfinished hands.
 // A program cannot set an exit status: the last line says how it ended. Whatever the arguments are, it begins with 'answer: reading',
 // 'answer: refused', 'bad input' or 'help'.
+#![tactic(auto)]
+
 mod answer;
 mod calls;
 mod faults;

@@ -1,11 +1,13 @@
 // Level, basic points and payment of han and fu (scoring.rs of agari).
+#![tactic(auto)]
+
 ghost use Rattle.std.specs.Prelude.{◌≡◌, cond, ◌&&◌, ◌||◌, ◌+◌, ◌*◌, ◌/◌, ◌^◌, ◌≤◌, max, min, eqb, leb};
 ghost use Rattle.rules.specs.Rules.{game};
 ghost use Rattle.scoring.specs.Level.{reaches_mangan, yakuman_count, level, basic_points};
 ghost use Rattle.scoring.specs.Payment.{round_up_to100, payment, payment_answer, total_at};
 
 // Score limit levels. A yakuman carries how many times it counts.
-#[derive(Drop)]
+#[derive(Clone, Copy)]
 pub enum ScoreLevel {
     Normal,
     Mangan,
@@ -16,7 +18,7 @@ pub enum ScoreLevel {
 }
 
 // One case for each kind of settlement: a ron, a tsumo of the dealer, a tsumo of another player.
-#[derive(Drop)]
+#[derive(Clone, Copy)]
 pub enum Payment {
     Ron {
         from_discarder: u32,
@@ -142,7 +144,7 @@ pub fn calculate_payment(basic_points: u32, is_dealer: bool, is_tsumo: bool) -> 
 }
 
 // A payment, or why there is none: 8 for a win type above 1, 13 for basic points above 152,000.
-#[derive(Drop)]
+#[derive(Clone, Copy)]
 pub enum PaymentAnswer {
     Refused(u8),
     Paid(Payment),

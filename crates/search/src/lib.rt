@@ -1,5 +1,7 @@
 // The search for the closed melds of a hand (find_all_meld_combinations of agari): at the lowest tile that is left it takes a
 // sequence or a triplet, and calls itself with one meld fewer to find. The tiles left are counts packed three bits a tile.
+#![tactic(auto)]
+
 ghost use Rattle.std.specs.Prelude.{◌≡◌, cond, true, false, ◌+◌, ◌*◌, ◌/◌, ◌%◌, ◌≤◌, leb, length};
 ghost use Rattle.std.proofs.lemmas.List.Edits.{sets};
 ghost use Rattle.hand.specs.Records.{standard_bytes};
@@ -10,7 +12,7 @@ ghost use Rattle.search.specs.Slots.{put, slot_record, records_with};
 
 // The tiles left: `word` has the counts from a tile on, three bits each, the lowest tile in the lowest bits. `behind` has that
 // tile in its six lowest bits, and above them the counts of sou and the honors where they are not yet in `word`.
-#[derive(Drop)]
+#[derive(Clone, Copy)]
 pub struct Remaining {
     pub word: u64,
     pub behind: u64,

@@ -1,4 +1,6 @@
 // The seat book: the points of four seats, the sticks on the table, the repeat counter and the deals booked; and what a settled deal makes of it.
+#![tactic(auto)]
+
 ghost use Rattle.std.specs.Prelude.{◌≡◌, true, ◌+◌, ◌≤◌, ◌<◌};
 ghost use Rattle.lists.specs.Fold.{one};
 ghost use Rattle.seat_book.specs.Points.{is_within, moved};
@@ -24,7 +26,7 @@ const LEAST_POINTS: i64 = -1000000000;
 // The book of a table, as it is lent to each booking. With `reserved`, which every booking keeps, it has no padding: each of its 40 bytes
 // belongs to a field.
 #[repr(C)]
-#[derive(Drop)]
+#[derive(Clone, Copy)]
 pub struct SeatBook {
     pub points: [i64; 4],
     pub sticks: u32,
@@ -35,7 +37,7 @@ pub struct SeatBook {
 
 // One deal: the dealer's seat, and which seats declared riichi.
 #[repr(C)]
-#[derive(Drop)]
+#[derive(Clone, Copy)]
 pub struct Deal {
     pub dealer: u8,
     pub declared: [bool; 4],
@@ -43,7 +45,7 @@ pub struct Deal {
 
 // How a deal is settled: what each seat gets and pays besides its stick, the seat that takes all sticks (any number above 3: nobody does),
 // and whether the counter rises.
-#[derive(Drop)]
+#[derive(Clone, Copy)]
 pub struct Settlement {
     pub gets: [u64; 4],
     pub pays: [u64; 4],

@@ -1,4 +1,6 @@
 // Yaku of sequences (yaku.rs of agari). Each check takes its case apart and otherwise answers no at that line.
+#![tactic(auto)]
+
 ghost use Rattle.std.specs.Prelude.{◌≡◌, not, ◌&&◌, [], ◌∷◌, ◌+◌, ◌*◌, ◌/◌, ◌%◌, ◌≤◌, eqb, leb, ltb};
 ghost use Rattle.lists.specs.Fold.{all, any};
 ghost use Rattle.tile.specs.Tile.{is_start};

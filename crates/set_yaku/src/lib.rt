@@ -1,4 +1,6 @@
 // Yaku of triplets and kans (yaku.rs of agari). Each check takes its case apart and otherwise answers no at that line.
+#![tactic(auto)]
+
 ghost use Rattle.std.specs.Prelude.{◌≡◌, not, ◌&&◌, ◌%◌, ◌≤◌, eqb, leb};
 ghost use Rattle.lists.specs.Fold.{all, any, count};
 ghost use Rattle.meld.specs.Meld.{is_triplet_or_kan};
@@ -133,7 +135,7 @@ pub fn check_kantsu(h: structure::Hand, n: u8) -> bool
 }
 
 // The yaku of three triplets or kans, the four together.
-#[derive(Drop)]
+#[derive(Clone, Copy)]
 pub struct SetYaku {
     pub toitoi: bool,
     pub sanshoku_doukou: bool,

@@ -1,4 +1,6 @@
 // How deals are settled: who pays whom what for a win and at a draw, who takes the sticks, and whether the counter rises.
+#![tactic(auto)]
+
 ghost use Rattle.std.specs.Prelude.{◌≡◌, ◌≤◌};
 ghost use Rattle.seat_book.specs.Book.{Small};
 ghost use Rattle.settlements.specs.Settlements.{of_discarder, of_payer, owes, given, win_settlement, draw_settlement};
@@ -14,7 +16,7 @@ const NOBODY: u8 = 4;
 
 // Who won: the winner's seat and, where there is one, the discarder's. Without one the win is by tsumo, and what stands there is not read.
 #[repr(C)]
-#[derive(Drop)]
+#[derive(Clone, Copy)]
 pub struct Winner {
     pub seat: u8,
     pub has_discarder: bool,

@@ -1,4 +1,6 @@
 // Seven pairs and thirteen orphans (is_chiitoitsu and check_kokushi of agari), and the bytes of their records.
+#![tactic(auto)]
+
 ghost use Rattle.std.specs.Prelude.{◌≡◌, true, cond, ◌||◌, [], ◌∷◌, ◌+◌, ◌≤◌, ◌<◌, eqb, ltb, length};
 ghost use Rattle.std.proofs.lemmas.List.Edits.{sets};
 ghost use Rattle.lists.specs.Fold.{one, all};

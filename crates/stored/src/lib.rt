@@ -1,5 +1,7 @@
 // What the programs share that run stored answers: the parts of a record, whether an answer is the stored one, what is counted, the file, and
 // writing. A file is a row of records of one length, numbers little-endian; `s` is a record, and `at` the place of a part in it.
+#![tactic(auto)]
+
 ghost use Rattle.std.specs.Prelude.{◌+◌, ◌<◌, ◌≤◌, length};
 
 use libc::STDOUT_FILENO;
@@ -227,7 +229,7 @@ fn more(n: u64) -> u64 {
 }
 
 // Records, answers that differ, and what else a program counts, by a number below 16 for each kind.
-#[derive(Drop)]
+#[derive(Clone, Copy)]
 pub struct Tally {
     pub records: u64,
     pub differ: u64,
@@ -278,7 +280,7 @@ impl Tally {
 // ---- the file
 
 // The tally after a part of the file, and whether it may have more.
-#[derive(Drop)]
+#[derive(Clone, Copy)]
 pub struct Turn {
     pub tally: Tally,
     pub more: bool,

@@ -1,9 +1,11 @@
 // A reading in the code (HandStructure of agari's hand.rs): an enum beside the arrays that its cases use.
+#![tactic(auto)]
+
 ghost use Rattle.std.specs.Prelude.{◌≡◌};
 ghost use Rattle.hand.specs.Reading.{pairs, orphans, standard};
 ghost use Rattle.structure.specs.Structure.{reading_of};
 
-#[derive(Drop)]
+#[derive(Clone, Copy)]
 pub enum HandStructure {
     Standard { pair: tile::Tile },
     Chiitoitsu,
@@ -11,7 +13,7 @@ pub enum HandStructure {
 }
 
 // A reading: the melds mean something in a standard one, the pairs in seven pairs.
-#[derive(Drop)]
+#[derive(Clone, Copy)]
 pub struct Hand {
     pub structure: HandStructure,
     pub melds: [meld::Meld; 4],

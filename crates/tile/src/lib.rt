@@ -1,11 +1,13 @@
 // Tiles (tile.rs of agari), by their numbers: 0 to 8 man 1 to 9, 9 to 17 pin, 18 to 26 sou,
 // 27 to 33 East, South, West, North, White, Green, Red. A number above 33 is no tile: each question about it is answered no.
 // And renamings of tiles, a term of the scope paper: one rule for all 34 tiles, under which a hand keeps its worth.
+#![tactic(auto)]
+
 ghost use Rattle.std.specs.Prelude.{◌≡◌};
 ghost use Rattle.tile.specs.Tile.{is_suited, is_simple, is_terminal, is_terminal_or_honor, is_honor, is_dragon, is_wind, is_green, is_start, suit_of, value_of};
 ghost use Rattle.tile.specs.Renaming.{three, order_to, wind_to, ren_number, ren_honor, ren};
 
-#[derive(Drop)]
+#[derive(Clone, Copy)]
 pub struct Tile(pub u8);
 
 impl Tile {
@@ -102,7 +104,7 @@ impl Tile {
 }
 
 // How three change places: man, pin and sou, or South, West and North. A name says what the three, a, b and c, become.
-#[derive(Drop)]
+#[derive(Clone, Copy)]
 pub enum Order {
     Abc,
     Acb,
@@ -142,21 +144,21 @@ impl Order {
 }
 
 // A renaming's part for the suits: each suit goes to a suit, and all numbers n stay or all become 10 - n.
-#[derive(Drop)]
+#[derive(Clone, Copy)]
 pub struct Numbers {
     pub suits: Order,
     pub mirror: bool,
 }
 
 // A renaming's part for the honors: White and Red stay or change places, and South, West and North change places in any way.
-#[derive(Drop)]
+#[derive(Clone, Copy)]
 pub struct Honors {
     pub dragons: bool,
     pub winds: Order,
 }
 
 // A renaming, in two parts that do not depend on each other.
-#[derive(Drop)]
+#[derive(Clone, Copy)]
 pub struct Renaming {
     pub numbers: Numbers,
     pub honors: Honors,

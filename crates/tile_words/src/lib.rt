@@ -1,4 +1,6 @@
 // Words of tiles, as 222333444m567p88s or ew: numbers, and behind them the letter of their suit, or letters of honors, in any case.
+#![tactic(auto)]
+
 ghost use Rattle.std.specs.Prelude.{◌≡◌, ℕ, ◌+◌, ◌<◌, length, drop, get_or, eqb};
 ghost use Rattle.lists.specs.Fold.{one};
 ghost use Rattle.hand.specs.Counts.{held};

@@ -1,4 +1,6 @@
 // Yaku that ask every tile of the hand, calls included (yaku.rs of agari): found once for a hand, whatever its readings.
+#![tactic(auto)]
+
 ghost use Rattle.std.specs.Prelude.{◌≡◌, not, cond, ◌<◌, eqb, leb, length};
 ghost use Rattle.lists.specs.Fold.{all_below};
 ghost use Rattle.tile.specs.Tile.{is_green, is_honor, is_simple, is_terminal};
@@ -6,7 +8,7 @@ ghost use Rattle.hand.specs.Counts.{held};
 ghost use Rattle.tile_yaku.specs.Tiles.{some, one_suit, chinitsu, gate, nine_gates, pure_wait, tile_yaku};
 
 // What all tiles together are.
-#[derive(Drop)]
+#[derive(Clone, Copy)]
 pub struct TileYaku {
     pub tanyao: bool,
     pub honroutou: bool,
@@ -20,7 +22,7 @@ pub struct TileYaku {
 }
 
 // Which sorts of tiles are there: simples, terminals, honors, and tiles that are not green.
-#[derive(Drop)]
+#[derive(Clone, Copy)]
 pub struct Sorts {
     pub simple: bool,
     pub terminal: bool,

@@ -1,4 +1,6 @@
 // Two tables at once: a win, and the same win renamed, each scored by the unit; and whether the two answers agree.
+#![tactic(auto)]
+
 ghost use Rattle.std.specs.Prelude.{◌≡◌, true, ◌<◌};
 ghost use Rattle.tile.specs.Renaming.{ren, order_back, back};
 ghost use Rattle.rules.specs.Rules.{game};

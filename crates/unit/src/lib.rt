@@ -1,4 +1,6 @@
 // The operations of the unit. Each has no `requires`, and its `ensures` says for every input what is answered and what the lent bytes hold.
+#![tactic(auto)]
+
 ghost use Rattle.std.specs.Prelude.{◌≡◌, true, false, cond, [], ◌+◌, ◌%◌, ◌≤◌, eqb, length};
 ghost use Rattle.std.proofs.lemmas.List.Edits.{sets};
 ghost use Rattle.lists.specs.Fold.{all};
@@ -16,7 +18,7 @@ ghost use Rattle.unit.specs.Listing.{listing, written, listing_in, written_in, h
 ghost use Rattle.unit.specs.FirstPass.{specials, standard_records, Finds, FindsSpecial, readings_in, bytes_in, readings_found, bytes_found, seven_records, orphan_records, put_call};
 
 // The answer to a listing: refused with a number, or listed, with the count of readings and the count of bytes written.
-#[derive(Drop)]
+#[derive(Clone, Copy)]
 pub enum Listing {
     Refused(u8),
     Listed(usize, usize),
@@ -24,14 +26,14 @@ pub enum Listing {
 
 // What is found of seven pairs and thirteen orphans: whether there are seven pairs, and the tile doubled in thirteen orphans (34 for
 // none).
-#[derive(Drop)]
+#[derive(Clone, Copy)]
 pub struct FoundSpecial {
     pub seven: bool,
     pub orphan: usize,
 }
 
 // What the first pass finds: seven pairs and thirteen orphans, and how many standard readings there are.
-#[derive(Drop)]
+#[derive(Clone, Copy)]
 pub struct Found {
     pub special: FoundSpecial,
     pub standard: usize,
@@ -194,7 +196,7 @@ fn write_orphan(orphan: usize, out: &mut [u8], at: usize) -> usize
 }
 
 // What is written of seven pairs and thirteen orphans: how many readings, and the place behind their records.
-#[derive(Drop)]
+#[derive(Clone, Copy)]
 pub struct WrittenSpecial {
     pub readings: usize,
     pub end: usize,

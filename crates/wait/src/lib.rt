@@ -1,4 +1,6 @@
 // Waits (wait.rs of agari): what the winning tile completed, pinfu, and which triplets are concealed.
+#![tactic(auto)]
+
 ghost use Rattle.std.specs.Prelude.{◌≡◌, ◌+◌, ◌*◌, ◌≤◌, eqb};
 ghost use Rattle.lists.specs.Fold.{all, any, count, one};
 ghost use Rattle.meld.specs.Meld.{is_sequence};

@@ -1,5 +1,7 @@
 // Scoring a win, scoring a reading by its number, and naming its waits. Each operation has no `requires`, and its `ensures` says for every
 // input what is answered.
+#![tactic(auto)]
+
 ghost use Rattle.std.specs.Prelude.{◌≡◌, true, ◌&&◌, length};
 ghost use Rattle.rules.specs.Rules.{game};
 ghost use Rattle.meld.specs.Meld.{is_open};
@@ -9,7 +11,7 @@ ghost use Rattle.checks.specs.Checks.{hand_check};
 ghost use Rattle.win.specs.Win.{is_opened, tiles_together, dora_together, in_hand, indicated_in, win_check_in, score_win_in, score_reading_in, name_waits_in, score_win, score_reading, refused_waits, name_waits};
 
 // The answer to naming waits: number 0 and a tally for each wait, Ryanmen, Kanchan, Penchan, Shanpon, Tanki, Kokushi13; or a refusal's number alone.
-#[derive(Drop)]
+#[derive(Clone, Copy)]
 pub struct WaitsAnswer {
     pub number: u8,
     pub waits: [u8; 6],

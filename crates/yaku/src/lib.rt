@@ -1,4 +1,6 @@
 // The tallies of a reading and their han (yaku.rs of agari: detect_yaku_with_context).
+#![tactic(auto)]
+
 ghost use Rattle.std.specs.Prelude.{◌≡◌, true, false, cond, ◌++◌, map, ◌≤◌, replicate};
 ghost use Rattle.lists.specs.Fold.{one};
 ghost use Rattle.structure.specs.Structure.{reading_of};
@@ -9,7 +11,7 @@ ghost use Rattle.yaku.specs.Han.{han_of, dot, han};
 pub mod names;
 
 // What is found of a reading: a tally for each yaku, their han, and whether there is a yakuman among them.
-#[derive(Drop)]
+#[derive(Clone, Copy)]
 pub struct YakuResult {
     pub tallies: [u8; 47],
     pub han: u8,

@@ -2,7 +2,7 @@
 ghost use Rattle.std.specs.Prelude.{◌≡◌};
 ghost use Rattle.yaku.specs.Names.{han_closed, han_open, is_yakuman_name, honor_place, place};
 
-#[derive(Drop)]
+#[derive(Clone, Copy)]
 pub enum Yaku {
     Riichi,
     Ippatsu,

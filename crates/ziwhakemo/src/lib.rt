@@ -1,4 +1,6 @@
 // The interface for C and Rust: each operation of the unit under a C name, with plain numbers for its answer (answers).
+#![tactic(auto)]
+
 ghost use Rattle.std.specs.Prelude.{◌≡◌, length};
 ghost use Rattle.unit.specs.Listing.{listing, written};
 ghost use Rattle.lent.specs.Lent.{calls_of};
