@@ -25,7 +25,9 @@ def split_items(text):
     lines = text.split("\n")
     items, cur = [], []
     for line in lines:
-        if line and not line[0].isspace() and not line.startswith("--"):
+        if items and line[:1] in (")", "]"):
+            items[-1].append(line)
+        elif line and not line[0].isspace() and not line.startswith("--"):
             items.append([line])
         elif line.startswith("--"):
             items.append([line])
@@ -56,6 +58,19 @@ class Function:
     def say(self, what):
         self.said.append("%s/%s: %s" % (self.crate, self.path, what))
 
+    def array(self, m):
+        """An array argument by its own name, where it was t1, t2 and so on."""
+        name = self.path.split("/")[-1]
+        for folder, _, files in sorted(os.walk(os.path.join("crates", self.crate, "src"))):
+            for f in files:
+                text = open(os.path.join(folder, f)).read()
+                s = re.search(r"fn %s\(([^{]*?)\)" % re.escape(name), text)
+                if s:
+                    arrays = re.findall(r"(\w+): &?(?:mut )?\[", s.group(1))
+                    k = int(m.group(1)) - 1
+                    return arrays[k] if k < len(arrays) else m.group(0)
+        return m.group(0)
+
     # ---- a chain of fields from a place
     def chain(self, place, parts):
         """(the place, None) where the chain ends at a place, or (None, new text)."""
@@ -71,6 +86,10 @@ class Function:
             return place, None
         step, rest = parts[0], [r.replace("-", "_") for r in parts[1:]]
         arm = self.arms.get(place)
+        if arm and norm(step) == "match" and rest and re.match(r"keys\d", rest[0]):
+            first = [a[0] for a in self.arms.values() if a and a[0].startswith("in-")]
+            fact = "not" + first[0][2:] if arm[0] == "in_default" and first else "is"
+            return None, ".".join(["c", arm[0], fact] + rest[1:])
         for field, old, path in (arm[2] if arm else []):
             if norm(old) == norm(step) and path and rest[: len(path)] == path:
                 return None, ".".join(["c", arm[0], field] + rest[len(path):])
@@ -78,7 +97,7 @@ class Function:
         old, new = p[2] if p[2] else ("", "")
         if norm(step) == norm(old) and new:
             name = new
-        elif step in ("args", "requires", "ranges", "utf8", "type-inv"):
+        elif step in ("args", "requires", "ranges", "utf8", "type-inv", "well-formed"):
             name = step.replace("-", "_")
         else:
             self.say("at %s no step %s (it has %s)" % (place, step, p[2]))
@@ -124,6 +143,10 @@ class Function:
             return m.group(0)
 
         out = re.sub(r"(?<![\w.'-])(%s)((?:\.%s)+)" % (r"[^\s(){}\[\].,;:⌜⌝←]+", WORD), turn, out)
+        out = re.sub(r"(?<=\.)t(\d)\b", self.array, out)
+        # the test of a `!x` says today what x is
+        out = re.sub(r"not-(?:true|false) _ \((c\.if-not-[^\s()]+)\)", r"\1", out)
+        out = re.sub(r"not-(?:true|false) _ (c\.if-not-[^\s()]+)", r"\1", out)
         if re.search(r"\bw\.\d", out) or ".branch" in out or ".given" in out or ".keys" in out:
             self.say("by hand: branch, given or keys: %s" % " ".join(out.split())[:160])
         return out

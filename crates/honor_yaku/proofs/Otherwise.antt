@@ -5,9 +5,9 @@ use Prim.Native.Nat.{ℕ}
 use Rattle.context.specs.declared.GameContext.{GameContext}
 use Rattle.structure.specs.declared.Hand.{Hand}
 use Rattle.structure.specs.Structure.{reading_of}
-use Rattle.structure.proofs.Cases.{kind_of, otherwise}
+use Rattle.structure.proofs.Cases.{NotStandard, otherwise}
 use Rattle.honor_yaku.specs.Honors.{yakuhai_of}
 
-module _ (h : Hand) (other : (kind_of h.structure ≡ 1) ⊎ (kind_of h.structure ≡ 2)) where
+module _ (h : Hand) (other : NotStandard h.structure) where
   pub tally_none : (w : GameContext) (t : ℕ) → 0 ≡ yakuhai_of w (reading_of h) t
   tally_none w t = otherwise (λ r. 0 ≡ yakuhai_of w r t) h refl (λ p. refl) other

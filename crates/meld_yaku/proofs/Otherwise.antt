@@ -7,9 +7,9 @@ use Prim.Native.Nat.{ℕ}
 use Rattle.meld.specs.declared.Meld.{Meld}
 use Rattle.structure.specs.declared.Hand.{Hand}
 use Rattle.structure.specs.Structure.{reading_of}
-use Rattle.structure.proofs.Cases.{kind_of, otherwise}
+use Rattle.structure.proofs.Cases.{NotStandard, otherwise}
 use Rattle.meld_yaku.specs.Standard.{of_standard}
 
-module _ (h : Hand) (other : (kind_of h.structure ≡ 1) ⊎ (kind_of h.structure ≡ 2)) where
+module _ (h : Hand) (other : NotStandard h.structure) where
   pub answer_no : (q : ℕ → List Meld → Bool) → false ≡ of_standard q (reading_of h)
   answer_no q = otherwise (λ r. false ≡ of_standard q r) h refl (λ p. refl) other

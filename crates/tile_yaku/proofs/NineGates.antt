@@ -29,6 +29,7 @@ module _ (f g : ℕ → ℕ) where
   -- with equal sums they agree
   sums_agree :
       (l : List ℕ) → ((a : ℕ) → Memᴰ a l → f a ≤ g a) → sum f l ≡ sum g l → (a : ℕ) → Memᴰ a l → f a ≡ g a
+  sums_agree [] h e a x3 = elim x3 [ ]
   sums_agree (b ∷ l) h e a (Memᴰ.head p) =
       let m = sum_mono f g l (λ x i. h x (Memᴰ.tail i)) in
       let k = h b (Memᴰ.head refl) in

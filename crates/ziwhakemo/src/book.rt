@@ -6,16 +6,14 @@ ghost use Rattle.seat_book.specs.History.{number_of, book_after};
 ghost use Rattle.booking.specs.Booking.{win_outcome, draw_outcome};
 
 // A book in which nothing is booked.
-#[unsafe(no_mangle)]
-pub extern "C" fn ziwhakemo_new_book() -> seat_book::SeatBook
+pub fn ziwhakemo_new_book() -> seat_book::SeatBook
     ensures { result ≡ new_book }
 {
     seat_book::new_book()
 }
 
 // Books a deal that ends in a draw.
-#[unsafe(no_mangle)]
-pub extern "C" fn ziwhakemo_book_draw(book: &mut seat_book::SeatBook, deal: seat_book::Deal) -> u32
+pub fn ziwhakemo_book_draw(book: &mut seat_book::SeatBook, deal: seat_book::Deal) -> u32
     ensures number { result ≡ number_of (draw_outcome book.old deal) }
     ensures book { book.new ≡ book_after book.old deal (draw_outcome book.old deal) }
 {
@@ -25,8 +23,7 @@ pub extern "C" fn ziwhakemo_book_draw(book: &mut seat_book::SeatBook, deal: seat
 }
 
 // Books a deal that ends in a win: the unit scores it.
-#[unsafe(no_mangle)]
-pub extern "C" fn ziwhakemo_book_win(
+pub fn ziwhakemo_book_win(
     book: &mut seat_book::SeatBook,
     counts: &[u8],
     calls: &[meld::Meld],

@@ -17,8 +17,7 @@ pub mod three;
 const VERSION: u32 = 8;
 
 // The version of this interface, for a caller that was written for one.
-#[unsafe(no_mangle)]
-pub extern "C" fn ziwhakemo_version() -> u32
+pub fn ziwhakemo_version() -> u32
     ensures { result ≡ version }
 {
     VERSION
@@ -33,8 +32,7 @@ fn list_values(counts: &[u8], k: checks::Calls, out: &mut [u8]) -> answers::List
 }
 
 // Lists the readings of a finished hand into the lent buffer.
-#[unsafe(no_mangle)]
-pub extern "C" fn ziwhakemo_list_readings(
+pub fn ziwhakemo_list_readings(
     counts: &[u8],
     calls: &[meld::Meld],
     out: &mut [u8],
@@ -46,24 +44,21 @@ pub extern "C" fn ziwhakemo_list_readings(
 }
 
 // The level of han and fu, with or without a yakuman.
-#[unsafe(no_mangle)]
-pub extern "C" fn ziwhakemo_score_level(han: u8, fu: u8, is_yakuman: bool) -> answers::LevelAnswer
+pub fn ziwhakemo_score_level(han: u8, fu: u8, is_yakuman: bool) -> answers::LevelAnswer
     ensures { result ≡ level_answer (level han fu is_yakuman) }
 {
     answers::level_of(scoring::determine_score_level(han, fu, is_yakuman))
 }
 
 // The basic points of han and fu, with or without a yakuman.
-#[unsafe(no_mangle)]
-pub extern "C" fn ziwhakemo_basic_points(han: u8, fu: u8, is_yakuman: bool) -> u32
+pub fn ziwhakemo_basic_points(han: u8, fu: u8, is_yakuman: bool) -> u32
     ensures { result ≡ basic_points han fu is_yakuman }
 {
     scoring::calculate_basic_points(han, fu, is_yakuman)
 }
 
 // Who pays what for any basic points and any win type, 0 for ron and 1 for tsumo.
-#[unsafe(no_mangle)]
-pub extern "C" fn ziwhakemo_payment(
+pub fn ziwhakemo_payment(
     basic_points: u32,
     is_dealer: bool,
     win_type: u8,
@@ -84,8 +79,7 @@ fn win_values(counts: &[u8], k: checks::Calls, w: context::GameContext) -> answe
 }
 
 // Scores a win: the reading with a yaku that pays most.
-#[unsafe(no_mangle)]
-pub extern "C" fn ziwhakemo_score_win(
+pub fn ziwhakemo_score_win(
     counts: &[u8],
     calls: &[meld::Meld],
     w: context::GameContext,
@@ -108,8 +102,7 @@ fn reading_values(
 }
 
 // Scores reading number n, counted from 0.
-#[unsafe(no_mangle)]
-pub extern "C" fn ziwhakemo_score_reading(
+pub fn ziwhakemo_score_reading(
     counts: &[u8],
     calls: &[meld::Meld],
     w: context::GameContext,
@@ -133,8 +126,7 @@ fn waits_values(
 }
 
 // Names the waits of reading number n, counted from 0.
-#[unsafe(no_mangle)]
-pub extern "C" fn ziwhakemo_name_waits(
+pub fn ziwhakemo_name_waits(
     counts: &[u8],
     calls: &[meld::Meld],
     w: context::GameContext,

@@ -18,8 +18,7 @@ fn list_values(counts: &[u8], k: checks::Calls, out: &mut [u8]) -> answers::List
 }
 
 // Lists the readings of a finished hand into the lent buffer.
-#[unsafe(no_mangle)]
-pub extern "C" fn ziwhakemo_three_list_readings(
+pub fn ziwhakemo_three_list_readings(
     counts: &[u8],
     calls: &[meld::Meld],
     out: &mut [u8],
@@ -31,8 +30,7 @@ pub extern "C" fn ziwhakemo_three_list_readings(
 }
 
 // Who pays what for any basic points and any win type, 0 for ron and 1 for tsumo.
-#[unsafe(no_mangle)]
-pub extern "C" fn ziwhakemo_three_payment(
+pub fn ziwhakemo_three_payment(
     basic_points: u32,
     is_dealer: bool,
     win_type: u8,
@@ -53,8 +51,7 @@ fn win_values(counts: &[u8], k: checks::Calls, w: context::GameContext) -> answe
 }
 
 // Scores a win: the reading with a yaku that pays most at a table of three.
-#[unsafe(no_mangle)]
-pub extern "C" fn ziwhakemo_three_score_win(
+pub fn ziwhakemo_three_score_win(
     counts: &[u8],
     calls: &[meld::Meld],
     w: context::GameContext,
@@ -77,8 +74,7 @@ fn reading_values(
 }
 
 // Scores reading number n, counted from 0.
-#[unsafe(no_mangle)]
-pub extern "C" fn ziwhakemo_three_score_reading(
+pub fn ziwhakemo_three_score_reading(
     counts: &[u8],
     calls: &[meld::Meld],
     w: context::GameContext,
@@ -102,8 +98,7 @@ fn waits_values(
 }
 
 // Names the waits of reading number n, counted from 0.
-#[unsafe(no_mangle)]
-pub extern "C" fn ziwhakemo_three_name_waits(
+pub fn ziwhakemo_three_name_waits(
     counts: &[u8],
     calls: &[meld::Meld],
     w: context::GameContext,

@@ -21,7 +21,7 @@ total-han-with-dora-requires c κs =
     let start = c.before.before in
     let a = start.args in
     let found = c.before.detect-yaku-with-context.ensures in
-    let four = sym (length-map a.h.melds _) ∙ start.well-formed.0.1.1.1.0.1.0.1 in
+    let four = start.well-formed.0.1.1.1.0.1.0.1 in
     (start.requires, λ e. omega (arith, found.1.0, han_plain a.w a.opened a.s (reading_of a.h) (short_reading a.h four) (sym found.1.1 ∙ e)))
 
 calculate-fu-requires : tie.Need-calculate-fu-requires

@@ -44,7 +44,7 @@ returns c =
     let w = s.args.w in
     let g = game s.args.v in
     let by = s.args.by in
-    let long = sym (length-map k.melds _) ∙ s.well-formed.1.0.1.1.1.0.1.0.1 in
+    let long = s.well-formed.1.0.1.1.1.0.1.0.1 in
     let second =
     simp (
       c.before.before.before.before.before.renamed-counts.ensures,

@@ -46,7 +46,7 @@ returns : tie.Need-returns
 returns c =
     let s = c.before.before.before.before.before.before.before.before.before in
     let k = s.args.k in
-    let long = sym (length-map k.melds _) ∙ s.well-formed.0.1.1.1.0.1.0.1 in
+    let long = s.well-formed.0.1.1.1.0.1.0.1 in
     simp (c.before.before.before.renamed.ensures, c.before.before.renamed2.ensures, c.before.renamed3.ensures, c.renamed4.ensures)
     (calls_four_holds s.args.by k _ long)
 

@@ -24,7 +24,7 @@ returns c =
     let s = c.before.before in
     let cs = s.args.counts.now in
     let k = s.args.k in
-    let long = called_length k (passed cs k s.requires).few (sym (length-map k.melds _) ∙ s.well-formed.1.0.1.1.1.0.1.0.1) in
+    let long = called_length k (passed cs k s.requires).few (s.well-formed.1.0.1.1.1.0.1.0.1) in
     let some = something_called (called k) (λ e. c.if1.true (sym long ∙ e)) (seven_pairs (held cs) ++ thirteen_orphans (held cs)) in
     record { calls = long; listed = ap records some; counted = ap length some; pairs = λ e. absurd (false_true e) }
 
@@ -39,7 +39,7 @@ returns-2 c =
     let s = c.before.before.before.before in
     let cs = s.args.counts.now in
     let k = s.args.k in
-    let long = called_length k (passed cs k s.requires).few (sym (length-map k.melds _) ∙ s.well-formed.1.0.1.1.1.0.1.0.1) in
+    let long = called_length k (passed cs k s.requires).few (s.well-formed.1.0.1.1.1.0.1.0.1) in
     let zero = c.before.before.if1.false in
     let none = nothing_called_holds (called k) (long ∙ zero) (seven_pairs (held cs) ++ thirteen_orphans (held cs)) in
     let no = not-true _ c.if2.true in
@@ -73,7 +73,7 @@ returns-3 c =
     let s = c.before.before.before.before.before.before.before in
     let cs = s.args.counts.now in
     let k = s.args.k in
-    let long = called_length k (passed cs k s.requires).few (sym (length-map k.melds _) ∙ s.well-formed.1.0.1.1.1.0.1.0.1) in
+    let long = called_length k (passed cs k s.requires).few (s.well-formed.1.0.1.1.1.0.1.0.1) in
     let zero = c.before.before.before.before.before.if1.false in
     let none = nothing_called_holds (called k) (long ∙ zero) (seven_pairs (held cs) ++ thirteen_orphans (held cs)) in
     let seven = c.before.is-chiitoitsu.ensures in

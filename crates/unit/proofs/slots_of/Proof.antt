@@ -43,7 +43,7 @@ returns-2 : tie.Need-returns-2
 returns-2 c =
     let s = c.before.before.before.before.before.before.before.before.before.before in
     let k = s.args.k in
-    let long = sym (length-map k.melds _) ∙ s.well-formed.0.1.1.1.0.1.0.1 in
+    let long = s.well-formed.0.1.1.1.0.1.0.1 in
     c.put-call4.ensures
     ∙ ap (put_call (ltb 3 k.count) (key (get_or k.melds 3 (meld 0 0))))
     (c.before.before.put-call3.ensures

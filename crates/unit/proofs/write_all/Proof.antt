@@ -14,7 +14,7 @@ write-special-requires : tie.Need-write-special-requires
 write-special-requires c κs =
     let s = c.before.before.before in
     let k = s.args.k in
-    let long = called_length k (passed s.args.counts.now k s.requires.0).few (sym (length-map k.melds _) ∙ s.well-formed.1.0.1.1.1.0.1.0.1) in
+    let long = called_length k (passed s.args.counts.now k s.requires.0).few (s.well-formed.1.0.1.1.1.0.1.0.1) in
     (s.requires.0, omega (arith, s.requires.1, records_length s.args.counts.now k s.requires.0 long))
 
 pack-requires : tie.Need-pack-requires
@@ -34,7 +34,7 @@ write-standards-requires c κs =
     let cs = s.args.counts.now in
     let k = s.args.k in
     let few = (passed cs k s.requires.0).few in
-    let long = called_length k few (sym (length-map k.melds _) ∙ s.well-formed.1.0.1.1.1.0.1.0.1) in
+    let long = called_length k few (s.well-formed.1.0.1.1.1.0.1.0.1) in
     let h = c.before.before.pack in
     let w = c.before.before.before.before.before.write-special.ensures in (
       few,
@@ -62,7 +62,7 @@ returns c =
     let cs = s.args.counts.now in
     let k = s.args.k in
     let few = (passed cs k s.requires.0).few in
-    let long = called_length k few (sym (length-map k.melds _) ∙ s.well-formed.1.0.1.1.1.0.1.0.1) in
+    let long = called_length k few (s.well-formed.1.0.1.1.1.0.1.0.1) in
     let h = c.before.before.before.before.before.before.pack in
     let v = c.before.before.before.before.before.before.before.before.before.write-special in
     let w = c.before.before.before.write-standards in

@@ -38,7 +38,7 @@ returns-2 : tie.Need-returns-2
 returns-2 c =
     let s = c.before.before.before.before.before.before.before.before.before.before in
     let k = s.args.k in
-    let long = sym (length-map k.melds _) ∙ s.well-formed.0.1.1.1.0.1.0.1 in
+    let long = s.well-formed.0.1.1.1.0.1.0.1 in
     simp (
       c.before.before.before.before.before.before.is-open-call.ensures,
       c.before.before.before.before.is-open-call2.ensures,

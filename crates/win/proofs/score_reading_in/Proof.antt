@@ -40,7 +40,7 @@ write-all-requires c κs =
     let g = game s.args.v in
     let inGame = hand_passes g cs k s.args.w passes in
     let ok = passes_four g cs k inGame in
-    let four = sym (length-map k.melds _) ∙ s.well-formed.1.0.1.1.1.0.1.0.1 in
+    let four = s.well-formed.1.0.1.1.1.0.1.0.1 in
     (ok, room g cs k four inGame)
 
 refused-requires-2 : tie.Need-refused-requires-2
@@ -55,7 +55,7 @@ returns-2 c =
     let g = game s.args.v in
     let inGame = hand_passes g cs k s.args.w passes in
     let ok = passes_four g cs k inGame in
-    let four = sym (length-map k.melds _) ∙ s.well-formed.1.0.1.1.1.0.1.0.1 in
+    let four = s.well-formed.1.0.1.1.1.0.1.0.1 in
     let b = c.before.before.before.write-all in
     let holds = held_readings cs k four ok _ _ b.result b.ensures.1.1 (room g cs k four inGame) b.ensures.0 in
     c.refused2.ensures ∙ reading_none g cs k s.args.w passes _ b.result holds s.args.n c.before.if2.true
@@ -103,7 +103,7 @@ returns-3 c =
     let g = game s.args.v in
     let inGame = hand_passes g cs k s.args.w passes in
     let ok = passes_four g cs k inGame in
-    let four = sym (length-map k.melds _) ∙ s.well-formed.1.0.1.1.1.0.1.0.1 in
+    let four = s.well-formed.1.0.1.1.1.0.1.0.1 in
     let b = c.before.before.before.before.before.before.before.before.before.before.before.write-all in
     let holds = held_readings cs k four ok _ _ b.result b.ensures.1.1 (room g cs k four inGame) b.ensures.0 in
     let h = c.before.before.before.before.before.reading-at in

@@ -42,7 +42,7 @@ cast-t13 : tie.Need-overflow-cast-t13
 cast-t13 c =
     let start = c.before.before.before.before.before.before in
     let a = start.args in
-    let four = sym (length-map a.h.melds _) ∙ start.well-formed.0.1.1.1.0.1.0.1 in
+    let four = start.well-formed.0.1.1.1.0.1.0.1 in
     let small = han_small a.w a.opened a.s (reading_of a.h) (short_reading a.h four) in
     let found = returns c in
     search rules

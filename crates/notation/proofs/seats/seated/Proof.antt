@@ -35,7 +35,7 @@ returns : tie.Need-returns
 returns c =
     let s = c.before.before.before.before.before.before.before.before.before in
     let k = s.args.k in
-    let long = sym (length-map k.melds _) ∙ s.well-formed.0.1.1.1.0.1.0.1 in
+    let long = s.well-formed.0.1.1.1.0.1.0.1 in
     simp (
       c.before.before.before.before.before.before.at_table.ensures,
       c.before.before.before.before.at-table2.ensures,

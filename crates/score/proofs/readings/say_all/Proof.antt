@@ -27,7 +27,7 @@ write-all-requires c κs =
     let k = s.args.k in
     let g = game s.args.v in
     let inGame = sym c.before.before.before.before.check-hand.ensures ∙ c.before.before.before.if1.false in
-    let four = sym (length-map k.melds _) ∙ s.well-formed.1.0.1.1.1.0.1.0.1 in
+    let four = s.well-formed.1.0.1.1.1.0.1.0.1 in
     (passes_four g cs k inGame, room g cs k four inGame)
 
 slice-aggregate-say-readings : tie.Need-slice-aggregate-say-readings

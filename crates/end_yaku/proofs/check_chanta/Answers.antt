@@ -1,0 +1,14 @@
+-- `check_chanta` meets its contract. Assumes nothing.
+use borrow.Author.Rules.{rules}
+use Rattle.meld_yaku.proofs.Otherwise.{answer_no}
+use Rattle.end_yaku.proofs.check_chanta.Goals as goal
+
+pub returns-in_default : goal.returns-in_default
+returns-in_default c = answer_no c.args.h c.in_default.not-Standard _
+
+pub returns : goal.returns
+returns c = simp (
+  c.in-Standard.is,
+  c.is_chanta.ensures,
+  c.is_junchan.ensures,
+)

@@ -1,0 +1,10 @@
+-- `check_ryanpeikou` meets its contract. Assumes nothing.
+use borrow.Author.Rules.{rules}
+use Rattle.meld_yaku.proofs.Otherwise.{answer_no}
+use Rattle.sequence_yaku.proofs.check_ryanpeikou.Goals as goal
+
+pub returns-in_default : goal.returns-in_default
+returns-in_default c = answer_no c.args.h c.in_default.not-Standard _
+
+pub returns : goal.returns
+returns c = simp (c.in-Standard.is, c.count_peikou.ensures.0)
