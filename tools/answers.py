@@ -66,24 +66,42 @@ class Function:
                 text = open(os.path.join(folder, f)).read()
                 s = re.search(r"fn %s\(([^{]*?)\)" % re.escape(name), text)
                 if s:
-                    arrays = re.findall(r"(\w+): &?(?:mut )?\[", s.group(1))
+                    given = re.findall(r"(?:^|,)\s*(?:mut )?(\w+)(?:: |$|,)", s.group(1))
                     k = int(m.group(1)) - 1
-                    return arrays[k] if k < len(arrays) else m.group(0)
+                    return given[k] if k < len(given) else m.group(0)
         return m.group(0)
 
     # ---- a chain of fields from a place
+    def has(self, place, step):
+        return self.has_it(place, step) or self.has_it(place, re.sub(r"[-_](lem|holds)$", "", step))
+
+    def has_it(self, place, step):
+        p = self.place[place]
+        arm = self.arms.get(place)
+        return norm(step) == norm(p[2][0] if p[2] else "") or any(norm(o) == norm(step) for _, o, _ in (arm[2] if arm else []))
+
+    def meant(self, place, step):
+        """The place whose step has this name, where what lies between counts other steps today."""
+        if place is None or self.has(place, step) or step in ("args", "requires", "ranges", "utf8", "type-inv", "well-formed"):
+            return place
+        up = place
+        while up is not None:
+            if self.has(up, step):
+                return up
+            up = self.place[up][1]
+        down = [q for q in self.place if self.has(q, step)]
+        return down[0] if len(down) == 1 else place
+
     def chain(self, place, parts):
         """(the place, None) where the chain ends at a place, or (None, new text)."""
         parts = list(parts)
         while parts and parts[0] == "before":
-            parent = self.place[place][1]
-            if parent is None:
-                self.say("no place before %s" % place)
-                return None, "c?"
-            place = parent
+            # past the start where steps of an older Rattle are no steps today
+            place = self.place[place][1] or place
             parts.pop(0)
         if not parts:
             return place, None
+        place = self.meant(place, parts[0])
         step, rest = parts[0], [r.replace("-", "_") for r in parts[1:]]
         arm = self.arms.get(place)
         if arm and norm(step) == "match" and rest and re.match(r"keys\d", rest[0]):
@@ -95,7 +113,7 @@ class Function:
                 return None, ".".join(["c", arm[0], field] + rest[len(path):])
         p = self.place[place]
         old, new = p[2] if p[2] else ("", "")
-        if norm(step) == norm(old) and new:
+        if norm(re.sub(r"[-_](lem|holds)$", "", step)) == norm(old) and new:
             name = new
         elif step in ("args", "requires", "ranges", "utf8", "type-inv", "well-formed"):
             name = step.replace("-", "_")
@@ -116,7 +134,7 @@ class Function:
         # names that a let binds to a place, in order
         pos = 0
         while True:
-            m = re.compile(r"let (%s) = ((?:%s)(?:\.before)+) in\s*" % (WORD, WORD)).search(out, pos)
+            m = re.compile(r"let (%s) = ((?:%s)(?:\.before)*) in\s*" % (WORD, r"[^\s(){}\[\].,;:⌜⌝]+?")).search(out, pos)
             if not m:
                 break
             base = m.group(2).split(".")
@@ -145,8 +163,8 @@ class Function:
         out = re.sub(r"(?<![\w.'-])(%s)((?:\.%s)+)" % (r"[^\s(){}\[\].,;:⌜⌝←]+", WORD), turn, out)
         out = re.sub(r"(?<=\.)t(\d)\b", self.array, out)
         # the test of a `!x` says today what x is
-        out = re.sub(r"not-(?:true|false) _ \((c\.if-not-[^\s()]+)\)", r"\1", out)
-        out = re.sub(r"not-(?:true|false) _ (c\.if-not-[^\s()]+)", r"\1", out)
+        out = re.sub(r"not-(?:true|false) \S+ \((c\.if-not-[^\s()]+)\)", r"\1", out)
+        out = re.sub(r"not-(?:true|false) \S+ (c\.if-not-[^\s()]+)", r"\1", out)
         if re.search(r"\bw\.\d", out) or ".branch" in out or ".given" in out or ".keys" in out:
             self.say("by hand: branch, given or keys: %s" % " ".join(out.split())[:160])
         return out

@@ -1,6 +1,6 @@
 -- Records read back: what is read from the bytes of records are the readings that they stand for; and picking a reading by its
 -- number is reading the record at that place. Assumes nothing.
-use mathlib.Core.Path.{◌≡◌, refl, sym, subst, ap, ◌∙◌}
+use mathlib.Core.Path.{◌≡◌, refl, sym, subst, ap, ap₂, ◌∙◌}
 use mathlib.Core.List.{List, [], ◌∷◌, ◌++◌, append_assoc, Memᴰ}
 use Prim.Native.Nat.{ℕ, zero, suc, ◌+◌, ◌<◌}
 use native.Mathlib.Omega.{arith}
@@ -97,7 +97,12 @@ read_behind (r ∷ rs) front rest sized =
     let first = begins r left (sized r (Memᴰ.head refl)) in
     let here = reading_behind front (record_of r ++ left) ∙ first.0 in
     let later = read_behind rs (front ++ record_of r) rest (λ q i. sized q (Memᴰ.tail i)) in
-    rw (split front r rs rest, here, next_place front r left first, ← append_assoc front (record_of r)) (ap (λ (l : List Reading). r ∷ l) later)
+    let b = front ++ (record_of r ++ left) in
+    let behind : readings_in b (length rs) (length front + byte_at b (length front)) ≡ rs =
+    ap (λ (i : ℕ). readings_in b (length rs) i) (next_place front r left first)
+    ∙ ap (λ (l : List ℕ). readings_in l (length rs) (length (front ++ record_of r))) (sym (append_assoc front (record_of r) left))
+    ∙ later in
+    subst (λ (l : List ℕ). readings_in l (suc (length rs)) (length front) ≡ r ∷ rs) (sym (split front r rs rest)) (ap₂ ◌∷◌ here behind)
 
 pub read_back :
     (rs : List Reading) (rest : List ℕ) → ((r : Reading) → Memᴰ r rs → Sized r) → readings_in (records rs ++ rest) (length rs) 0 ≡ rs

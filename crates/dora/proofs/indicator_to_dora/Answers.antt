@@ -10,4 +10,4 @@ returns-then-t-ge34 c = sym (dora_above _ c.if-t-ge34.true)
 
 pub returns : goal.returns
 unfolding dora_of
-returns c = at_table c.args.indicator.0 c.if1.false
+returns c = at_table c.args.indicator.0 c.if-t-ge34.false

@@ -1,0 +1,10 @@
+-- `known` is safe and ends. Assumes nothing.
+use Prim.Native.Nat.{◌≤◌, ◌-◌}
+use borrow.Author.Rules.{rules}
+use Rattle.known_words.proofs.known.Given as goal
+
+abbrev pub invariant-loop-i : goal.invariant-loop-i
+invariant-loop-i l = l.i ≤ 45
+
+abbrev pub decreases-loop-i : goal.decreases-loop-i
+decreases-loop-i l = 45 - l.i

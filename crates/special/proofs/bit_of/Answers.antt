@@ -1,0 +1,10 @@
+-- `special::bit_of` meets its contract. Assumes nothing.
+use native.Mathlib.Omega.{arith}
+use borrow.Author.Tests.{eq-eqb, ne_eqb}
+use Rattle.special.proofs.bit_of.Goals as goal
+
+pub returns-then-x-eq0 : goal.returns-then-x-eq0
+returns-then-x-eq0 c = (simp (eq-eqb _ _ c.if-x-eq0.true), omega arith)
+
+pub returns-else-x-eq0 : goal.returns-else-x-eq0
+returns-else-x-eq0 c = (simp (ne_eqb _ _ c.if-x-eq0.false), omega arith)

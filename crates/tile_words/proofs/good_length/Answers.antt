@@ -1,0 +1,23 @@
+use mathlib.Core.Path.{sym, ◌∙◌, ◌≡◌}
+use Prim.Native.Nat.{◌+◌, ◌-◌}
+use lib.ListN.{length, drop}
+use borrow.Author.Tests.{not-true, not-false}
+use Rattle.tile_words.proofs.Places.{good_next, good_stop, good_end}
+use Rattle.tile_words.specs.Words.{good_length, char_before}
+use borrow.Author.Rules.{rules}
+use Rattle.tile_words.proofs.good_length.Goals as goal
+
+pub returns-then-not-is_good_at : goal.returns-then-not-is_good_at
+returns-then-not-is_good_at c =
+    let l = c.loop-i in
+    good_stop c.args.word.now l.i c.loop-i-test.true (sym c.is_good_at.ensures ∙ c.if-not-is_good_at.true) ∙ l.invariant
+
+pub loop-i-preserved : goal.loop-i-preserved
+loop-i-preserved c =
+    let l = c.loop-i in
+    good_next c.args.word.now l.i c.loop-i-test.true (sym c.is_good_at.ensures ∙ c.if-not-is_good_at.false) ∙ l.invariant
+
+pub returns : goal.returns
+returns c =
+    let l = c.loop-i in
+    good_end c.args.word.now l.i c.loop-i-test.false ∙ l.invariant
