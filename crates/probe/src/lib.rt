@@ -1,7 +1,6 @@
 // For the comparison with agari only: what the layers below the operations answer for one reading that is handed in.
 #![tactic(auto)]
 
-
 // A reading in plain fields: kind 1 seven pairs, 2 thirteen orphans, else a pair and four melds.
 #[repr(C)]
 #[derive(Clone, Copy)]

@@ -12,7 +12,6 @@ use borrow.Author.Tests.{not-true, not-false}
 use borrow.Author.Rules.{rules}
 use Rattle.checks.proofs.are_calls.Goals as goal
 
-
 pub offset_bounds-melds-i : goal.offset_bounds-melds-i
 offset_bounds-melds-i c = omega arith
 

@@ -41,10 +41,11 @@ returns-then-not-are_calls c =
 pub returns-then-not-within_wall : goal.returns-then-not-within_wall
 unfolding hand_check_in
 returns-then-not-within_wall c =
+    let calls = sym c.are_calls.ensures ∙ c.if-not-are_calls.false in
     sym
     (pass _ _ _ (eq-eqb _ _ c.if-counts-ne34.false)
     ∙ pass _ _ _ (le-leb _ _ c.if-count-gt4.false)
-    ∙ pass _ _ _ (sym c.are_calls.ensures ∙ c.if-not-are_calls.false)
+    ∙ pass _ _ _ calls
     ∙ refuse _ _ _ (sym c.within_wall.ensures ∙ c.if-not-within_wall.true))
 
 pub together_at_most_four-requires : goal.together_at_most_four-requires

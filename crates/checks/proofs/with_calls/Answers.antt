@@ -13,7 +13,6 @@ use Rattle.checks.proofs.Added.{uses_of, uses_next, uses_first}
 use borrow.Author.Rules.{rules}
 use Rattle.checks.proofs.with_calls.Goals as goal
 
-
 pub offset_bounds-melds-i : goal.offset_bounds-melds-i
 offset_bounds-melds-i c = omega arith
 

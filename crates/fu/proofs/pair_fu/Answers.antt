@@ -21,4 +21,3 @@ pub returns-in-1 : goal.returns-in-1
 returns-in-1 c =
     let a = c.args in
     pair_fu_is a.w a.pair 2 false c.if-pair-w.false (let e = c.weight.ensures.0 in let k = c.in-1.is in omega arith)
-

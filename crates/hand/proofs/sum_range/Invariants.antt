@@ -10,7 +10,7 @@ use borrow.Author.Rules.{rules}
 use Rattle.hand.proofs.sum_range.Given as goal
 
 abbrev pub invariant-loop-i : goal.invariant-loop-i
-invariant-loop-i l =     (l.sum + sum (held l.counts) (up_from (l.to - l.i) l.i) ≡ sum (held l.counts) (up_from (l.to - l.from) l.from)) × (l.sum + 255 * (34 - l.i) ≤ 255 * 34)
+invariant-loop-i l = (l.sum + sum (held l.counts) (up_from (l.to - l.i) l.i) ≡ sum (held l.counts) (up_from (l.to - l.from) l.from)) × (l.sum + 255 * (34 - l.i) ≤ 255 * 34)
 
 abbrev pub decreases-loop-i : goal.decreases-loop-i
 decreases-loop-i l = l.to - l.i

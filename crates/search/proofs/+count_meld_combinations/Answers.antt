@@ -31,13 +31,13 @@ counted t c y r f e =
     let q = split c.lowest-low.result in
     let g : Going c.args.needed (split c.args.s) q = record { some = c.if-needed-eq0-2.false; lowest = c.lowest-low.ensures.0; same = c.lowest-low.ensures.1 } in
     let h : c.if-has_sequence.total ≡ length (first c.args.needed q) =
-        elim c.if-has_sequence.branch [
-          | then-has_sequence w ↦
-              w.total-is
-              ∙ counted_part (has_sequence q) n (meld q.tile 0) (left q) (left (split w.without_sequence.result)) w.count_meld_combinations-total.result
-              (sym c.has_sequence.ensures ∙ w.if-has_sequence.true) w.without_sequence.ensures.same w.count_meld_combinations-total.ensures.0
-          | else-has_sequence w ↦ w.total-is ∙ counted_none (has_sequence q) n (meld q.tile 0) (left q) (sym c.has_sequence.ensures ∙ w.if-has_sequence.false)
-        ] in
+    elim c.if-has_sequence.branch [
+      | then-has_sequence w ↦
+          w.total-is
+          ∙ counted_part (has_sequence q) n (meld q.tile 0) (left q) (left (split w.without_sequence.result)) w.count_meld_combinations-total.result
+          (sym c.has_sequence.ensures ∙ w.if-has_sequence.true) w.without_sequence.ensures.same w.count_meld_combinations-total.ensures.0
+      | else-has_sequence w ↦ w.total-is ∙ counted_none (has_sequence q) n (meld q.tile 0) (left q) (sym c.has_sequence.ensures ∙ w.if-has_sequence.false)
+    ] in
     counted_all c.args.needed (split c.args.s) q c.if-has_sequence.total y r c.requires.0 c.requires.1 g h f e
 
 pub returns-then-has_triplet : goal.returns-then-has_triplet

@@ -1,13 +1,14 @@
 -- `search::write_meld_combinations` and `search::write_with`, which call each other, meet their contracts: the records with the sequence
 -- are written, and behind them those with the triplet. Assumes nothing.
-use Rattle.std.proofs.Common.{◌≡◌, ℕ, ◌+◌, ◌-◌, refl, sym, ap, ◌∙◌, arith, rules}
+use Rattle.std.proofs.Common.{◌≡◌, ℕ, ◌+◌, ◌-◌, List, length, refl, sym, ◌∙◌, arith, rules}
+use Rattle.std.proofs.lemmas.List.Edits.{sets}
 use Rattle.meld.specs.Meld.{meld}
 use Rattle.hand.specs.Readings.{meld_lists}
 use Rattle.search.specs.Remaining.{split, left, has_sequence, has_triplet}
-use Rattle.search.specs.Slots.{put}
-use Rattle.search.proofs.Parts.{first, second, Going, too_few, room_first, room_second}
+use Rattle.search.specs.Slots.{put, records_with}
+use Rattle.search.proofs.Parts.{first, second, too_few, room_first, room_second}
 use Rattle.search.proofs.Parts.{Wrote, wrote_none, left_out, wrote_part, wrote_all}
-use Rattle.search.proofs.+write_meld_combinations_write_with.Goals.{write_meld_combinations-After-lowest-low as After-lowest-low, write_meld_combinations-Joined-has_sequence as Joined-has_sequence}
+use Rattle.search.proofs.+write_meld_combinations_write_with.Goals.{write_meld_combinations-Joined-has_sequence as Joined-has_sequence}
 use Rattle.search.proofs.+write_meld_combinations_write_with.Goals.{write_meld_combinations-then-has_sequence, write_meld_combinations-else-has_sequence}
 use Rattle.search.proofs.+write_meld_combinations_write_with.Goals as goal
 
@@ -20,12 +21,7 @@ write_meld_combinations-returns-then-is_empty t c =
     (too_few a.needed (split a.s) c.if-needed-eq0.false (sym c.is_empty.ensures ∙ c.if-is_empty.true)) refl refl in
     (w.place, w.bytes)
 
--- ---- at the lowest tile
-
-going : (t : ℕ) (c : After-lowest-low t) → Going c.args.needed (split c.args.s) (split c.lowest-low.result)
-going t c = record { some = c.if-needed-eq0.false; lowest = c.lowest-low.ensures.0; same = c.lowest-low.ensures.1 }
-
--- the sequence
+-- ---- the sequence
 
 pub write_meld_combinations-write_with-pos-requires : goal.write_meld_combinations-write_with-pos-requires
 write_meld_combinations-write_with-pos-requires t c =
@@ -38,7 +34,7 @@ write_meld_combinations-write_with-pos-requires t c =
         (
           r.ensures.fair,
           room_first a.pair a.slots a.out.now a.at a.needed (split a.s) (split c.lowest-low.result)
-              (going t (goal.at.write_meld_combinations-write_with-pos-requires t c).After-lowest-low) c.requires.1.1
+              (record { some = c.if-needed-eq0.false; lowest = c.lowest-low.ensures.0; same = c.lowest-low.ensures.1 }) c.requires.1.1
               k.result (left (split r.result)) (put k.result a.slots) refl
               (sym c.has_sequence.ensures ∙ c.if-has_sequence.true) r.ensures.same (omega (arith, k.ensures)),
         ),
@@ -67,7 +63,7 @@ first_wrote t c =
           (sym c.has_sequence.ensures ∙ w.if-has_sequence.false) w.out-is w.pos-is
     ]
 
--- the triplet
+-- ---- the triplet
 
 pub write_meld_combinations-write_with-pos-requires-then-has_triplet :
     goal.write_meld_combinations-write_with-pos-requires-then-has_triplet
@@ -75,19 +71,33 @@ write_meld_combinations-write_with-pos-requires-then-has_triplet t c =
     let r = c.without_triplet-rest in
     let k = c.key-key in
     let a = c.args in
-    let p = goal.at.write_meld_combinations-write_with-pos-requires-then-has_triplet t c in (
+    let j = (goal.at.write_meld_combinations-write_with-pos-requires-then-has_triplet t c).Joined-has_sequence in (
       search rules,
       (
         omega (arith, c.requires.0),
         (
           r.ensures.fair,
-          room_second a.pair a.slots a.out.now a.at a.needed (split a.s) (split c.lowest-low.result) (going t p.After-lowest-low) c.requires.1.1
+          room_second a.pair a.slots a.out.now a.at a.needed (split a.s) (split c.lowest-low.result)
+              (record { some = c.if-needed-eq0.false; lowest = c.lowest-low.ensures.0; same = c.lowest-low.ensures.1 }) c.requires.1.1
               (k.result + 8) (left (split r.result)) (put (k.result + 8) a.slots) refl
               (sym c.has_triplet.ensures ∙ c.if-has_triplet.true) r.ensures.same (omega (arith, k.ensures))
-              c.if-has_sequence.out c.if-has_sequence.pos (first_wrote t p.Joined-has_sequence),
+              c.if-has_sequence.out c.if-has_sequence.pos (first_wrote t j),
         ),
       ),
     )
+
+-- and what is written after both
+all_wrote :
+    (t : ℕ) (c : Joined-has_sequence t) (out : List ℕ) (pos : ℕ)
+    → Wrote c.args.pair c.args.slots c.if-has_sequence.out c.if-has_sequence.pos (second c.args.needed (split c.lowest-low.result)) out pos
+    → (pos ≡ c.args.at + length (records_with c.args.pair c.args.slots (meld_lists c.args.needed (left (split c.args.s)))))
+    × (out ≡ sets c.args.out.now c.args.at (records_with c.args.pair c.args.slots (meld_lists c.args.needed (left (split c.args.s)))))
+all_wrote t c out pos v =
+    let a = c.args in
+    let w = wrote_all a.pair a.slots a.out.now a.at a.needed (split a.s) (split c.lowest-low.result)
+    (record { some = c.if-needed-eq0.false; lowest = c.lowest-low.ensures.0; same = c.lowest-low.ensures.1 })
+    _ out _ pos (first_wrote t c) v in
+    (w.place, w.bytes)
 
 pub write_meld_combinations-returns-then-has_triplet : goal.write_meld_combinations-returns-then-has_triplet
 write_meld_combinations-returns-then-has_triplet t c =
@@ -97,23 +107,15 @@ write_meld_combinations-returns-then-has_triplet t c =
     let k = c.key-key in
     let j = c.if-has_sequence in
     let q = split c.lowest-low.result in
-    let p = goal.at.write_meld_combinations-returns-then-has_triplet t c in
-    let w = wrote_all a.pair a.slots a.out.now a.at a.needed (split a.s) q (going t p.After-lowest-low) j.out d.new.out j.pos d.result
-    (first_wrote t p.Joined-has_sequence)
+    all_wrote t (goal.at.write_meld_combinations-returns-then-has_triplet t c).Joined-has_sequence d.new.out d.result
     (wrote_part a.pair a.slots j.out j.pos (has_triplet q) (a.needed - 1) (k.result + 8) (meld q.tile 2) (left q) (left (split r.result))
     (put (k.result + 8) a.slots) d.new.out d.result (sym c.has_triplet.ensures ∙ c.if-has_triplet.true) r.ensures.same (omega (arith, k.ensures)) refl
-    d.ensures.0 d.ensures.1 d.auto.out) in
-    (w.place, w.bytes)
+    d.ensures.0 d.ensures.1 d.auto.out)
 
--- where there is no triplet
 pub write_meld_combinations-returns-else-has_triplet : goal.write_meld_combinations-returns-else-has_triplet
 write_meld_combinations-returns-else-has_triplet t c =
-    let a = c.args in
     let j = c.if-has_sequence in
     let q = split c.lowest-low.result in
-    let p = goal.at.write_meld_combinations-returns-else-has_triplet t c in
-    let w = wrote_all a.pair a.slots a.out.now a.at a.needed (split a.s) q (going t p.After-lowest-low) j.out j.out j.pos j.pos
-    (first_wrote t p.Joined-has_sequence)
-    (left_out a.pair a.slots j.out j.pos (has_triplet q) (a.needed - 1) (meld q.tile 2) (left q) j.out j.pos
-    (sym c.has_triplet.ensures ∙ c.if-has_triplet.false) refl refl) in
-    (w.place, w.bytes)
+    all_wrote t (goal.at.write_meld_combinations-returns-else-has_triplet t c).Joined-has_sequence j.out j.pos
+    (left_out c.args.pair c.args.slots j.out j.pos (has_triplet q) (c.args.needed - 1) (meld q.tile 2) (left q) j.out j.pos
+    (sym c.has_triplet.ensures ∙ c.if-has_triplet.false) refl refl)

@@ -7,7 +7,6 @@ use Rattle.structure.proofs.Cases.{otherwise}
 use borrow.Author.Rules.{rules}
 use Rattle.wait.proofs.is_pinfu.Goals as goal
 
-
 pub returns : goal.returns
 unfolding pinfu
 returns c =

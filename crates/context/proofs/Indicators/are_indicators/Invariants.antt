@@ -12,7 +12,7 @@ use borrow.Author.Rules.{rules}
 use Rattle.context.proofs.Indicators.are_indicators.Given as goal
 
 abbrev pub invariant-loop-i : goal.invariant-loop-i
-invariant-loop-i l =     (length l.tiles ≡ 10) × ((l.i ≤ l.count) × (all (λ t. ltb t 34) (drop l.i (take l.count l.tiles)) ≡ all (λ t. ltb t 34) (take l.count l.tiles)))
+invariant-loop-i l = (length l.tiles ≡ 10) × ((l.i ≤ l.count) × (all (λ t. ltb t 34) (drop l.i (take l.count l.tiles)) ≡ all (λ t. ltb t 34) (take l.count l.tiles)))
 
 abbrev pub decreases-loop-i : goal.decreases-loop-i
 decreases-loop-i l = l.count - l.i

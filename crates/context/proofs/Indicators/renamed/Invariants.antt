@@ -14,7 +14,7 @@ use Rattle.context.specs.declared.Indicators.{Indicators}
 use Rattle.context.proofs.Indicators.renamed.Given as goal
 
 abbrev pub invariant-loop-i : goal.invariant-loop-i
-invariant-loop-i l =     (sets l.to l.i (drop l.i (map (ren l.by) l.tiles)) ≡ sets l.initial.to 0 (map (ren l.by) l.tiles)) × ((length l.to ≡ 10) × (length l.tiles ≡ 10))
+invariant-loop-i l = (sets l.to l.i (drop l.i (map (ren l.by) l.tiles)) ≡ sets l.initial.to 0 (map (ren l.by) l.tiles)) × ((length l.to ≡ 10) × (length l.tiles ≡ 10))
 
 abbrev pub decreases-loop-i : goal.decreases-loop-i
 decreases-loop-i l = 10 - l.i

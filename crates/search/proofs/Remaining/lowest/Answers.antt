@@ -3,7 +3,7 @@ use mathlib.Core.Path.{◌≡◌, sym, ◌∙◌, subst}
 use Prim.Native.Nat.{ℕ, ◌+◌, ◌*◌, ◌/◌, ◌%◌, ◌^◌, ◌<◌}
 use native.Mathlib.Omega.{arith}
 use borrow.Author.Rules.{rules}
-use lib.Count.{count_trailing_zeros, trailing_le}
+use lib.Count.{count_trailing_zeros}
 use Rattle.search.specs.declared.Remaining.{Remaining}
 use Rattle.search.specs.Remaining.{Split, split, left, Fair, AtLowest}
 use Rattle.search.proofs.Digits.{lowest_place}
@@ -24,18 +24,6 @@ module _ (s : Remaining) (f : Fair (split s)) (some : s.word ≡ 0 → ⊥) (fit
       let l = lowest_of (split s) f zeros (lowest_place 64 s.word some fits) in
       let h = tile_below in
       subst (λ (t : Split). AtLowest t × (left t ≡ c)) (sym (split_on (s.word / 2 ^ (3 * zeros)) s.behind zeros (omega arith))) (l.0, l.1 ∙ e)
-
-pub overflow_mul-result : goal.overflow_mul-result
-overflow_mul-result c = omega (arith, trailing_le 64 c.current-s.result.word)
-
-pub overflow_cast-result : goal.overflow_cast-result
-overflow_cast-result c = omega (arith, trailing_le 64 c.current-s.result.word)
-
-pub overflow_shr-result : goal.overflow_shr-result
-overflow_shr-result c = omega (arith, trailing_le 64 c.current-s.result.word)
-
-pub overflow_cast-result-2 : goal.overflow_cast-result-2
-overflow_cast-result-2 c = omega (arith, trailing_le 64 c.current-s.result.word)
 
 pub overflow_add-result : goal.overflow_add-result
 overflow_add-result c =
