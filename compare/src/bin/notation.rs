@@ -1,4 +1,4 @@
-//! Compares what the program for referees, target/bin/score, reads with what agari's parser reads: random
+//! Compares what the program for referees, crates/score/out/score, reads with what agari's parser reads: random
 //! texts of tiles, honors by letter, calls in brackets and blanks, good and bad ones. Where both read a
 //! text, tiles and calls have to be the same. Where one of them alone does, the text has to show one of
 //! the differences that docs/DIFFERENCES.md lists under 'Notation', a red five among them.
@@ -497,8 +497,8 @@ fn not_written(calls: &str) -> Read {
 
 /// What the program read, or nothing where it is bad input.
 fn by_program(arguments: &[String]) -> Option<Read> {
-    let output = Command::new("target/bin/score").args(arguments).output();
-    let output = output.expect("target/bin/score, made by `rt check score`");
+    let output = Command::new("crates/score/out/score").args(arguments).output();
+    let output = output.expect("crates/score/out/score, made by `rt run` in crates/score");
     let written = String::from_utf8(output.stdout).expect("text");
     if let Some((_, count)) = written.split_once("more than four calls: ") {
         return Some(not_written(count.trim_end()));

@@ -1,4 +1,4 @@
-//! Tries the program for referees, target/bin/score.
+//! Tries the program for referees, crates/score/out/score.
 //!
 //! - Each case of compare/score_cases.txt: after a line '$ score WORDS' stands what the program has to
 //!   write. Words are parted by spaces; 'single quotes' hold a word together, in which \n, \t and \xNN
@@ -122,7 +122,7 @@ fn main() {
     for case in &cases {
         let (line, expected) = case.split_once('\n').expect("a line of words");
         let words = words_of(line);
-        let written = written_for("target/bin/score", &words).0;
+        let written = written_for("crates/score/out/score", &words).0;
         if written != expected {
             differ += 1;
             println!("score{line}\nwrote:\n{written}expected:\n{expected}");
@@ -147,7 +147,7 @@ fn random_runs() -> usize {
     for _ in 0..RANDOM_RUNS {
         let mut words: Vec<OsString> = rng.pick(STARTS).split('|').map(OsString::from).collect();
         words.extend((0..rng.below(5)).map(|_| random_word(&mut rng)));
-        let written = written_for("target/bin/score", &words).0;
+        let written = written_for("crates/score/out/score", &words).0;
         differ += promise_broken(&words, &written);
         given_back += usize::from(hand_line(&written).is_some());
     }
@@ -167,7 +167,7 @@ fn random_word(rng: &mut Rng) -> OsString {
 /// What a program writes for these words, and its exit status.
 fn written_for(program: &str, words: &[OsString]) -> (String, Option<i32>) {
     let output = Command::new(program).args(words).output();
-    let output = output.expect("target/bin/score, made by `rt check score`");
+    let output = output.expect("crates/score/out/score, made by `rt run` in crates/score");
     (
         String::from_utf8_lossy(&output.stdout).into(),
         output.status.code(),
@@ -198,7 +198,7 @@ fn promise_broken(words: &[OsString], written: &str) -> usize {
     if let Some(line) = hand_line(written) {
         let apart: Vec<OsString> = line.split(' ').map(OsString::from).collect();
         for again in [apart, vec![line.into()]] {
-            broken |= written_for("target/bin/score", &again).0 != but_assumed(written);
+            broken |= written_for("crates/score/out/score", &again).0 != but_assumed(written);
         }
     }
     if broken {

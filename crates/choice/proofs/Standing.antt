@@ -12,7 +12,7 @@ module _ {A : Type 0} where
   stands_mem x (suc i) (a ∷ l) s = Memᴰ.tail (stands_mem x i l s)
 
   -- a member stands at some number
-  pub mem_stands : {l : List A} {x : A} → Memᴰ x l → (i : ℕ) × StandsAt x i l
+  pub mem_stands : {x : A} {l : List A} → Memᴰ x l → (i : ℕ) × StandsAt x i l
   mem_stands (Memᴰ.head e) = (zero, e)
   mem_stands (Memᴰ.tail j) = let r = mem_stands j in (suc r.0, r.1)
 

@@ -32,7 +32,7 @@ open_kinds = 1 ∷ 3 ∷ 5 ∷ 6 ∷ []
 kinds_are : (m : Meld) → is_open m ≡ any (eqb m.kind) open_kinds
 kinds_are m = ap (λ (x : Bool). eqb m.kind 1 || (eqb m.kind 3 || x)) (sym (or_false (eqb m.kind 5) (eqb m.kind 6)))
 
-some_open : {l : List Meld} {m : Meld} → Memᴰ m l → T (is_open m) → T (any is_open l)
+some_open : {m : Meld} {l : List Meld} → Memᴰ m l → T (is_open m) → T (any is_open l)
 some_open (Memᴰ.head {x = x} {xs = xs} e) t = or_left (is_open x) (any is_open xs) (subst (λ (y : Meld). T (is_open y)) e t)
 some_open (Memᴰ.tail {x = x} {xs = xs} i) t = or_right (is_open x) (any is_open xs) (some_open i t)
 

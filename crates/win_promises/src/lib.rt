@@ -1,3 +1,2 @@
 // What scoring a win promises, as laws about the definitions that the operations' contracts are equations with. Nothing to run.
 #![tactic(auto)]
-
