@@ -1,6 +1,7 @@
 # The C library: built, tried and installed. Needs GNU make and, by goal:
 #
 #   make            rt, the Rattle kit: proves the library and writes target/staticlib/libziwhakemo.a
+#   make probe      rt: likewise target/staticlib/libprobe.a, for the comparison in compare/ alone
 #   make examples   a C compiler (CC) as well: the programs of examples/c, in target/c
 #   make test       a C++ compiler (CXX) as well: the examples as C99, C17 and C++17 without a warning;
 #                   runs them and compares what they print with what is stored
@@ -25,21 +26,32 @@ ARCHIVE = target/staticlib/libziwhakemo.a
 HEADERS = include/ziwhakemo.h include/ziwhakemo_names.h
 # what stands after the name in the header (a dot for the number sign, which begins a comment here)
 VERSION := $(shell sed -n 's/^.define ZIWHAKEMO_VERSION //p' include/ziwhakemo.h)
+# what rt reads; what it writes stands in each crate's out/
+SOURCES := crates.txt $(shell find crates -name out -prune -o \( -name '*.rt' -o -name '*.antt' \) -print)
 PROGRAMS = score calls three book names boundary
 STANDARDS = c99 c17 c++17
 
 LIB = $(DESTDIR)$(PREFIX)/lib
 INCLUDE = $(DESTDIR)$(PREFIX)/include
 
-.PHONY: all examples test memcheck install uninstall
+.PHONY: all probe examples test memcheck install uninstall
 .DELETE_ON_ERROR:
 
 all: $(ARCHIVE)
 
-# rt proves what changed and no more.
-target/staticlib/libziwhakemo.a: crates.txt $(shell find crates -name '*.rt' -o -name '*.antt')
-	$(RT) staticlib ziwhakemo
-	touch $@
+probe: target/staticlib/libprobe.a
+
+# rt proves what changed and no more. The exports for C stand in a crate of their own.
+target/staticlib/libziwhakemo.a: $(SOURCES) | target/staticlib
+	cd crates/ziwhakemo_c && $(RT) lib
+	cp crates/ziwhakemo_c/out/libziwhakemo_c.a $@
+
+target/staticlib/libprobe.a: $(SOURCES) | target/staticlib
+	cd crates/probe && $(RT) lib
+	cp crates/probe/out/libprobe.a $@
+
+target/staticlib:
+	mkdir -p $@
 
 target/c:
 	mkdir -p $@

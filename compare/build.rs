@@ -9,7 +9,7 @@ fn main() {
     println!("cargo::rerun-if-changed={}", archive.display());
     if !archive.is_file() {
         println!(
-            "cargo::error=no file {}: run `rt staticlib probe` in the repository's root, \
+            "cargo::error=no file {}: run `make probe` in the repository's root, \
              or name the archives' folder in ZIWHAKEMO_LIB_DIR",
             archive.display()
         );

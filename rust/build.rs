@@ -37,7 +37,7 @@ pub fn unsupported(arch: &str, system: &str) -> Option<String> {
 pub fn missing(archive: &Path) -> Option<String> {
     (!archive.is_file()).then(|| {
         format!(
-            "no file {}: run `rt staticlib ziwhakemo` in the repository's root, \
+            "no file {}: run `make` in the repository's root, \
              or name the archive's folder in ZIWHAKEMO_LIB_DIR",
             archive.display()
         )

@@ -58,11 +58,7 @@ pub fn ziwhakemo_basic_points(han: u8, fu: u8, is_yakuman: bool) -> u32
 }
 
 // Who pays what for any basic points and any win type, 0 for ron and 1 for tsumo.
-pub fn ziwhakemo_payment(
-    basic_points: u32,
-    is_dealer: bool,
-    win_type: u8,
-) -> answers::PaymentValues
+pub fn ziwhakemo_payment(basic_points: u32, is_dealer: bool, win_type: u8) -> answers::PaymentValues
     ensures { result ≡ payment_values (payment_answer basic_points is_dealer win_type) }
 {
     answers::payment_values(

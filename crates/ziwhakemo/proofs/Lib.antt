@@ -1,4 +1,0 @@
-pub mod Booked
-pub mod Listed
-pub mod Numbered
-pub mod Won
