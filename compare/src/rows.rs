@@ -58,16 +58,14 @@ impl Row {
         })
     }
 
-    /// The name as theorems write it: `noYaku` is `no-yaku`.
+    /// The name as records have it: `no_yaku` is `no-yaku`.
+    pub fn title(&self) -> String {
+        self.name.replace('_', "-")
+    }
+
+    /// The name of the row's own theorem: `no_yaku_holds` that of `no_yaku`.
     pub fn theorem(&self) -> String {
-        let mut theorem = String::new();
-        for letter in self.name.chars() {
-            if letter.is_ascii_uppercase() {
-                theorem.push('-');
-            }
-            theorem.push(letter.to_ascii_lowercase());
-        }
-        theorem
+        format!("{}_holds", self.name)
     }
 }
 
@@ -104,13 +102,13 @@ impl Term {
         }
     }
 
-    /// A win type: `byRon`, `byTsumo`, or a number.
+    /// A win type: `by_ron`, `by_tsumo`, or a number.
     pub fn win_type(&self) -> u8 {
         match self {
             Term::Number(number) => *number as u8,
             _ => match self.parts().0 {
-                "byRon" => RON,
-                "byTsumo" => TSUMO,
+                "by_ron" => RON,
+                "by_tsumo" => TSUMO,
                 other => panic!("no win type: {other}"),
             },
         }
@@ -135,7 +133,7 @@ impl Term {
         }
     }
 
-    /// Tiles: `mans 12355`, `orphanTiles`, `replicate 4 (man 1)`, a list, or some of these joined.
+    /// Tiles: `mans 12355`, `orphan_tiles`, `replicate 4 (man 1)`, a list, or some of these joined.
     fn tiles(&self) -> Vec<u8> {
         if let Term::List(tiles) = self {
             return tiles.iter().map(Term::tile).collect();
@@ -143,7 +141,7 @@ impl Term {
         match self.parts() {
             ("++", [left, right]) => [left.tiles(), right.tiles()].concat(),
             ("replicate", [number, tile]) => vec![tile.tile(); number.number() as usize],
-            ("orphanTiles", []) => vec![0, 8, 9, 17, 18, 26, 27, 28, 29, 30, 31, 32, 33],
+            ("orphan_tiles", []) => vec![0, 8, 9, 17, 18, 26, 27, 28, 29, 30, 31, 32, 33],
             (suit, arguments) => {
                 let first = first_tile(suit.strip_suffix('s').expect("tiles of a suit"));
                 let digits = arguments[0].number().to_string();
@@ -173,29 +171,29 @@ impl Term {
     }
 
     /// A call: `chi (man 1)` and the like, an open one from the player before, or from whom it is said,
-    /// `fromAcross (pon Red)`.
+    /// `from_across (pon Red)`.
     fn call(&self) -> Meld {
         let (name, arguments) = self.parts();
         let of = &arguments[0];
         match name {
             "chi" => Meld::new(of.tile(), OPEN_SEQUENCE),
             "pon" => Meld::new(of.tile(), OPEN_TRIPLET),
-            "closedKan" => Meld::new(of.tile(), CLOSED_KAN),
-            "openKan" => Meld::new(of.tile(), OPEN_KAN),
-            "addedKan" => Meld::new(of.tile(), ADDED_KAN),
-            "fromRight" => of.call().with_source(RIGHT),
-            "fromAcross" => of.call().with_source(ACROSS),
-            "fromLeft" => of.call().with_source(LEFT),
+            "closed_kan" => Meld::new(of.tile(), CLOSED_KAN),
+            "open_kan" => Meld::new(of.tile(), OPEN_KAN),
+            "added_kan" => Meld::new(of.tile(), ADDED_KAN),
+            "from_right" => of.call().with_source(RIGHT),
+            "from_across" => of.call().with_source(ACROSS),
+            "from_left" => of.call().with_source(LEFT),
             _ => panic!("no call: {name}"),
         }
     }
 
-    /// A win: `ron (sou 8)`, `southWins byRon (sou 8) (riichi ∷ [])` and the like, or such a win in a
-    /// room with another setting, `inRoom 2 (ron (sou 8))`, or with indicators and ura indicators,
+    /// A win: `ron (sou 8)`, `south_wins by_ron (sou 8) (riichi ∷ [])` and the like, or such a win in a
+    /// room with another setting, `in_room 2 (ron (sou 8))`, or with indicators and ura indicators,
     /// `showing (man 1 ∷ []) [] (ron (sou 8))`.
     pub fn win(&self) -> Win {
         match self.parts() {
-            ("inRoom", [setting, win]) => win.win().in_room(setting.number() as u8),
+            ("in_room", [setting, win]) => win.win().in_room(setting.number() as u8),
             ("showing", [dora, ura, win]) => {
                 let shown = [dora, ura].map(|tiles| Indicators::of(&tiles.tiles()));
                 win.win().showing(shown)
@@ -210,8 +208,8 @@ impl Term {
         let (win_type, tile, round, seat, flags) = match self.parts() {
             ("ron", [tile]) => (RON, tile, EAST, SOUTH, &plain),
             ("tsumo", [tile]) => (TSUMO, tile, EAST, SOUTH, &plain),
-            ("southWins", [by, tile, flags]) => (by.win_type(), tile, EAST, SOUTH, flags),
-            ("dealerWins", [by, tile, flags]) => (by.win_type(), tile, EAST, EAST, flags),
+            ("south_wins", [by, tile, flags]) => (by.win_type(), tile, EAST, SOUTH, flags),
+            ("dealer_wins", [by, tile, flags]) => (by.win_type(), tile, EAST, EAST, flags),
             ("win", [by, tile, round, seat, flags]) => {
                 (by.win_type(), tile, round.tile(), seat.tile(), flags)
             }
@@ -335,15 +333,16 @@ impl fmt::Display for Term {
 mod tests {
     use super::*;
 
-    const TEXT: &str = "-- not a row\nuse x.{y}\n\n-- a row\nabbrev pub noYaku : Row\nnoYaku =\n    \
-        won (hand (mans 55 ++ (East ∷ []))) (chi (man 1) ∷ pon Red ∷ []) (southWins byTsumo (pin 3) \
-        (riichi ∷ ippatsu ∷ []))\n    (refuses 11)\n\nabbrev pub rows : List Row\nrows = noYaku ∷ []\n";
+    const TEXT: &str = "-- not a row\nuse x.{y}\n\n-- a row\nabbrev pub no_yaku : Row\nno_yaku =\n    \
+        won (hand (mans 55 ++ (East ∷ []))) (chi (man 1) ∷ pon Red ∷ []) (south_wins by_tsumo (pin 3) \
+        (riichi ∷ ippatsu ∷ []))\n    (refuses 11)\n\nabbrev pub rows : List Row\nrows = no_yaku ∷ []\n";
 
     #[test]
     fn rows_are_read() {
         let rows = Row::all(TEXT);
         assert_eq!(rows.len(), 1);
-        assert_eq!(rows[0].theorem(), "no-yaku");
+        assert_eq!(rows[0].title(), "no-yaku");
+        assert_eq!(rows[0].theorem(), "no_yaku_holds");
         let ("won", [tiles, calls, win, refuses]) = rows[0].term.parts() else {
             panic!();
         };
@@ -368,13 +367,13 @@ mod tests {
         let call = |text| Term::of(text).call().bytes();
         assert_eq!(call("chi (man 2)"), [1, 1, 3]);
         assert_eq!(call("pon East"), [27, 3, 3]);
-        assert_eq!(call("closedKan East"), [27, 4, 0]);
-        assert_eq!(call("openKan (sou 9)"), [26, 5, 3]);
-        assert_eq!(call("addedKan Red"), [33, 6, 3]);
-        assert_eq!(call("fromRight (pon East)"), [27, 3, 1]);
-        assert_eq!(call("fromAcross (addedKan (pin 1))"), [9, 6, 2]);
-        assert_eq!(call("fromLeft (closedKan East)"), [27, 4, 3]);
-        let calls = Term::of("fromAcross (pon Red) ∷ chi (man 1) ∷ []");
+        assert_eq!(call("closed_kan East"), [27, 4, 0]);
+        assert_eq!(call("open_kan (sou 9)"), [26, 5, 3]);
+        assert_eq!(call("added_kan Red"), [33, 6, 3]);
+        assert_eq!(call("from_right (pon East)"), [27, 3, 1]);
+        assert_eq!(call("from_across (added_kan (pin 1))"), [9, 6, 2]);
+        assert_eq!(call("from_left (closed_kan East)"), [27, 4, 3]);
+        let calls = Term::of("from_across (pon Red) ∷ chi (man 1) ∷ []");
         let hand = Term::of("hand (mans 55)").hand(&calls);
         let pon = Meld::new(33, OPEN_TRIPLET).with_source(ACROSS);
         assert_eq!(hand.called(), [pon, Meld::new(0, OPEN_SEQUENCE)]);
@@ -385,9 +384,9 @@ mod tests {
     fn a_win_may_be_in_a_room() {
         let setting = |text| Term::of(text).win().double_wind_fu;
         assert_eq!(setting("ron (sou 8)"), 4);
-        assert_eq!(setting("inRoom 2 (ron (sou 8))"), 2);
-        assert_eq!(setting("inRoom 0 (inRoom 2 (tsumo East))"), 0);
-        let win = Term::of("inRoom 2 (dealerWins byTsumo (pin 5) (riichi ∷ []))").win();
+        assert_eq!(setting("in_room 2 (ron (sou 8))"), 2);
+        assert_eq!(setting("in_room 0 (in_room 2 (tsumo East))"), 0);
+        let win = Term::of("in_room 2 (dealer_wins by_tsumo (pin 5) (riichi ∷ []))").win();
         assert_eq!((win.win_type, win.winning_tile), (TSUMO, 13));
         assert_eq!((win.round_wind, win.seat_wind), (EAST, EAST));
         assert!(win.is_riichi);
@@ -396,7 +395,7 @@ mod tests {
     #[test]
     fn a_row_may_show_indicators() {
         let text = "scored (hand (mans 222333444 ++ pins 666 ++ sous 88)) [] (showing (man 1 ∷ man 1 ∷ \
-            man 1 ∷ man 1 ∷ man 2 ∷ man 2 ∷ man 2 ∷ man 3 ∷ man 3 ∷ man 3 ∷ []) [] (southWins byTsumo \
+            man 1 ∷ man 1 ∷ man 2 ∷ man 2 ∷ man 2 ∷ man 3 ∷ man 3 ∷ man 3 ∷ []) [] (south_wins by_tsumo \
             (pin 6) [])) (Suuankou ∷ []) 13 50 (Yakuman 1) (Tsumo 16000 8000)";
         let row = Term::of(text);
         let ("scored", [tiles, calls, win, ..]) = row.parts() else {
@@ -423,10 +422,10 @@ mod tests {
                 .map(|sort| sort.shown().to_vec())
         };
         let joined = "showing (replicate 4 (man 1) ++ replicate 2 East ++ (pin 9 ∷ [])) (34 ∷ 255 ∷ []) \
-            (inRoom 2 (ron (sou 8)))";
+            (in_room 2 (ron (sou 8)))";
         assert_eq!(shown(joined), [vec![0, 0, 0, 0, 27, 27, 17], vec![34, 255]]);
         assert_eq!(Term::of(joined).win().double_wind_fu, 2);
-        let chained = "inRoom 2 (showing (man 1 ∷ replicate 2 (man 2)) (mans 55) (ron (sou 8)))";
+        let chained = "in_room 2 (showing (man 1 ∷ replicate 2 (man 2)) (mans 55) (ron (sou 8)))";
         assert_eq!(shown(chained), [vec![0, 1, 1], vec![4, 4]]);
         let eleven = Term::of("showing [] (replicate 11 Red) (ron (sou 8))").win();
         assert_eq!(eleven.ura_dora_indicators.count, 11);

@@ -81,7 +81,7 @@ fn names<T: Debug>(entries: &[T], tallies: &[u8]) -> String {
     for (entry, &tally) in entries.iter().zip(tallies) {
         let name = format!("{entry:?}");
         let name = match name.strip_prefix("Yakuhai(") {
-            Some(honor) => format!("yakuhaiName {}", honor.trim_end_matches(')')),
+            Some(honor) => format!("yakuhai_name {}", honor.trim_end_matches(')')),
             None => name,
         };
         for _ in 0..tally {
@@ -380,7 +380,7 @@ fn said(row: &Term) -> String {
 
 /// Plays a row.
 fn play(row: &Row) -> Played {
-    let title = row.theorem();
+    let title = row.title();
     match row.term.parts() {
         ("listed", [hand, calls, readings]) => {
             // played as won by ron on the lowest tile
@@ -400,7 +400,7 @@ fn play(row: &Row) -> Played {
         }
         ("valued", [han, fu, yakuman, says, basic]) => {
             let (han, fu) = (han.number() as u8, fu.number() as u8);
-            let is_yakuman = yakuman.is("yakuman", "noYakuman");
+            let is_yakuman = yakuman.is("yakuman", "no_yakuman");
             let Level { level, count } = level(han, fu, is_yakuman);
             let agari = level_name(level, count);
             let points = Points::Han(han, fu, is_yakuman);
@@ -412,8 +412,8 @@ fn play(row: &Row) -> Played {
         }
         ("paid", [han, fu, yakuman, by, dealer, says]) => {
             let (han, fu) = (han.number() as u8, fu.number() as u8);
-            let is_yakuman = yakuman.is("yakuman", "noYakuman");
-            let (by, dealer) = (by.win_type(), dealer.is("dealer", "nonDealer"));
+            let is_yakuman = yakuman.is("yakuman", "no_yakuman");
+            let (by, dealer) = (by.win_type(), dealer.is("dealer", "non_dealer"));
             let paid = payment(basic_points(han, fu, is_yakuman), dealer, by);
             let points = Points::Han(han, fu, is_yakuman);
             Played {
@@ -424,7 +424,7 @@ fn play(row: &Row) -> Played {
         }
         ("asked", [basic, by, dealer, says]) => {
             let basic = basic.number() as u32;
-            let (by, dealer) = (by.win_type(), dealer.is("dealer", "nonDealer"));
+            let (by, dealer) = (by.win_type(), dealer.is("dealer", "non_dealer"));
             let paid = payment(basic, dealer, by);
             let agari = match paid.number {
                 0 => format!("Paid {}", settlement(by, dealer, &paid)),
@@ -529,17 +529,17 @@ mod tests {
             "222333444m666p88s, tsumo 6p dora 112m9p7z(34)"
         );
         assert_eq!(
-            row("showing [] (replicate 11 (man 1)) (inRoom 2 (tsumo (pin 6)))"),
+            row("showing [] (replicate 11 (man 1)) (in_room 2 (tsumo (pin 6)))"),
             "222333444m666p88s, tsumo 6p double-wind-2 ura 1111111111m..(11)"
         );
     }
 
     #[test]
     fn a_row_says_who_a_call_came_from() {
-        let text = "won (hand (mans 123 ++ sous 88)) (fromAcross (pon Red) ∷ chi (man 1) ∷ closedKan East \
+        let text = "won (hand (mans 123 ++ sous 88)) (from_across (pon Red) ∷ chi (man 1) ∷ closed_kan East \
             ∷ []) (ron (sou 8)) [] (chooses 0)";
         let row = Row {
-            name: "someRow".into(),
+            name: "some_row".into(),
             term: Term::of(text),
         };
         let record = play(&row).record;
@@ -552,21 +552,21 @@ mod tests {
             let calls = Term::of(&format!("{call} ∷ []"));
             hand_names(&Term::of("hand (mans 55)").hand(&calls))
         };
-        assert_eq!(name("openKan East"), "55m, open-kan 1z");
+        assert_eq!(name("open_kan East"), "55m, open-kan 1z");
         assert_eq!(
-            name("fromRight (addedKan East)"),
+            name("from_right (added_kan East)"),
             "55m, added-kan 1z from right"
         );
-        assert_eq!(name("fromLeft (closedKan East)"), "55m, kan 1z from left");
+        assert_eq!(name("from_left (closed_kan East)"), "55m, kan 1z from left");
     }
 
     #[test]
     fn a_row_with_indicators_is_played() {
         let text = "won (hand (mans 222333444 ++ pins 666 ++ sous 88)) [] (showing (replicate 4 (man 1) ++ \
-            replicate 3 (man 2) ++ replicate 3 (man 3)) (man 1 ∷ []) (southWins byTsumo (pin 6) [])) [] \
+            replicate 3 (man 2) ++ replicate 3 (man 3)) (man 1 ∷ []) (south_wins by_tsumo (pin 6) [])) [] \
             (chooses 0)";
         let row = Row {
-            name: "someRow".into(),
+            name: "some_row".into(),
             term: Term::of(text),
         };
         let record = play(&row).record;

@@ -8,33 +8,25 @@ use borrow.Author.Tests.{eqb-false}
 use Rattle.lists.specs.Fold.{one}
 use Rattle.booking.specs.Booking.{raising}
 use borrow.Author.Rules.{rules}
-use Rattle.booking.proofs.settle.Statement.{statement}
-use Rattle.booking.proofs.settle.Tie as tie
 use Rattle.booking.proofs.settle.Reads as reads
 use Rattle.booking.proofs.settle.Lts as lts
 use Rattle.booking.proofs.refuse.Reads as refuse-reads
 use Rattle.seat_book.proofs.settle.Reads as settle-reads
+use Rattle.booking.proofs.settle.Goals as goal
 
 -- the counter, which is a byte, does not pass 255
 counts : (raises : Bool) (n : ℕ) → n < 256 → (raises && eqb n 255) ≡ false → n + one raises ≤ 255
 counts true n h e = let ne = eqb-false n 255 e in omega arith
 counts false n h e = omega arith
 
-refuse-requires : tie.Need-refuse-requires
-refuse-requires c κs = search rules
-
-returns : tie.Need-returns
+pub returns-then-x-b : goal.returns-then-x-b
 unfolding raising
-returns c = rw c.before.if1.true c.refuse.ensures
+returns-then-x-b c = rw c.if-x-b.true c.refuse.ensures
 
-settle-requires : tie.Need-settle-requires
-settle-requires c κs =
-    let e = c.before.before.before in
-    record { room = e.requires.0; small = e.requires.1; counts = counts e.args.x.raises e.args.b.counter c.before.before.struct_known.given.1.1.1.0.fits c.if1.false }
+pub settle-book-requires : goal.settle-book-requires
+settle-book-requires c =
+    record { room = c.requires.0; small = c.requires.1; counts = counts c.args.x.raises c.args.b.counter c.struct_known-1.given.1.1.1.0.fits c.if-x-b.false }
 
-returns-2 : tie.Need-returns-2
+pub returns : goal.returns
 unfolding raising
-returns-2 c = rw c.before.if1.false (ap (λ b. record { number = 0; book = b }) c.settle.ensures)
-
-pub settle-spec : {M : Type 1} → statement M
-settle-spec = tie.close (tie.spec refuse-requires returns settle-requires returns-2)
+returns c = rw c.if-x-b.false (ap (λ b. record { number = 0; book = b }) c.settle-book.ensures)
