@@ -35,6 +35,9 @@
 
 ghost use Rattle.std.specs.Prelude.{◌≡◌, ◌+◌, ◌≤◌, ◌<◌, length};
 
+use std::io;
+use std::io::Read;
+
 // ---- what a record holds
 
 // The calls of a record.
@@ -220,128 +223,127 @@ fn same_points(rec: &[u8]) -> bool
 // ---- a line for each record
 
 // Writes the text of a record.
-fn print_text(rec: &[u8])
+fn print_text(rt: &impl Print, rec: &[u8]) -> io::Result<()>
     requires { length rec.now ≡ 1024 }
 {
     let size = stored::wide(rec[0]);
     if size < 128 {
-        stored::print(&rec[1..1 + size]);
+        stored::print(rt, &rec[1..1 + size])?;
     }
+    Ok(())
 }
 
 // Writes a refusal.
-fn print_refusal(number: u8) {
-    stored::print(b"refused with ");
-    stored::print_number(number as u64);
+fn print_refusal(rt: &impl Print, number: u8) -> io::Result<()> {
+    stored::print(rt, b"refused with ")?;
+    stored::print_number(rt, number as u64)
 }
 
 // Writes how many readings there are and which one is chosen, where there are several.
-fn print_choice(listing: unit::Listing, chosen: usize) {
+fn print_choice(rt: &impl Print, listing: unit::Listing, chosen: usize) -> io::Result<()> {
     let unit::Listing::Listed(readings, _) = listing else {
-        return;
+        return Ok(());
     };
     if readings > 1 {
-        stored::print_count(readings as u64, b" readings, number ");
-        stored::print_count(chosen as u64, b": ");
+        stored::print_count(rt, readings as u64, b" readings, number ")?;
+        stored::print_count(rt, chosen as u64, b": ")?;
     }
+    Ok(())
 }
 
 // Writes a score.
-fn print_score(x: reading_score::ScoringResult) {
+fn print_score(rt: &impl Print, x: reading_score::ScoringResult) -> io::Result<()> {
     let payment = x.payment;
-    stored::print_count(x.han as u64, b" han ");
-    stored::print_count(x.fu as u64, b" fu, ");
-    stored::print_number(payment.total(rules::Variant::Yonma));
+    stored::print_count(rt, x.han as u64, b" han ")?;
+    stored::print_count(rt, x.fu as u64, b" fu, ")?;
+    stored::print_number(rt, payment.total(rules::Variant::Yonma))
 }
 
 // Writes the answer to the record's win.
-fn print_win(rec: &[u8])
+fn print_win(rt: &impl Print, rec: &[u8]) -> io::Result<()>
     requires { length rec.now ≡ 1024 }
 {
     let a = score_of(rec);
     if a.number != 0 {
-        print_refusal(a.number);
-        return;
+        return print_refusal(rt, a.number);
     }
     let x = a.score;
-    print_choice(list(rec), a.reading);
-    print_score(x);
+    print_choice(rt, list(rec), a.reading)?;
+    print_score(rt, x)
 }
 
 // Writes the answer to the record's payment.
-fn print_payment(rec: &[u8])
+fn print_payment(rt: &impl Print, rec: &[u8]) -> io::Result<()>
     requires { length rec.now ≡ 1024 }
 {
     let a = payment_of(rec);
     match a {
-        scoring::PaymentAnswer::Refused(n) => print_refusal(n),
-        scoring::PaymentAnswer::Paid(p) => stored::print_number(p.total(rules::Variant::Yonma)),
+        scoring::PaymentAnswer::Refused(n) => print_refusal(rt, n),
+        scoring::PaymentAnswer::Paid(p) => stored::print_number(rt, p.total(rules::Variant::Yonma)),
     }
 }
 
 // Writes the answer to a record, and says whether each operation answers what it says.
-fn answer(rec: &[u8]) -> bool
+fn answer(rt: &impl Print, rec: &[u8]) -> io::Result<bool>
     requires { length rec.now ≡ 1024 }
 {
-    print_text(rec);
-    stored::print(b": ");
+    print_text(rt, rec)?;
+    stored::print(rt, b": ")?;
     if rec[216] == 0 {
-        print_win(rec);
-        return same_hand(rec);
+        print_win(rt, rec)?;
+        return Ok(same_hand(rec));
     }
-    print_payment(rec);
-    same_points(rec)
+    print_payment(rt, rec)?;
+    Ok(same_points(rec))
 }
 
 // The tally after a record, whose line is written.
-fn play(rec: &[u8], t: stored::Tally) -> stored::Tally
+fn play(rt: &impl Print, rec: &[u8], t: stored::Tally) -> io::Result<stored::Tally>
     requires { length rec.now ≡ 1024 }
 {
-    let agrees = answer(rec);
+    let agrees = answer(rt, rec)?;
     if !agrees {
-        stored::print(b" DIFFERS");
+        stored::print(rt, b" DIFFERS")?;
     }
-    stored::print(b"\n");
-    t.record(agrees)
+    stored::print(rt, b"\n")?;
+    Ok(t.record(agrees))
 }
 
 // ---- the file
 
 // The turn after the next record of the file.
-fn step(fd: i32, t: stored::Tally) -> stored::Turn {
+fn step<F: Read>(rt: &impl Print, file: &mut F, t: stored::Tally) -> io::Result<stored::Turn> {
     let mut rec = [0u8; 1024];
-    let n = io::read_full(fd, &mut rec);
+    let n = stored::read_full(file, &mut rec)?;
     if n < 1024 {
-        return stored::Turn::last(t, n);
+        return Ok(stored::Turn::last(t, n));
     }
-    stored::Turn::next(play(&rec[..n], t))
+    Ok(stored::Turn::next(play(rt, &rec[..n], t)?))
 }
 
 // The tally of the file. Nothing says that a file ends, so the turns are counted down, from a number that no run uses up.
-fn run(fd: i32) -> stored::Tally {
+fn run<F: Read>(rt: &impl Print, file: &mut F) -> io::Result<stored::Tally> {
     let mut turn = stored::Turn::first();
     let mut left: u64 = 1000000;
     while turn.more && left > 0 {
         let t = turn.tally;
-        turn = step(fd, t);
+        turn = step(rt, file, t)?;
         left -= 1;
     }
-    turn.tally
+    Ok(turn.tally)
 }
 
 // Writes the tally.
-fn print(t: stored::Tally) {
-    stored::print_count(t.records, b" played\n");
-    stored::print_count(t.differ, b" differ\n");
+fn print(rt: &impl Print, t: stored::Tally) -> io::Result<()> {
+    stored::print_count(rt, t.records, b" played\n")?;
+    stored::print_count(rt, t.differ, b" differ\n")
 }
 
 // Opens the file, plays it and writes the tally.
-fn main() {
-    let fd = stored::open(b"hands");
-    if fd < 0 {
-        return;
-    }
-    let t = run(fd);
-    libc::close(fd);
-    print(t);
+fn main(rt: HostRuntime) -> io::Result<()> {
+    let Some(mut file) = stored::open(&rt, "hands") else {
+        return Ok(());
+    };
+    let t = run(&rt, &mut file)?;
+    print(&rt, t)
 }

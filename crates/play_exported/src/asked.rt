@@ -1,6 +1,8 @@
 // What is lent to the operations, whether their answers are the stored ones, and what is counted.
 ghost use Rattle.std.specs.Prelude.{◌≡◌, ◌+◌, ◌≤◌, ◌<◌, length};
 
+use std::io;
+
 // The operations, by number. So many more is the number of their answers that differ.
 pub const LIST: usize = 0;
 
@@ -166,37 +168,44 @@ pub fn same_records(buf: &[u8; hand::ALWAYS_ENOUGH + 1], readings: usize, bytes:
 // ---- what is counted
 
 // Writes the name of an operation.
-fn print_operation(operation: usize) {
+fn print_operation(rt: &impl Print, operation: usize) -> io::Result<()> {
     match operation {
-        LIST => stored::print(b"ziwhakemo_list_readings"),
-        WIN => stored::print(b"ziwhakemo_score_win"),
-        READING => stored::print(b"ziwhakemo_score_reading"),
-        WAITS => stored::print(b"ziwhakemo_name_waits"),
-        LEVEL => stored::print(b"ziwhakemo_score_level"),
-        BASIC => stored::print(b"ziwhakemo_basic_points"),
-        PAYMENT => stored::print(b"ziwhakemo_payment"),
-        _ => stored::print(b"ziwhakemo_version"),
+        LIST => stored::print(rt, b"ziwhakemo_list_readings"),
+        WIN => stored::print(rt, b"ziwhakemo_score_win"),
+        READING => stored::print(rt, b"ziwhakemo_score_reading"),
+        WAITS => stored::print(rt, b"ziwhakemo_name_waits"),
+        LEVEL => stored::print(rt, b"ziwhakemo_score_level"),
+        BASIC => stored::print(rt, b"ziwhakemo_basic_points"),
+        PAYMENT => stored::print(rt, b"ziwhakemo_payment"),
+        _ => stored::print(rt, b"ziwhakemo_version"),
     }
 }
 
 // The tally after an operation answered what is stored, or something else: then the row is named.
-pub fn count(t: stored::Tally, operation: usize, agrees: bool, row: &[u8]) -> stored::Tally
+pub fn count(
+    rt: &impl Print,
+    t: stored::Tally,
+    operation: usize,
+    agrees: bool,
+    row: &[u8],
+) -> io::Result<stored::Tally>
     requires { operation < 8 }
 {
     let asked = t.kind(operation);
     if agrees {
-        return asked;
+        return Ok(asked);
     }
-    print_operation(operation);
-    stored::print(b" differs: ");
-    stored::print(row);
-    stored::print(b", record ");
-    stored::print_count(asked.records, b"\n");
-    asked.kind(operation + DIFFER).answer(false)
+    print_operation(rt, operation)?;
+    stored::print(rt, b" differs: ")?;
+    stored::print(rt, row)?;
+    stored::print(rt, b", record ")?;
+    stored::print_count(rt, asked.records, b"\n")?;
+    Ok(asked.kind(operation + DIFFER).answer(false))
 }
 
 // The tally after it is asked who pays what for the stored basic points.
 pub fn ask_payment(
+    rt: &impl Print,
     s: &[u8],
     points: usize,
     number: u8,
@@ -204,7 +213,7 @@ pub fn ask_payment(
     win_type: u8,
     row: &[u8],
     t: stored::Tally,
-) -> stored::Tally
+) -> io::Result<stored::Tally>
     requires { points + 20 ≤ length s.now }
 {
     let p = ziwhakemo::ziwhakemo_payment(stored::u32_at(s, points), dealer, win_type);
@@ -218,36 +227,39 @@ pub fn ask_payment(
             p.from_discarder,
             p.total,
         );
-    count(t, PAYMENT, agrees, row)
+    count(rt, t, PAYMENT, agrees, row)
 }
 
 // The tally after level and basic points of han, fu and yakuman are asked. `numbers` is their place, `levels` that of the level, and
 // `points` that of basic points.
 pub fn ask_level(
+    rt: &impl Print,
     s: &[u8],
     numbers: usize,
     levels: usize,
     points: usize,
     row: &[u8],
     t: stored::Tally,
-) -> stored::Tally
+) -> io::Result<stored::Tally>
     requires { (numbers + 3 ≤ length s.now) × ((levels + 2 ≤ length s.now) × (points + 4 ≤ length s.now)) }
 {
     let yakuman = s[numbers + 2] == 1;
     let level = ziwhakemo::ziwhakemo_score_level(s[numbers], s[numbers + 1], yakuman);
     let basic = ziwhakemo::ziwhakemo_basic_points(s[numbers], s[numbers + 1], yakuman);
     let leveled = count(
+        rt,
         t,
         LEVEL,
         same_level(s, levels, level.level, level.count),
         row,
-    );
-    count(leveled, BASIC, basic == stored::u32_at(s, points), row)
+    )?;
+    count(rt, leveled, BASIC, basic == stored::u32_at(s, points), row)
 }
 
 // The tally after the version is asked.
-pub fn ask_version(t: stored::Tally) -> stored::Tally {
+pub fn ask_version(rt: &impl Print, t: stored::Tally) -> io::Result<stored::Tally> {
     count(
+        rt,
         t,
         VERSION,
         ziwhakemo::ziwhakemo_version() == WRITTEN_FOR,
@@ -256,26 +268,26 @@ pub fn ask_version(t: stored::Tally) -> stored::Tally {
 }
 
 // Writes how often an operation was asked and how often its answer differs.
-fn print_kind(kinds: [u64; 16], operation: usize)
+fn print_kind(rt: &impl Print, kinds: [u64; 16], operation: usize) -> io::Result<()>
     requires { operation < 8 }
 {
-    print_operation(operation);
-    stored::print(b": ");
-    stored::print_count(kinds[operation], b" asked, ");
-    stored::print_count(kinds[operation + DIFFER], b" differ\n");
+    print_operation(rt, operation)?;
+    stored::print(rt, b": ")?;
+    stored::print_count(rt, kinds[operation], b" asked, ")?;
+    stored::print_count(rt, kinds[operation + DIFFER], b" differ\n")
 }
 
 // Writes the tally.
-pub fn print(t: stored::Tally, what: &[u8]) {
+pub fn print(rt: &impl Print, t: stored::Tally, what: &[u8]) -> io::Result<()> {
     let kinds = t.kinds;
-    stored::print_count(t.records, what);
-    print_kind(kinds, LIST);
-    print_kind(kinds, WIN);
-    print_kind(kinds, READING);
-    print_kind(kinds, WAITS);
-    print_kind(kinds, LEVEL);
-    print_kind(kinds, BASIC);
-    print_kind(kinds, PAYMENT);
-    print_kind(kinds, VERSION);
-    stored::print_count(t.differ, b" answers differ\n");
+    stored::print_count(rt, t.records, what)?;
+    print_kind(rt, kinds, LIST)?;
+    print_kind(rt, kinds, WIN)?;
+    print_kind(rt, kinds, READING)?;
+    print_kind(rt, kinds, WAITS)?;
+    print_kind(rt, kinds, LEVEL)?;
+    print_kind(rt, kinds, BASIC)?;
+    print_kind(rt, kinds, PAYMENT)?;
+    print_kind(rt, kinds, VERSION)?;
+    stored::print_count(rt, t.differ, b" answers differ\n")
 }

@@ -3,6 +3,7 @@
 ghost use Rattle.std.specs.Prelude.{◌≡◌, ◌≤◌, length};
 
 use crate::asked;
+use std::io;
 
 // Is every byte of the buffer right: the first so many as in the record, and the others as before the call?
 fn same_buffer(rec: &[u8], bytes: usize, buf: &[u8; 120]) -> bool
@@ -41,27 +42,33 @@ fn list(rec: &[u8], counts: &[u8], lent: usize, buf: &mut [u8]) -> answers::List
 }
 
 // The tally after the hand with these counts is listed, with so many bytes lent. The number of its record names it.
-fn list_stored(rec: &[u8], counts: &[u8], lent: usize, t: stored::Tally) -> stored::Tally
+fn list_stored(
+    rt: &impl Print,
+    rec: &[u8],
+    counts: &[u8],
+    lent: usize,
+    t: stored::Tally,
+) -> io::Result<stored::Tally>
     requires { (length rec.now ≡ 256) × (lent ≤ 120) }
 {
     let mut buf = [asked::FILLED; 120];
     let a = list(rec, counts, lent, &mut buf);
     let agrees = same_answer(rec, a) & same_buffer(rec, stored::u16_at(rec, 60), &buf);
-    asked::count(t, asked::LIST, agrees, b"a listing")
+    asked::count(rt, t, asked::LIST, agrees, b"a listing")
 }
 
 // The tally after a record. One with a length out of range differs, and nothing is asked.
-pub fn replay(rec: &[u8], t: stored::Tally) -> stored::Tally
+pub fn replay(rt: &impl Print, rec: &[u8], t: stored::Tally) -> io::Result<stored::Tally>
     requires { length rec.now ≡ 256 }
 {
     let size = stored::wide(rec[0]);
     let lent = stored::u16_at(rec, 55);
     let next = t.record(true);
     if size > 40 {
-        return next.answer(false);
+        return Ok(next.answer(false));
     }
     if lent > 120 {
-        return next.answer(false);
+        return Ok(next.answer(false));
     }
-    list_stored(rec, &rec[1..1 + size], lent, next)
+    list_stored(rt, rec, &rec[1..1 + size], lent, next)
 }

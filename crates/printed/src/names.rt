@@ -3,6 +3,7 @@ ghost use Rattle.std.specs.Prelude.{◌≡◌, cond, ◌*◌, ◌<◌, get_or};
 ghost use Rattle.yaku.specs.Names.{names, han_closed, han_open, yakuhai_name};
 
 use crate::text;
+use std::io;
 use yaku::names::Yaku;
 
 // The yaku in the order of the tallies.
@@ -193,79 +194,83 @@ fn added_han(y: Yaku, tally: u8, opened: bool) -> u32
 }
 
 // Writes the yaku at a place of the tallies: its name, how often it counts where that is more than once, and the han that it adds.
-pub fn say_yaku(i: usize, tally: u8, opened: bool)
+pub fn say_yaku(rt: &impl Print, i: usize, tally: u8, opened: bool) -> io::Result<()>
     requires { i < 47 }
 {
     let row = yaku_row(i);
-    text::say_row(&row);
+    text::say_row(rt, &row)?;
     if 1 < tally {
-        text::say(b" x");
-        text::say_number(tally as u64);
+        text::say(rt, b" x")?;
+        text::say_number(rt, tally as u64)?;
     }
-    text::say(b" ");
-    text::say_number(added_han(yaku_at(i), tally, opened) as u64);
-    text::say(b" han");
+    text::say(rt, b" ")?;
+    text::say_number(rt, added_han(yaku_at(i), tally, opened) as u64)?;
+    text::say(rt, b" han")
 }
 
 // Writes the wait at a place of the tallies, and its tally.
-pub fn say_wait(i: usize, tally: u8)
+pub fn say_wait(rt: &impl Print, i: usize, tally: u8) -> io::Result<()>
     requires { i < 6 }
 {
     let row = wait_row(i);
-    text::say_row(&row);
-    text::say(b" ");
-    text::say_number(tally as u64);
+    text::say_row(rt, &row)?;
+    text::say(rt, b" ")?;
+    text::say_number(rt, tally as u64)
 }
 
 // Writes a level by its number.
-fn say_level_name(i: usize)
+fn say_level_name(rt: &impl Print, i: usize) -> io::Result<()>
     requires { i < 6 }
 {
     let row = level_row(i);
-    text::say_row(&row);
+    text::say_row(rt, &row)
 }
 
 // Writes a level, with its count where a yakuman counts more than once.
-pub fn say_level(level: scoring::ScoreLevel) {
+pub fn say_level(rt: &impl Print, level: scoring::ScoreLevel) -> io::Result<()> {
     match level {
-        scoring::ScoreLevel::Normal => say_level_name(0),
-        scoring::ScoreLevel::Mangan => say_level_name(1),
-        scoring::ScoreLevel::Haneman => say_level_name(2),
-        scoring::ScoreLevel::Baiman => say_level_name(3),
-        scoring::ScoreLevel::Sanbaiman => say_level_name(4),
+        scoring::ScoreLevel::Normal => say_level_name(rt, 0),
+        scoring::ScoreLevel::Mangan => say_level_name(rt, 1),
+        scoring::ScoreLevel::Haneman => say_level_name(rt, 2),
+        scoring::ScoreLevel::Baiman => say_level_name(rt, 3),
+        scoring::ScoreLevel::Sanbaiman => say_level_name(rt, 4),
         scoring::ScoreLevel::Yakuman(n) => {
-            say_level_name(5);
+            say_level_name(rt, 5)?;
             if 1 < n {
-                text::say(b" x");
-                text::say_number(n as u64);
+                text::say(rt, b" x")?;
+                text::say_number(rt, n as u64)?;
             }
+            Ok(())
         }
     }
 }
 
 // Writes what a refusal means with four players.
-fn say_refusal_of_four(number: u8) {
+fn say_refusal_of_four(rt: &impl Print, number: u8) -> io::Result<()> {
     if 14 < number {
-        return;
+        return Ok(());
     }
     let row = refusal_row(number as usize);
-    text::say_row(&row);
+    text::say_row(rt, &row)
 }
 
 // Writes what a refusal means with three players: three of them are not the same.
-fn say_refusal_of_three(number: u8) {
+fn say_refusal_of_three(rt: &impl Print, number: u8) -> io::Result<()> {
     match number {
-        3 => text::say(b"a call that is not made with three players"),
-        4 => text::say(b"more of a tile in the hand than there are with three players"),
-        14 => text::say(b"with three players no indicator is shown"),
-        _ => say_refusal_of_four(number),
+        3 => text::say(rt, b"a call that is not made with three players"),
+        4 => text::say(
+            rt,
+            b"more of a tile in the hand than there are with three players",
+        ),
+        14 => text::say(rt, b"with three players no indicator is shown"),
+        _ => say_refusal_of_four(rt, number),
     }
 }
 
 // Writes what a refusal means in the game that is played.
-pub fn say_refusal(number: u8, v: rules::Variant) {
+pub fn say_refusal(rt: &impl Print, number: u8, v: rules::Variant) -> io::Result<()> {
     match v {
-        rules::Variant::Yonma => say_refusal_of_four(number),
-        rules::Variant::Sanma => say_refusal_of_three(number),
+        rules::Variant::Yonma => say_refusal_of_four(rt, number),
+        rules::Variant::Sanma => say_refusal_of_three(rt, number),
     }
 }

@@ -2,6 +2,7 @@
 ghost use Rattle.std.specs.Prelude.{◌≤◌};
 
 use crate::text;
+use std::io;
 
 // The number of a tile in its suit; of an honor, from East on.
 fn number_of(t: u8) -> u8 {
@@ -26,123 +27,122 @@ fn letter_of(t: u8) -> u8 {
 }
 
 // Writes a number so many times.
-fn say_times(n: u8, times: u8) {
+fn say_times(rt: &impl Print, n: u8, times: u8) -> io::Result<()> {
     for _ in 0..times {
-        text::say_number(n as u64);
+        text::say_number(rt, n as u64)?;
     }
+    Ok(())
 }
 
 // Writes tiles of a kind, as 88s.
-pub fn say_alike(t: u8, times: u8) {
-    say_times(number_of(t), times);
-    text::say_byte(letter_of(t));
+pub fn say_alike(rt: &impl Print, t: u8, times: u8) -> io::Result<()> {
+    say_times(rt, number_of(t), times)?;
+    text::say_byte(rt, letter_of(t))
 }
 
 // Writes a sequence, as 234m.
-fn say_sequence(t: u8) {
+fn say_sequence(rt: &impl Print, t: u8) -> io::Result<()> {
     let n = number_of(t) as u64;
-    text::say_number(n);
-    text::say_number(n + 1);
-    text::say_number(n + 2);
-    text::say_byte(letter_of(t));
+    text::say_number(rt, n)?;
+    text::say_number(rt, n + 1)?;
+    text::say_number(rt, n + 2)?;
+    text::say_byte(rt, letter_of(t))
 }
 
 // Writes the tiles of a meld.
-pub fn say_tiles_of(m: meld::Meld) {
+pub fn say_tiles_of(rt: &impl Print, m: meld::Meld) -> io::Result<()> {
     if m.is_sequence() {
-        say_sequence(m.tile);
-        return;
+        return say_sequence(rt, m.tile);
     }
     if m.is_kan() {
-        say_alike(m.tile, 4);
-        return;
+        return say_alike(rt, m.tile, 4);
     }
-    say_alike(m.tile, 3);
+    say_alike(rt, m.tile, 3)
 }
 
 // Writes a meld: an open one in round brackets, a closed kan in square ones.
-fn say_meld(m: meld::Meld) {
+fn say_meld(rt: &impl Print, m: meld::Meld) -> io::Result<()> {
     if m.is_open() {
-        text::say_byte(b'(');
-        say_tiles_of(m);
-        text::say_byte(b')');
-        return;
+        text::say_byte(rt, b'(')?;
+        say_tiles_of(rt, m)?;
+        return text::say_byte(rt, b')');
     }
     if m.is_kan() {
-        text::say_byte(b'[');
-        say_tiles_of(m);
-        text::say_byte(b']');
-        return;
+        text::say_byte(rt, b'[')?;
+        say_tiles_of(rt, m)?;
+        return text::say_byte(rt, b']');
     }
-    say_tiles_of(m);
+    say_tiles_of(rt, m)
 }
 
 // Writes the numbers of the tiles from one up to another.
-fn say_numbers(counts: &[u8; 34], from: u8, end: u8)
+fn say_numbers(rt: &impl Print, counts: &[u8; 34], from: u8, end: u8) -> io::Result<()>
     requires { end ≤ 34 }
 {
     for t in from..end {
-        say_times(number_of(t), counts[t as usize]);
+        say_times(rt, number_of(t), counts[t as usize])?;
     }
+    Ok(())
 }
 
 // Writes the tiles of a suit, which reach from one up to another, a space before them; nothing where there are none.
-fn say_suit(counts: &[u8; 34], from: u8, end: u8)
+fn say_suit(rt: &impl Print, counts: &[u8; 34], from: u8, end: u8) -> io::Result<()>
     requires { end ≤ 34 }
 {
     if hand::sum_range(counts, from as usize, end as usize) == 0 {
-        return;
+        return Ok(());
     }
-    text::say_byte(b' ');
-    say_numbers(counts, from, end);
-    text::say_byte(letter_of(from));
+    text::say_byte(rt, b' ')?;
+    say_numbers(rt, counts, from, end)?;
+    text::say_byte(rt, letter_of(from))
 }
 
 // Writes the tiles that the counts hold.
-pub fn say_counts(counts: &[u8; 34]) {
-    say_suit(counts, 0, 9);
-    say_suit(counts, 9, 18);
-    say_suit(counts, 18, 27);
-    say_suit(counts, 27, 34);
+pub fn say_counts(rt: &impl Print, counts: &[u8; 34]) -> io::Result<()> {
+    say_suit(rt, counts, 0, 9)?;
+    say_suit(rt, counts, 9, 18)?;
+    say_suit(rt, counts, 18, 27)?;
+    say_suit(rt, counts, 27, 34)
 }
 
 // Writes a pair and four melds.
-fn say_standard(pair: u8, melds: [meld::Meld; 4]) {
-    say_meld(melds[0]);
-    text::say_byte(b' ');
-    say_meld(melds[1]);
-    text::say_byte(b' ');
-    say_meld(melds[2]);
-    text::say_byte(b' ');
-    say_meld(melds[3]);
-    text::say(b", pair ");
-    say_alike(pair, 2);
+fn say_standard(rt: &impl Print, pair: u8, melds: [meld::Meld; 4]) -> io::Result<()> {
+    say_meld(rt, melds[0])?;
+    text::say_byte(rt, b' ')?;
+    say_meld(rt, melds[1])?;
+    text::say_byte(rt, b' ')?;
+    say_meld(rt, melds[2])?;
+    text::say_byte(rt, b' ')?;
+    say_meld(rt, melds[3])?;
+    text::say(rt, b", pair ")?;
+    say_alike(rt, pair, 2)
 }
 
 // Writes seven pairs.
-fn say_pairs(pairs: [u8; 7]) {
+fn say_pairs(rt: &impl Print, pairs: [u8; 7]) -> io::Result<()> {
     for i in 0..7 {
-        text::say_byte(b' ');
-        say_alike(pairs[i], 2);
+        text::say_byte(rt, b' ')?;
+        say_alike(rt, pairs[i], 2)?;
     }
+    Ok(())
 }
 
 // Writes a reading.
-pub fn say_reading(h: structure::Hand) {
+pub fn say_reading(rt: &impl Print, h: structure::Hand) -> io::Result<()> {
     let s = h.structure;
     match s {
         structure::HandStructure::Standard { pair } => {
             let melds = h.melds;
-            say_standard(pair.0, melds);
+            say_standard(rt, pair.0, melds)
         }
         structure::HandStructure::Chiitoitsu => {
             let pairs = h.pairs;
-            text::say(b"seven pairs");
-            say_pairs(pairs);
+            text::say(rt, b"seven pairs")?;
+            say_pairs(rt, pairs)
         }
         structure::HandStructure::Kokushi { pair } => {
-            text::say(b"thirteen orphans, pair ");
-            say_alike(pair.0, 2);
+            text::say(rt, b"thirteen orphans, pair ")?;
+            say_alike(rt, pair.0, 2)
         }
     }
 }

@@ -1,61 +1,63 @@
 // Writing to standard output.
-use libc::STDOUT_FILENO;
+use std::io;
 
 // Writes bytes.
-pub fn say(b: &[u8]) {
-    io::write_all(STDOUT_FILENO, b);
+pub fn say(rt: &impl Print, b: &[u8]) -> io::Result<()> {
+    rt.write_all(b)
 }
 
 // Writes one byte.
-pub fn say_byte(b: u8) {
-    io::write_all(STDOUT_FILENO, &[b]);
+pub fn say_byte(rt: &impl Print, b: u8) -> io::Result<()> {
+    rt.write_all(&[b])
 }
 
 // Writes a number.
-pub fn say_number(n: u64) {
-    io::print_decimal(STDOUT_FILENO, n);
+pub fn say_number(rt: &impl Print, n: u64) -> io::Result<()> {
+    rt.print(n)
 }
 
 // Writes points, with a comma before the last three digits.
-pub fn say_points(n: u64) {
+pub fn say_points(rt: &impl Print, n: u64) -> io::Result<()> {
     if n < 1000 {
-        say_number(n);
-        return;
+        return say_number(rt, n);
     }
-    say_number(n / 1000);
-    say_byte(b',');
-    say_number(n / 100 % 10);
-    say_number(n / 10 % 10);
-    say_number(n % 10);
+    say_number(rt, n / 1000)?;
+    say_byte(rt, b',')?;
+    say_number(rt, n / 100 % 10)?;
+    say_number(rt, n / 10 % 10)?;
+    say_number(rt, n % 10)
 }
 
 // Writes a row of a table without the spaces at its end.
-pub fn say_row(row: &[u8]) {
+pub fn say_row(rt: &impl Print, row: &[u8]) -> io::Result<()> {
     let n = known_words::row_length(row);
-    say(&row[..n]);
+    say(rt, &row[..n])
 }
 
 // Writes a comma before each entry of a list but the first.
-pub fn say_comma(first: bool) {
+pub fn say_comma(rt: &impl Print, first: bool) -> io::Result<()> {
     if !first {
-        say(b", ");
+        say(rt, b", ")?;
     }
+    Ok(())
 }
 
 // Writes that a list is empty.
-pub fn say_none(empty: bool) {
+pub fn say_none(rt: &impl Print, empty: bool) -> io::Result<()> {
     if empty {
-        say(b"none");
+        say(rt, b"none")?;
     }
+    Ok(())
 }
 
 // Writes bytes that came from outside: one that cannot be printed as a question mark.
-pub fn say_plain(b: &[u8]) {
+pub fn say_plain(rt: &impl Print, b: &[u8]) -> io::Result<()> {
     for i in 0..b.len() {
         if (b' ' <= b[i]) & (b[i] <= b'~') {
-            say_byte(b[i]);
+            say_byte(rt, b[i])?;
         } else {
-            say_byte(b'?');
+            say_byte(rt, b'?')?;
         }
     }
+    Ok(())
 }

@@ -15,6 +15,9 @@
 
 ghost use Rattle.std.specs.Prelude.{◌≡◌, ◌≤◌, ◌<◌, length};
 
+use std::io;
+use std::io::Read;
+
 // The kind of accepted hands. Kinds 1 to 7 are the refusals.
 const ACCEPTED: usize = 0;
 
@@ -114,45 +117,43 @@ fn replay(rec: &[u8], t: stored::Tally) -> stored::Tally
 }
 
 // The turn after the next record of the file.
-fn step(fd: i32, t: stored::Tally) -> stored::Turn {
+fn step<F: Read>(file: &mut F, t: stored::Tally) -> io::Result<stored::Turn> {
     let mut rec = [0u8; 256];
-    let n = io::read_full(fd, &mut rec);
+    let n = stored::read_full(file, &mut rec)?;
     if n < 256 {
-        return stored::Turn::last(t, n);
+        return Ok(stored::Turn::last(t, n));
     }
-    stored::Turn::next(replay(&rec[..n], t))
+    Ok(stored::Turn::next(replay(&rec[..n], t)))
 }
 
 // The tally of the file. Nothing says that a file ends, so the turns are counted down, from a number that no run uses up.
-fn run(fd: i32) -> stored::Tally {
+fn run<F: Read>(file: &mut F) -> io::Result<stored::Tally> {
     let mut turn = stored::Turn::first();
     let mut left: u64 = 1000000;
     while turn.more && left > 0 {
         let t = turn.tally;
-        turn = step(fd, t);
+        turn = step(file, t)?;
         left -= 1;
     }
-    turn.tally
+    Ok(turn.tally)
 }
 
 // Writes the tally.
-fn print(t: stored::Tally) {
+fn print(rt: &impl Print, t: stored::Tally) -> io::Result<()> {
     let kinds = t.kinds;
-    stored::print_count(t.records, b" answers replayed: ");
-    stored::print_count(kinds[ACCEPTED], b" accepted, of which ");
-    stored::print_count(kinds[SEVERAL], b" have two or more readings\nrefused: ");
-    stored::print_kinds(kinds, 7, 0);
-    stored::print(b"\n");
-    stored::print_count(t.differ, b" differ\n");
+    stored::print_count(rt, t.records, b" answers replayed: ")?;
+    stored::print_count(rt, kinds[ACCEPTED], b" accepted, of which ")?;
+    stored::print_count(rt, kinds[SEVERAL], b" have two or more readings\nrefused: ")?;
+    stored::print_kinds(rt, kinds, 7, 0)?;
+    stored::print(rt, b"\n")?;
+    stored::print_count(rt, t.differ, b" differ\n")
 }
 
 // Opens the file, replays it and writes the tally.
-fn main() {
-    let fd = stored::open(b"listings");
-    if fd < 0 {
-        return;
-    }
-    let t = run(fd);
-    libc::close(fd);
-    print(t);
+fn main(rt: HostRuntime) -> io::Result<()> {
+    let Some(mut file) = stored::open(&rt, "listings") else {
+        return Ok(());
+    };
+    let t = run(&mut file)?;
+    print(&rt, t)
 }

@@ -21,6 +21,9 @@
 
 ghost use Rattle.std.specs.Prelude.{◌≡◌, ◌+◌, ◌≤◌, length};
 
+use std::io;
+use std::io::Read;
+
 // The kind of wins that are scored. Kinds 1 to 11 and 14 are the refusals of a win.
 const SCORED: usize = 0;
 
@@ -89,50 +92,49 @@ fn replay(rec: &[u8], t: stored::Tally) -> stored::Tally
 }
 
 // The turn after the next record of the file.
-fn step(fd: i32, t: stored::Tally) -> stored::Turn {
+fn step<F: Read>(file: &mut F, t: stored::Tally) -> io::Result<stored::Turn> {
     let mut rec = [0u8; 256];
-    let n = io::read_full(fd, &mut rec);
+    let n = stored::read_full(file, &mut rec)?;
     if n < 256 {
-        return stored::Turn::last(t, n);
+        return Ok(stored::Turn::last(t, n));
     }
-    stored::Turn::next(replay(&rec[..n], t))
+    Ok(stored::Turn::next(replay(&rec[..n], t)))
 }
 
 // The tally of the file. Nothing says that a file ends, so the turns are counted down, from a number that no run uses up.
-fn run(fd: i32) -> stored::Tally {
+fn run<F: Read>(file: &mut F) -> io::Result<stored::Tally> {
     let mut turn = stored::Turn::first();
     let mut left: u64 = 1000000;
     while turn.more && left > 0 {
         let t = turn.tally;
-        turn = step(fd, t);
+        turn = step(file, t)?;
         left -= 1;
     }
-    turn.tally
+    Ok(turn.tally)
 }
 
 // Writes the tally: of the refusals, those of a win, 1 to 11 without 7, and 14.
-fn print(t: stored::Tally) {
+fn print(rt: &impl Print, t: stored::Tally) -> io::Result<()> {
     let kinds = t.kinds;
-    stored::print_count(t.records, b" wins replayed: ");
-    stored::print_count(kinds[SCORED], b" scored\nrefused: ");
-    stored::print_kinds(kinds, 11, 7);
-    stored::print(b", 14: ");
-    stored::print_count(kinds[14], b"\n");
+    stored::print_count(rt, t.records, b" wins replayed: ")?;
+    stored::print_count(rt, kinds[SCORED], b" scored\nrefused: ")?;
+    stored::print_kinds(rt, kinds, 11, 7)?;
+    stored::print(rt, b", 14: ")?;
+    stored::print_count(rt, kinds[14], b"\n")?;
     stored::print_count(
+        rt,
         kinds[READINGS],
         b" readings scored by their numbers, with their waits; ",
-    );
-    stored::print_count(kinds[MISSING], b" numbers of no reading\n");
-    stored::print_count(t.differ, b" answers differ\n");
+    )?;
+    stored::print_count(rt, kinds[MISSING], b" numbers of no reading\n")?;
+    stored::print_count(rt, t.differ, b" answers differ\n")
 }
 
 // Opens the file, replays it and writes the tally.
-fn main() {
-    let fd = stored::open(b"wins");
-    if fd < 0 {
-        return;
-    }
-    let t = run(fd);
-    libc::close(fd);
-    print(t);
+fn main(rt: HostRuntime) -> io::Result<()> {
+    let Some(mut file) = stored::open(&rt, "wins") else {
+        return Ok(());
+    };
+    let t = run(&mut file)?;
+    print(&rt, t)
 }

@@ -3,6 +3,7 @@ ghost use Rattle.std.specs.Prelude.{◌<◌};
 
 use crate::calls;
 use printed::{names, points, print, text};
+use std::io;
 
 // How many of a tile a call holds, if it is there.
 fn used(m: meld::Meld, there: bool, t: u8) -> u64
@@ -49,21 +50,25 @@ fn above_most(counts: &[u8; 34], k: checks::Calls, v: rules::Variant) -> u8 {
 }
 
 // Writes which tile is there too often: more than four times, or at all where there is none in the game.
-fn say_above_most(counts: &[u8; 34], k: checks::Calls, v: rules::Variant) {
+fn say_above_most(
+    rt: &impl Print,
+    counts: &[u8; 34],
+    k: checks::Calls,
+    v: rules::Variant,
+) -> io::Result<()> {
     let t = above_most(counts, k, v);
     if 34 <= t {
-        return;
+        return Ok(());
     }
-    text::say(b": ");
+    text::say(rt, b": ")?;
     if !v.in_wall(t) {
-        text::say(b"there is no ");
-        print::say_alike(t, 1);
-        return;
+        text::say(rt, b"there is no ")?;
+        return print::say_alike(rt, t, 1);
     }
-    print::say_alike(t, 1);
-    text::say(b" is there ");
-    text::say_number(held(counts[t as usize], k, t));
-    text::say(b" times");
+    print::say_alike(rt, t, 1)?;
+    text::say(rt, b" is there ")?;
+    text::say_number(rt, held(counts[t as usize], k, t))?;
+    text::say(rt, b" times")
 }
 
 // No calls, in place of those that were made.
@@ -73,112 +78,126 @@ fn without_calls(mut k: checks::Calls) -> checks::Calls {
 }
 
 // Writes how many calls there are.
-fn say_call_count(n: usize) {
-    text::say_number(n as u64);
+fn say_call_count(rt: &impl Print, n: usize) -> io::Result<()> {
+    text::say_number(rt, n as u64)?;
     if n == 1 {
-        text::say(b" call");
+        text::say(rt, b" call")
     } else {
-        text::say(b" calls");
+        text::say(rt, b" calls")
     }
 }
 
 // Writes how many tiles there are and how many are needed, beside at most four calls.
-fn say_sizes(counts: &[u8; 34], count: usize) {
+fn say_sizes(rt: &impl Print, counts: &[u8; 34], count: usize) -> io::Result<()> {
     if 4 < count {
-        return;
+        return Ok(());
     }
-    text::say(b": ");
-    text::say_number(hand::sum_range(counts, 0, 34));
-    text::say(b" tiles; with ");
-    say_call_count(count);
-    text::say_byte(b' ');
-    text::say_number((14 - 3 * count) as u64);
-    text::say(b" are needed, the winning tile among them, called tiles not");
+    text::say(rt, b": ")?;
+    text::say_number(rt, hand::sum_range(counts, 0, 34))?;
+    text::say(rt, b" tiles; with ")?;
+    say_call_count(rt, count)?;
+    text::say_byte(rt, b' ')?;
+    text::say_number(rt, (14 - 3 * count) as u64)?;
+    text::say(
+        rt,
+        b" are needed, the winning tile among them, called tiles not",
+    )
 }
 
 // Writes which winning tile the hand does not hold.
-fn say_not_held(t: u8) {
-    text::say(b": ");
-    print::say_alike(t, 1);
-    text::say(b" is to be typed among its tiles too; tiles of calls do not count");
+fn say_not_held(rt: &impl Print, t: u8) -> io::Result<()> {
+    text::say(rt, b": ")?;
+    print::say_alike(rt, t, 1)?;
+    text::say(
+        rt,
+        b" is to be typed among its tiles too; tiles of calls do not count",
+    )
 }
 
 // Writes how many indicators of a sort there are, where they are more than ten; they are counted up to 255. Answers whether nothing is written yet.
-fn say_above_ten(count: u8, sort: &[u8], first: bool) -> bool {
+fn say_above_ten(rt: &impl Print, count: u8, sort: &[u8], first: bool) -> io::Result<bool> {
     if count <= 10 {
-        return first;
+        return Ok(first);
     }
     if first {
-        text::say(b": ");
+        text::say(rt, b": ")?;
     }
-    text::say_comma(first);
-    text::say_number(count as u64);
+    text::say_comma(rt, first)?;
+    text::say_number(rt, count as u64)?;
     if count == 255 {
-        text::say(b" or more");
+        text::say(rt, b" or more")?;
     }
-    text::say(sort);
-    false
+    text::say(rt, sort)?;
+    Ok(false)
 }
 
 // Writes of which indicators there are more than ten.
-fn say_indicator_counts(w: context::GameContext) {
+fn say_indicator_counts(rt: &impl Print, w: context::GameContext) -> io::Result<()> {
     let dora = w.dora_indicators;
     let ura = w.ura_dora_indicators;
-    let first = say_above_ten(dora.count, b" of dora", true);
-    say_above_ten(ura.count, b" of ura", first);
+    let first = say_above_ten(rt, dora.count, b" of dora", true)?;
+    say_above_ten(rt, ura.count, b" of ura", first)?;
+    Ok(())
 }
 
 // Writes what exactly is wrong, behind the meaning of a refusal.
 fn say_detail(
+    rt: &impl Print,
     number: u8,
     counts: &[u8; 34],
     k: checks::Calls,
     w: context::GameContext,
     v: rules::Variant,
-) {
+) -> io::Result<()> {
     match number {
         2 => {
-            text::say(b": ");
-            say_call_count(k.count);
+            text::say(rt, b": ")?;
+            say_call_count(rt, k.count)
         }
-        3 => calls::say_not_made(k, v),
-        4 => say_above_most(counts, without_calls(k), v),
-        5 => say_above_most(counts, k, v),
-        6 => say_sizes(counts, k.count),
-        9 => say_not_held(w.winning_tile),
+        3 => calls::say_not_made(rt, k, v),
+        4 => say_above_most(rt, counts, without_calls(k), v),
+        5 => say_above_most(rt, counts, k, v),
+        6 => say_sizes(rt, counts, k.count),
+        9 => say_not_held(rt, w.winning_tile),
         10 => text::say(
+            rt,
             b": no four melds and a pair, no seven different pairs, no thirteen orphans",
         ),
-        14 => say_indicator_counts(w),
-        _ => text::say(b""),
+        14 => say_indicator_counts(rt, w),
+        _ => text::say(rt, b""),
     }
 }
 
 // Writes a refusal.
 pub fn say_refused(
+    rt: &impl Print,
     number: u8,
     counts: &[u8; 34],
     k: checks::Calls,
     w: context::GameContext,
     v: rules::Variant,
-) {
-    text::say(b"answer: refused with ");
-    text::say_number(number as u64);
-    text::say(b": ");
-    names::say_refusal(number, v);
-    say_detail(number, counts, k, w, v);
-    text::say(b"\n");
+) -> io::Result<()> {
+    text::say(rt, b"answer: refused with ")?;
+    text::say_number(rt, number as u64)?;
+    text::say(rt, b": ")?;
+    names::say_refusal(rt, number, v)?;
+    say_detail(rt, number, counts, k, w, v)?;
+    text::say(rt, b"\n")
 }
 
 // Writes the answer of scoring the win.
-pub fn say_answer(scored: choice::ScoreAnswer, v: rules::Variant) {
+pub fn say_answer(
+    rt: &impl Print,
+    scored: choice::ScoreAnswer,
+    v: rules::Variant,
+) -> io::Result<()> {
     let score = scored.score;
     let payment = score.payment;
-    text::say(b"answer: reading ");
-    text::say_number(scored.reading as u64);
-    text::say(b", ");
-    points::say_worth(score);
-    text::say(b", ");
-    points::say_payment(payment, v);
-    text::say(b"\n");
+    text::say(rt, b"answer: reading ")?;
+    text::say_number(rt, scored.reading as u64)?;
+    text::say(rt, b", ")?;
+    points::say_worth(rt, score)?;
+    text::say(rt, b", ")?;
+    points::say_payment(rt, payment, v)?;
+    text::say(rt, b"\n")
 }

@@ -3,6 +3,8 @@ ghost use Rattle.std.specs.Prelude.{◌<◌};
 
 use notation::said;
 use printed::text;
+use std::env::Env;
+use std::io;
 use tile_words::faults;
 
 // What each fault means, after the word at fault, in the order of the numbers in `tile_words::faults`.
@@ -45,48 +47,49 @@ fn fault_row(i: usize) -> [u8; 111]
 }
 
 // Writes what a fault means.
-fn say_fault(number: u8) {
+fn say_fault(rt: &impl Print, number: u8) -> io::Result<()> {
     if 27 < number {
-        return;
+        return Ok(());
     }
     let row = fault_row(number as usize);
-    text::say_row(&row);
+    text::say_row(rt, &row)
 }
 
 // Writes a part of the word that was found at fault, in quotes.
-fn say_part(word: &[u8], from: usize, end: usize) {
+fn say_part(rt: &impl Print, word: &[u8], from: usize, end: usize) -> io::Result<()> {
     if end < from {
-        return;
+        return Ok(());
     }
     if word.len() < end {
-        return;
+        return Ok(());
     }
-    text::say_byte(b'\'');
-    text::say_plain(&word[from..end]);
-    text::say_byte(b'\'');
+    text::say_byte(rt, b'\'')?;
+    text::say_plain(rt, &word[from..end])?;
+    text::say_byte(rt, b'\'')
 }
 
 // Writes the character at a place of the word, in quotes.
-fn say_letter(word: &[u8], at: usize) {
+fn say_letter(rt: &impl Print, word: &[u8], at: usize) -> io::Result<()> {
     if word.len() <= at {
-        return;
+        return Ok(());
     }
-    text::say_byte(b'\'');
-    text::say_plain(&[word[at]]);
-    text::say_byte(b'\'');
+    text::say_byte(rt, b'\'')?;
+    text::say_plain(rt, &[word[at]])?;
+    text::say_byte(rt, b'\'')
 }
 
 // Writes the word that was found at fault, and of a letter that names nothing that letter.
-fn say_word(s: said::Said) {
+fn say_word(rt: &(impl Env + Print), s: said::Said) -> io::Result<()> {
     let mut word = [0u8; 512];
-    let n = os::arg(s.word, &mut word);
-    say_part(&word[..n], s.from, s.end);
-    text::say_byte(b' ');
+    let n = rt.arg(s.word, &mut word).unwrap_or(0);
+    say_part(rt, &word[..n], s.from, s.end)?;
+    text::say_byte(rt, b' ')?;
     if s.fault == faults::NO_LETTER {
-        text::say(b"has ");
-        say_letter(&word[..n], s.at);
-        text::say(b", ");
+        text::say(rt, b"has ")?;
+        say_letter(rt, &word[..n], s.at)?;
+        text::say(rt, b", ")?;
     }
+    Ok(())
 }
 
 // Is the fault one of a word, and not of all words together?
@@ -96,16 +99,16 @@ fn is_of_word(fault: u8) -> bool {
 }
 
 // Writes what is wrong with the words.
-pub fn say_bad_input(s: said::Said) {
+pub fn say_bad_input(rt: &(impl Env + Print), s: said::Said) -> io::Result<()> {
     let fault = s.fault;
-    text::say(b"bad input: ");
+    text::say(rt, b"bad input: ")?;
     if fault == faults::SIZE {
-        text::say(b"word ");
-        text::say_number(s.word as u64);
-        text::say_byte(b' ');
+        text::say(rt, b"word ")?;
+        text::say_number(rt, s.word as u64)?;
+        text::say_byte(rt, b' ')?;
     } else if is_of_word(fault) {
-        say_word(s);
+        say_word(rt, s)?;
     }
-    say_fault(fault);
-    text::say(b"\n");
+    say_fault(rt, fault)?;
+    text::say(rt, b"\n")
 }

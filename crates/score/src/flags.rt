@@ -4,18 +4,19 @@ ghost use Rattle.std.specs.Prelude.{◌<◌};
 use crate::hand_line;
 use explained::flags::Uncounted;
 use printed::text;
+use std::io;
 
 // Writes why a flag does not count.
-fn say_reason(why: Uncounted) {
+fn say_reason(rt: &impl Print, why: Uncounted) -> io::Result<()> {
     match why {
-        Uncounted::Open => text::say(b"the hand is open"),
-        Uncounted::NoRiichi => text::say(b"there is no riichi"),
-        Uncounted::ByRon => text::say(b"the win is by ron"),
-        Uncounted::ByTsumo => text::say(b"the win is by tsumo"),
-        Uncounted::Replacement => text::say(b"the winning tile is the replacement of a kan"),
-        Uncounted::NotDealer => text::say(b"the winner is not the dealer"),
-        Uncounted::Dealer => text::say(b"the winner is the dealer"),
-        Uncounted::Counts | Uncounted::NotSet => text::say(b""),
+        Uncounted::Open => text::say(rt, b"the hand is open"),
+        Uncounted::NoRiichi => text::say(rt, b"there is no riichi"),
+        Uncounted::ByRon => text::say(rt, b"the win is by ron"),
+        Uncounted::ByTsumo => text::say(rt, b"the win is by tsumo"),
+        Uncounted::Replacement => text::say(rt, b"the winning tile is the replacement of a kan"),
+        Uncounted::NotDealer => text::say(rt, b"the winner is not the dealer"),
+        Uncounted::Dealer => text::say(rt, b"the winner is the dealer"),
+        Uncounted::Counts | Uncounted::NotSet => text::say(rt, b""),
     }
 }
 
@@ -28,42 +29,47 @@ fn is_reason(why: Uncounted) -> bool {
 }
 
 // Writes that a flag does not count, and why; nothing where it counts or was not said.
-fn say_flag(w: context::GameContext, opened: bool, i: usize)
+fn say_flag(rt: &impl Print, w: context::GameContext, opened: bool, i: usize) -> io::Result<()>
     requires { i < 8 }
 {
     let why = explained::flags::why_uncounted(w, opened, i);
     if !is_reason(why) {
-        return;
+        return Ok(());
     }
-    text::say(b"note:");
-    hand_line::say_word(i + 9);
-    text::say(b" does not count: ");
-    say_reason(why);
-    text::say_byte(b'\n');
+    text::say(rt, b"note:")?;
+    hand_line::say_word(rt, i + 9)?;
+    text::say(rt, b" does not count: ")?;
+    say_reason(rt, why)?;
+    text::say_byte(rt, b'\n')
 }
 
 // Writes which flags do not count.
-fn say_flags(w: context::GameContext, opened: bool) {
+fn say_flags(rt: &impl Print, w: context::GameContext, opened: bool) -> io::Result<()> {
     for i in 0..8 {
-        say_flag(w, opened, i);
+        say_flag(rt, w, opened, i)?;
     }
+    Ok(())
 }
 
 // Writes, where indicators of ura were said, that they do not count without riichi, or that they count with it though the hand is open.
-fn say_ura(w: context::GameContext, opened: bool) {
+fn say_ura(rt: &impl Print, w: context::GameContext, opened: bool) -> io::Result<()> {
     let ura = w.ura_dora_indicators;
     if ura.count == 0 {
-        return;
+        return Ok(());
     }
     if !w.is_riichi {
-        text::say(b"note: ura does not count: there is no riichi\n");
+        text::say(rt, b"note: ura does not count: there is no riichi\n")?;
     } else if opened {
-        text::say(b"note: ura counts, as riichi was said, though the hand is open\n");
+        text::say(
+            rt,
+            b"note: ura counts, as riichi was said, though the hand is open\n",
+        )?;
     }
+    Ok(())
 }
 
 // Writes what was said and does not count.
-pub fn say_notes(w: context::GameContext, opened: bool) {
-    say_flags(w, opened);
-    say_ura(w, opened);
+pub fn say_notes(rt: &impl Print, w: context::GameContext, opened: bool) -> io::Result<()> {
+    say_flags(rt, w, opened)?;
+    say_ura(rt, w, opened)
 }

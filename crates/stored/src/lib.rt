@@ -3,8 +3,11 @@
 #![tactic(auto)]
 
 ghost use Rattle.std.specs.Prelude.{◌+◌, ◌<◌, ◌≤◌, length};
+ghost use Rattle.std.specs.Io.{ReadsAtMost};
 
-use libc::STDOUT_FILENO;
+use std::io::Read;
+use std::rt::Files;
+use std::{fs, io};
 
 // ---- the parts of a record
 
@@ -318,51 +321,69 @@ impl Turn {
     }
 }
 
-// Opens a file for reading: its descriptor, or a negative number and a message.
-pub fn open(path: &[u8]) -> i32 {
-    let fd = os::open_read(path);
-    if fd < 0 {
-        os::fail(path);
+// Opens a file for reading: the file, or none and a message.
+pub fn open<R: Files + Eprint>(rt: &R, path: &str) -> Option<R::File> {
+    match fs::open(rt, path) {
+        Ok(file) => Some(file),
+        Err(e) => {
+            let _ = eprintln!(rt; "{path}: {e}");
+            None
+        }
     }
-    fd
+}
+
+// Reads until the record is full or the file ends, and says how many bytes of it were read.
+pub fn read_full<F: Read>(file: &mut F, rec: &mut [u8]) -> io::Result<usize>
+    ensures { ReadsAtMost result rec.new }
+{
+    let mut done = 0;
+    while done < rec.len() {
+        let n = file.read(&mut rec[done..])?;
+        if n == 0 {
+            break;
+        }
+        done += n;
+    }
+    Ok(done)
 }
 
 // ---- what is written
 
 // Writes a text.
-pub fn print(text: &[u8]) {
-    io::write_all(STDOUT_FILENO, text);
+pub fn print(rt: &impl Print, text: &[u8]) -> io::Result<()> {
+    rt.write_all(text)
 }
 
 // Writes a number.
-pub fn print_number(n: u64) {
-    io::print_decimal(STDOUT_FILENO, n);
+pub fn print_number(rt: &impl Print, n: u64) -> io::Result<()> {
+    rt.print(n)
 }
 
 // Writes a number and the text after it.
-pub fn print_count(n: u64, text: &[u8]) {
-    print_number(n);
-    print(text);
+pub fn print_count(rt: &impl Print, n: u64, text: &[u8]) -> io::Result<()> {
+    print_number(rt, n)?;
+    print(rt, text)
 }
 
 // Writes a number and how often it came, with a comma before all but the first.
-fn print_kind(number: usize, count: u64) {
+fn print_kind(rt: &impl Print, number: usize, count: u64) -> io::Result<()> {
     if number > 1 {
-        print(b", ");
+        print(rt, b", ")?;
     }
-    print_count(number as u64, b": ");
-    print_number(count);
+    print_count(rt, number as u64, b": ")?;
+    print_number(rt, count)
 }
 
 // Writes how often each number from 1 up to the last came, without one of them.
-pub fn print_kinds(kinds: [u64; 16], last: usize, without: usize)
+pub fn print_kinds(rt: &impl Print, kinds: [u64; 16], last: usize, without: usize) -> io::Result<()>
     requires { last < 16 }
 {
     let mut number = 1;
     while number <= last {
         if number != without {
-            print_kind(number, kinds[number]);
+            print_kind(rt, number, kinds[number])?;
         }
         number += 1;
     }
+    Ok(())
 }

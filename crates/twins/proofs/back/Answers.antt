@@ -1,0 +1,6 @@
+-- `back` meets its contract. Assumes nothing.
+use borrow.Author.Rules.{rules}
+use Rattle.twins.proofs.back.Goals as goal
+
+pub returns : goal.returns
+returns c = simp (c.order_back.ensures, c.order_back-2.ensures)
