@@ -4,8 +4,8 @@
 usage: answers.py NAMES CRATE [FUNCTION..]     at the top of the repository, for a crate's folder below crates/
 
 NAMES is the names.json that `rt check --generated DIR --old-names` writes in the crate's folder: for each function
-the old and the new name of each goal, step and loop. Proof.antt is read as it stood after port.py, and is moved to
-CRATE.old/ beside the repository's own files; what the script can't turn is printed, by function and goal.
+the old and the new name of each goal, step and loop. Proof.antt is read as it stood after port.py and respell.py, and is
+removed; what the script can't turn is printed, by function and goal.
 """
 import json
 import os
@@ -209,7 +209,6 @@ class Function:
         uses, invs, helpers, answers = [], [], [], []
         comment = []
         head = []
-        seen = {}
         for item in split_items(self.text):
             if item.startswith("--"):
                 comment.append(item)
@@ -261,7 +260,6 @@ class Function:
                     continue
                 body = self.body(body, at)
                 answers.append("\n".join(comment + ["pub %s : goal.%s\n%s%s c =%s" % (new, new, unf, new, body)]))
-                seen[name] = new
                 comment = []
                 continue
             helpers.append("\n".join(comment + [item]))
@@ -353,9 +351,7 @@ def main():
         except Exception as e:
             said.append("%s/%s: %r, left" % (crate, path, e))
             continue
-        old = os.path.join("/tmp/old-proofs", crate, path)
-        os.makedirs(old, exist_ok=True)
-        os.replace(p, os.path.join(old, "Proof.antt"))
+        os.remove(p)
         for name, t in out.items():
             open(os.path.join(folder, name), "w").write(t)
         if not out:

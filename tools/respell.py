@@ -43,12 +43,6 @@ def files(*patterns):
         yield from sorted(f for f in glob.glob(p, recursive=True) if "/out/" not in f)
 
 
-def made(name):
-    """A name that Rattle makes: a goal, an invariant or a measure."""
-    return re.match(r"(invariant|decreases)-", name) or re.search(
-        r"(^|-)(requires|returns|init|preserved|smaller)(-|$)", name) and False
-
-
 def collect():
     names = {}
     for f in files("crates/*/specs/**/*.antt", "crates/*/proofs/**/*.antt"):
