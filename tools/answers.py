@@ -123,11 +123,8 @@ class Function:
         return None, ".".join(["c", name] + rest)
 
     def body(self, text, place):
-        text = re.sub(r"\.taken(?!\w)", ".true", re.sub(r"\.left(?![\w-])", ".left", text))
-        return self.body_of(text, place)
-
-    def body_of(self, text, place):
         """An answer's text with its chains from c, and from names bound to places, turned."""
+        text = re.sub(r"\.taken(?!\w)", ".true", text)
         at = {"c": place}
         aliases = set()
         out = text
