@@ -1,6 +1,6 @@
 pub mod Turns
 pub mod Added
-pub mod Checked
+pub mod Passing
 pub mod InOrder
 pub mod Four
 pub mod Played

@@ -3,7 +3,7 @@ use mathlib.Core.Path.{◌≡◌, ap, ap₂}
 use mathlib.Core.Bool.{true, ◌&&◌}
 use mathlib.Core.List.{List, []}
 use Prim.Native.Nat.{ℕ}
-use lib.Dec.{T, eqb, ltb, leb, eqb→eq}
+use lib.Dec.{eqb, ltb, leb, eqb→eq}
 use lib.ListN.{take}
 use Rattle.lists.specs.Fold.{all}
 use Rattle.lists.proofs.Finite.{and_left, and_right, true→t}

@@ -4,6 +4,8 @@
 ghost use Rattle.std.specs.Prelude.{◌≡◌};
 ghost use Rattle.context.specs.Context.{is_tsumo, is_dealer, is_setting, in_range, are_indicators, indicators_in, none_shown, ren_indicators, ren_win};
 
+use tile::{Renaming, Tile};
+
 // Indicators of dora: how many are shown, and the tiles. What stands behind the count is not read.
 #[repr(C)]
 #[derive(Clone, Copy)]
@@ -17,37 +19,19 @@ impl Indicators {
     pub fn are_indicators(self) -> bool
         ensures { result ≡ are_indicators self }
     {
-        let tiles = self.tiles;
-        let count = self.count as usize;
-        if 10 < count {
+        let Some(shown) = self.tiles.get(..self.count as usize) else {
             return false;
-        }
-        let mut i = 0;
-        while i < count {
-            if 34 <= tiles[i] {
-                return false;
-            }
-            i += 1;
-        }
-        true
+        };
+        shown.iter().all(|t| *t < 34)
     }
 
     // The indicators under a renaming: each of the ten places is renamed; a number above 33 stays.
-    pub fn renamed(self, by: tile::Renaming) -> Indicators
+    pub fn renamed(self, by: Renaming) -> Indicators
         ensures { result ≡ ren_indicators by self }
     {
-        let tiles = self.tiles;
-        let mut to = [0u8; 10];
-        let mut i = 0;
-        while i < 10 {
-            let tile = tile::Tile(tiles[i]);
-            let renamed = tile.renamed(by);
-            to[i] = renamed.0;
-            i += 1;
-        }
         Indicators {
             count: self.count,
-            tiles: to,
+            tiles: self.tiles.map(|t| Tile(t).renamed(by).0),
         }
     }
 }
@@ -102,9 +86,9 @@ impl GameContext {
     pub fn is_in_range(self) -> bool
         ensures { result ≡ in_range self }
     {
-        let round = tile::Tile(self.round_wind);
-        let seat = tile::Tile(self.seat_wind);
-        (self.win_type < 2) & (round.is_wind() & (seat.is_wind() & self.has_setting()))
+        (self.win_type < 2)
+            & (Tile(self.round_wind).is_wind()
+                & (Tile(self.seat_wind).is_wind() & self.has_setting()))
     }
 
     // Is no indicator shown, of either sort?
@@ -121,29 +105,20 @@ impl GameContext {
         if self.shows_none() {
             return true;
         }
-        let dora = self.dora_indicators;
-        let ura = self.ura_dora_indicators;
-        dora.are_indicators() & ura.are_indicators()
+        self.dora_indicators.are_indicators() & self.ura_dora_indicators.are_indicators()
     }
 
     // The win under a renaming: the winning tile, both winds and the indicators are renamed.
-    pub fn renamed(self, by: tile::Renaming) -> GameContext
+    pub fn renamed(self, by: Renaming) -> GameContext
         ensures { result ≡ ren_win by self }
     {
-        let tile = tile::Tile(self.winning_tile);
-        let tile_to = tile.renamed(by);
-        let round = tile::Tile(self.round_wind);
-        let round_to = round.renamed(by);
-        let seat = tile::Tile(self.seat_wind);
-        let seat_to = seat.renamed(by);
-        let dora = self.dora_indicators;
-        let ura = self.ura_dora_indicators;
-        let mut win = self;
-        win.winning_tile = tile_to.0;
-        win.round_wind = round_to.0;
-        win.seat_wind = seat_to.0;
-        win.dora_indicators = dora.renamed(by);
-        win.ura_dora_indicators = ura.renamed(by);
-        win
+        GameContext {
+            winning_tile: Tile(self.winning_tile).renamed(by).0,
+            round_wind: Tile(self.round_wind).renamed(by).0,
+            seat_wind: Tile(self.seat_wind).renamed(by).0,
+            dora_indicators: self.dora_indicators.renamed(by),
+            ura_dora_indicators: self.ura_dora_indicators.renamed(by),
+            ..self
+        }
     }
 }

@@ -14,7 +14,7 @@ use Rattle.tile.specs.Tile.{tiles}
 use Rattle.meld.specs.declared.Meld.{Meld}
 use Rattle.hand.specs.Readings.{less_pair, meld_lists}
 use Rattle.hand.proofs.Sums.{up_from_next_holds, up_from_end_holds}
-use Rattle.search.specs.declared.Remaining.{Remaining}
+use Rattle.search.specs.declared.remaining.Remaining.{Remaining}
 use Rattle.search.specs.Remaining.{split, left}
 use Rattle.search.specs.Slots.{records_with}
 use Rattle.search.proofs.Slots.{sets_append}

@@ -1,6 +1,5 @@
 -- Counts packed in words: each is found again at its place, and a pair can be taken off. Assumes nothing.
 use mathlib.Core.Path.{◌≡◌, refl, sym, ap, ◌∙◌, fun_ext, subst}
-use mathlib.Core.Logic.{inr}
 use mathlib.Core.Bool.{Bool, cond}
 use mathlib.Core.List.{List}
 use Prim.Native.Nat.{ℕ, zero, suc, ◌+◌, ◌-◌, ◌*◌, ◌/◌, ◌%◌, ◌^◌, ◌≤◌, ◌<◌}
@@ -12,7 +11,7 @@ use lib.Pow.{pow-add, pow_mono, shl_exact}
 use borrow.Author.Tests.{lt-ltb, le-ltb, le-leb, lt-leb, eq-eqb, ne_eqb}
 use Rattle.hand.specs.Counts.{held, AtMostFour}
 use Rattle.hand.specs.Readings.{less_pair}
-use Rattle.search.specs.declared.Remaining.{Remaining}
+use Rattle.search.specs.declared.remaining.Remaining.{Remaining}
 use Rattle.search.specs.Remaining.{Split, split, digit, left, Fair}
 use Rattle.search.proofs.Digits.{digit_less, digit_shift, no_digits, off_le}
 use Rattle.search.proofs.Left.{packed, split_none}
@@ -182,7 +181,7 @@ module _ (h : Packed) (fit : Fit h) where
   fair = record {
     few = λ t. omega (arith, ap (λ (f : ℕ → ℕ). f t) all_left, fit.few t);
     ends = λ t k. ap (λ (f : ℕ → ℕ). f t) all_left ∙ high_word h t (omega arith) ∙ fit.high (t - 18) (omega arith);
-    apart = inr (λ k g. fit.low k (omega arith));
+    apart = λ e k g. fit.low k (omega arith);
   }
 
 -- ---- a pair taken off

@@ -9,6 +9,7 @@ use lib.Dec.{T, leb, ltb, leb→le, ltb→lt}
 use lib.ListN.{length, length-take}
 use Rattle.lists.specs.Fold.{all}
 use Rattle.lists.proofs.Finite.{and_left, and_right}
+use Rattle.lists.proofs.Sums.{sum_le}
 use Rattle.context.specs.declared.Indicators.{Indicators}
 use Rattle.context.specs.declared.GameContext.{GameContext}
 use Rattle.context.specs.Context.{shown, are_indicators, indicators_in}
@@ -35,6 +36,13 @@ module _ (c : ℕ → ℕ) (w : GameContext) where
 -- ---- how many there are: of no tile are there more than four, and ten indicators at most
 few_shown : (i : Indicators) → i.count ≤ 10 → length (shown i) ≤ 10
 few_shown i h = let e = length-take i.count i.tiles in omega arith
+
+-- where of no number there are more than four, whatever is shown
+pub forty_at_most : (c : ℕ → ℕ) → ((t : ℕ) → c t ≤ 4) → (i : Indicators) → i.count ≤ 10 → count_of c (shown i) ≤ 40
+forty_at_most c four i h =
+    let most = sum_le (λ t. c (dora_of t)) 4 (λ t. four (dora_of t)) (shown i) in
+    let few = few_shown i h in
+    omega arith
 
 four_each : (c : ℕ → ℕ) → ((t : ℕ) → t < 34 → c t ≤ 4) → (ts : List ℕ) → T (all (λ t. ltb t 34) ts) → count_of c ts ≤ 4 * length ts
 four_each c four [] h = omega arith

@@ -2,12 +2,16 @@
 // hold together, and the han with them. Red fives (aka) and set-aside Norths (nuki) are not counted here: both are 0.
 #![tactic(auto)]
 
-ghost use Rattle.std.specs.Prelude.{◌≡◌, true, false, ◌≤◌, length};
+ghost use Rattle.std.specs.Prelude.{◌≡◌, true, false, ◌≤◌};
 ghost use Rattle.context.specs.Context.{shown, indicators_in};
 ghost use Rattle.hand.specs.Counts.{held, AtMostFour};
 ghost use Rattle.dora.specs.Dora.{dora_of, count_of, dora_in, AtMostForty, dora_total, total_han};
 
-// How many dora are there: by the indicators shown, and by those below them.
+use context::{GameContext, Indicators};
+use tile::Tile;
+
+// How many dora are there: by the indicators shown, and by those below them. That neither is above 40 stands in the contracts (`AtMostForty`)
+// and not in the type: the definitions (`dora_in`, `no_dora`) build this record for any counts, and a ghost field would be a field of it there.
 #[derive(Clone, Copy)]
 pub struct DoraCount {
     pub regular: u8,
@@ -53,68 +57,44 @@ const DORA: [u8; 34] = [
 ];
 
 // The tile that an indicator names as dora; a number above 33 stays.
-pub fn indicator_to_dora(indicator: tile::Tile) -> tile::Tile
+pub fn indicator_to_dora(indicator: Tile) -> Tile
     ensures { result.0 ≡ dora_of indicator.0 }
 {
-    let t = indicator.0;
-    if 34 <= t {
-        return indicator;
+    match DORA.get(indicator.0 as usize) {
+        Some(dora) => Tile(*dora),
+        None => indicator,
     }
-    tile::Tile(DORA[t as usize])
 }
 
 // How many there are of the tile that an indicator names.
-fn held_by(counts: &[u8], t: u8) -> u8
-    requires { length counts.now ≡ 34 }
+fn held_by(counts: &[u8; 34], t: u8) -> u8
     ensures { result ≡ held counts.now (dora_of t) }
 {
-    let dora = indicator_to_dora(tile::Tile(t));
-    let at = dora.0 as usize;
-    if 34 <= at {
-        return 0;
-    }
-    counts[at]
-}
-
-// How many of the ten places are shown.
-fn places(i: context::Indicators) -> usize
-    ensures { result ≡ i.count }
-{
-    i.count as usize
+    let dora = indicator_to_dora(Tile(t));
+    counts.get(dora.0 as usize).copied().unwrap_or(0)
 }
 
 // How many dora the indicators give: each adds what is held of its tile, and one that is there twice adds twice.
-fn count_of(counts: &[u8], i: context::Indicators) -> u8
-    requires { (length counts.now ≡ 34) × (AtMostFour counts.now × (i.count ≤ 10)) }
+fn count_of(counts: &[u8; 34], i: Indicators) -> u8
+    requires { AtMostFour counts.now × (i.count ≤ 10) }
     ensures { (result ≡ count_of (held counts.now) (shown i)) × (result ≤ 40) }
 {
-    let tiles = i.tiles;
-    let count = places(i);
-    let mut n = 0u8;
-    let mut at = 0;
-    while at < count {
-        n += held_by(counts, tiles[at]);
-        at += 1;
-    }
-    n
+    let shown = &i.tiles[..i.count as usize];
+    shown.iter().map(|t| held_by(counts, *t)).sum()
 }
 
 // How many dora hand and calls hold together, by sort: those below count after a riichi.
-pub fn count_dora_detailed(counts: &[u8], w: context::GameContext) -> DoraCount
-    requires { (length counts.now ≡ 34) × (AtMostFour counts.now × (indicators_in w ≡ true)) }
+#[tactic(auto, unfolding(crate::specs::Dora::dora_in))]
+pub fn count_dora_detailed(counts: &[u8; 34], w: GameContext) -> DoraCount
+    requires { AtMostFour counts.now × (indicators_in w ≡ true) }
     ensures { (result ≡ dora_in (held counts.now) w) × AtMostForty result }
 {
     let regular = count_of(counts, w.dora_indicators);
     if !w.is_riichi {
-        return DoraCount {
-            regular: regular,
-            ura: 0,
-        };
+        return DoraCount { regular, ura: 0 };
     }
-    DoraCount {
-        regular: regular,
-        ura: count_of(counts, w.ura_dora_indicators),
-    }
+    let ura = count_of(counts, w.ura_dora_indicators);
+    DoraCount { regular, ura }
 }
 
 impl DoraCount {
@@ -128,6 +108,7 @@ impl DoraCount {
 }
 
 // The han of the yaku with dora; a yakuman takes none.
+#[tactic(auto, unfolding(crate::specs::Dora::total_han))]
 pub fn total_han_with_dora(d: DoraCount, is_yakuman: bool, han: u8) -> u8
     requires { AtMostForty d × (is_yakuman ≡ false → han ≤ 175) }
     ensures { result ≡ total_han d is_yakuman han }

@@ -8,27 +8,18 @@ ghost use Rattle.lent.specs.Lent.{call_at, calls_of};
 pub fn call_or_none(calls: &[meld::Meld], i: usize) -> meld::Meld
     ensures { result ≡ call_at calls.now i }
 {
-    if i < calls.len() {
-        return calls[i];
-    } else {
-        return meld::Meld {
-            tile: 0,
-            kind: 0,
-            source: 0,
-        };
-    }
+    calls.get(i).copied().unwrap_or(meld::Meld {
+        tile: 0,
+        kind: 0,
+        source: 0,
+    })
 }
 
 // How many calls are lent, and the first four of them, by value.
 pub fn gather(calls: &[meld::Meld]) -> checks::Calls
     ensures { result ≡ calls_of calls.now }
 {
-    let melds = [
-        call_or_none(calls, 0),
-        call_or_none(calls, 1),
-        call_or_none(calls, 2),
-        call_or_none(calls, 3),
-    ];
+    let melds = std::array::from_fn(|i| call_or_none(calls, i));
     checks::Calls {
         count: calls.len(),
         melds,

@@ -1,10 +1,12 @@
 -- A list is its elements, and what is read within it does not depend on what is read past it. Assumes nothing.
 use mathlib.Core.Path.{◌≡◌, refl, sym, ap, ◌∙◌}
+use mathlib.Core.Bool.{Bool}
 use mathlib.Core.List.{List, [], ◌∷◌, map}
 use Prim.Native.Nat.{ℕ, zero, suc, ◌<◌}
 use native.Mathlib.Omega.{arith}
 use lib.ListN.{length, get_or}
-use Rattle.lists.specs.Fold.{up_from}
+use Rattle.lists.specs.Fold.{every, all, up_from}
+use Rattle.lists.proofs.Members.{map_map}
 
 -- ---- a list of n is what stands at 0, 1, and so on
 module _ {A : Type 0} (d : A) where
@@ -17,6 +19,10 @@ module _ {A : Type 0} (d : A) where
   elements zero (a ∷ l) h = absurd (omega arith)
   elements (suc n) [] h = absurd (omega arith)
   elements (suc n) (a ∷ l) h = ap (λ (m : List A). a ∷ m) (elements n l (omega arith) ∙ sym (later a l n 0))
+
+  -- a test of each element is one of what stands at 0, 1, and so on
+  pub all_by_place : (p : A → Bool) (n : ℕ) (l : List A) → length l ≡ n → all p l ≡ all (λ i. p (get_or l i d)) (up_from n 0)
+  all_by_place p n l h = ap (all p) (elements n l h) ∙ ap every (map_map (λ i. get_or l i d) p (up_from n 0))
 
 -- ---- a list of four
 pub four : {A : Type 0} (l : List A) (d : A) → length l ≡ 4 → l ≡ get_or l 0 d ∷ get_or l 1 d ∷ get_or l 2 d ∷ get_or l 3 d ∷ []

@@ -7,6 +7,10 @@ use mathlib.Core.List.{List, [], ◌∷◌, ◌++◌, Memᴰ}
 use Prim.Native.Nat.{ℕ, ◌<◌}
 use native.Mathlib.Omega.{arith}
 use lib.Dec.{T}
+use Rattle.std.proofs.lemmas.Option.{none-some, same_Some}
+use Rattle.std.specs.List.{find}
+use Rattle.std.specs.Option.{option_to_list}
+use Rattle.std.specs.Prelude.{Some}
 use Rattle.lists.specs.Fold.{keep}
 use Rattle.lists.specs.Order.{Pick, done, skip, pick, Nodup, Pairwise}
 use Rattle.lists.proofs.Finite.{¬T→false}
@@ -33,6 +37,28 @@ module _ {A : Type 0} (p : A → Bool) where
   keep_none (a ∷ l) f =
       ap (λ (b : Bool). cond b (a ∷ []) [] ++ keep p l) (¬T→false (p a) (f a (Memᴰ.head refl)))
       ∙ keep_none l (λ b i. f b (Memᴰ.tail i))
+
+  -- where no two members pass, it is the first that does
+  pub keep_first : (l : List A) → Nodup l → ((a b : A) → Memᴰ a l → Memᴰ b l → T (p a) → T (p b) → a ≡ b) → keep p l ≡ option_to_list (find p l)
+  keep_first [] n one = refl
+  keep_first (a ∷ l) n one = go (p a) (one a) (keep_first l n.1 (λ b c i j. one b c (Memᴰ.tail i) (Memᴰ.tail j)))
+    where
+      go :
+          (x : Bool) → ((b : A) → Memᴰ a (a ∷ l) → Memᴰ b (a ∷ l) → T x → T (p b) → a ≡ b) → keep p l ≡ option_to_list (find p l)
+          → cond x (a ∷ []) [] ++ keep p l ≡ option_to_list (cond x (Some a) (find p l))
+      go true only e =
+          ap (λ (r : List A). a ∷ r)
+          (keep_none l (λ b i t. n.0 (Memᴰ.cast (only b (Memᴰ.head refl) (Memᴰ.tail i) tt t) i)))
+      go false only e = e
+
+  -- the first that passes is a member
+  pub find_in : (l : List A) {a : A} → Some a ≡ find p l → Memᴰ a l
+  find_in [] e = absurd (none-some _ (sym e))
+  find_in (x ∷ l) {a} e = go (p x) e (find_in l)
+    where
+      go : (b : Bool) → Some a ≡ cond b (Some x) (find p l) → (Some a ≡ find p l → Memᴰ a l) → Memᴰ a (x ∷ l)
+      go true e r = Memᴰ.head (same_Some a x e)
+      go false e r = Memᴰ.tail (r e)
 
   -- it is ascending and out of the list
   pub keep_pick : (l : List A) → Pick l (keep p l)

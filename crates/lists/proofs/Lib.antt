@@ -9,6 +9,8 @@ pub mod Counted
 pub mod Relations
 pub mod Kept
 pub mod Elements
+pub mod Filled
 pub mod Stores
 pub mod First
 pub mod Since
+pub mod Chains

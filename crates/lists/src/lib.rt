@@ -16,11 +16,7 @@ pub fn one_if(b: bool) -> u8
 pub fn any_above_zero(l: &[u8]) -> bool
     ensures { result ≡ any (λ n. not (eqb n 0)) l.now }
 {
-    let mut found = false;
-    for i in 0..l.len() {
-        found = found | !(l[i] == 0);
-    }
-    found
+    l.iter().any(|n| *n != 0)
 }
 
 // Copies bytes into the buffer.
@@ -28,9 +24,5 @@ pub fn put_all(out: &mut [u8], at: usize, src: &[u8])
     requires { at + length src.now ≤ length out.old }
     ensures { out.new ≡ sets out.old at src.now }
 {
-    let mut i = 0;
-    while i < src.len() {
-        out[at + i] = src[i];
-        i += 1;
-    }
+    out[at..at + src.len()].copy_from_slice(src);
 }

@@ -1,12 +1,14 @@
 // Melds (the meld part of agari's hand.rs). A meld is its lowest tile, a kind and a source. Kinds: 0 closed sequence, 1 open sequence,
 // 2 closed triplet, 3 open triplet, 4 closed kan, 5 open kan, 6 added kan. Sources, of which agari has none: the player from whom the tile
 // was called, 1 to 3 seats onward from the one who called it (on the right, across, on the left), 0 where no tile was called.
-// Any bytes may stand in it: is_valid says whether it is one.
+// Any bytes may stand in it, as C lends it, so the kind is a byte and no enum: is_valid says whether it is one.
 #![tactic(auto)]
 
-ghost use Rattle.std.specs.Prelude.{◌≡◌, min};
+ghost use Rattle.std.specs.Prelude.{◌≡◌};
 ghost use Rattle.meld.specs.Meld.{is_sequence, is_triplet_or_kan, is_kan, is_concealed, is_open, nearest, is_seat, is_sourced, is_meld, is_call, key, run_uses, set_size, uses, at_tile, from_seat, meld};
 ghost use Rattle.meld.specs.Renamed.{ren_meld};
+
+use tile::{Renaming, Tile};
 
 #[repr(C)]
 #[derive(Clone, Copy)]
@@ -66,8 +68,7 @@ impl Meld {
     pub fn is_valid(self) -> bool
         ensures { result ≡ is_meld self }
     {
-        let tile = tile::Tile(self.tile);
-        ((self.kind < 7) & ((self.tile < 34) & ((2 <= self.kind) | tile.is_start())))
+        ((self.kind < 7) & ((self.tile < 34) & ((2 <= self.kind) | Tile(self.tile).is_start())))
             & self.is_sourced()
     }
 
@@ -82,7 +83,7 @@ impl Meld {
     pub fn key(self) -> u16
         ensures { result ≡ key self }
     {
-        ((self.tile as u16) * 8 + (self.kind as u16)) * 4 + (self.source as u16)
+        (u16::from(self.tile) * 8 + u16::from(self.kind)) * 4 + u16::from(self.source)
     }
 
     // How many of the tile t it holds.
@@ -99,39 +100,30 @@ impl Meld {
     }
 
     // The meld under a renaming: its tiles are renamed, the lowest of them is then its tile; kind and source stay.
-    pub fn renamed(self, by: tile::Renaming) -> Meld
+    pub fn renamed(self, by: Renaming) -> Meld
         ensures { result ≡ ren_meld by self }
     {
-        let first = tile::Tile(self.tile);
-        let a = first.renamed(by);
+        let first = Tile(self.tile);
+        let a = first.renamed(by).0;
         if self.is_sequence() & first.is_start() {
-            let last = tile::Tile(self.tile + 2);
-            let b = last.renamed(by);
-            return self.at_tile(lower(a.0, b.0));
+            let b = Tile(self.tile + 2).renamed(by).0;
+            return self.at_tile(a.min(b));
         }
-        self.at_tile(a.0)
+        self.at_tile(a)
     }
 
     // A meld of the same kind and source at another tile.
     fn at_tile(self, tile: u8) -> Meld
         ensures { result ≡ at_tile tile self }
     {
-        Meld {
-            tile: tile,
-            kind: self.kind,
-            source: self.source,
-        }
+        Meld { tile, ..self }
     }
 
     // The meld of the same tile and kind from another seat.
     pub fn from_seat(self, source: u8) -> Meld
         ensures { result ≡ from_seat source self }
     {
-        Meld {
-            tile: self.tile,
-            kind: self.kind,
-            source: source,
-        }
+        Meld { source, ..self }
     }
 
     // The meld of a tile and a kind: an open one from the player before, on the left, from whom each kind of them can come.
@@ -139,8 +131,8 @@ impl Meld {
         ensures { result ≡ meld tile kind }
     {
         let closed = Meld {
-            tile: tile,
-            kind: kind,
+            tile,
+            kind,
             source: 0,
         };
         if closed.is_open() {
@@ -154,10 +146,7 @@ impl Meld {
 fn nearest(sequence: bool) -> u8
     ensures { result ≡ nearest sequence }
 {
-    if sequence {
-        return 3;
-    }
-    1
+    if sequence { 3 } else { 1 }
 }
 
 // Can a tile of an open meld come from this seat?
@@ -171,10 +160,7 @@ fn is_seat(sequence: bool, source: u8) -> bool
 fn run_uses(first: u8, t: u8) -> u8
     ensures { result ≡ run_uses first t }
 {
-    if (first <= t) & ((t as u16) < (first as u16) + 3) {
-        return 1;
-    }
-    0
+    u8::from((first <= t) & (u16::from(t) < u16::from(first) + 3))
 }
 
 // How many tiles a kan has, or a triplet.
@@ -182,11 +168,4 @@ fn set_size(kan: bool) -> u8
     ensures { result ≡ set_size kan }
 {
     if kan { 4 } else { 3 }
-}
-
-// The lower of two numbers.
-fn lower(a: u8, b: u8) -> u8
-    ensures { result ≡ min a b }
-{
-    if a <= b { a } else { b }
 }

@@ -3,13 +3,12 @@ use mathlib.Core.Path.{◌≡◌, refl, sym, ap}
 use mathlib.Core.Logic.{◌↔◌}
 use mathlib.Core.Bool.{Bool, true, false, cond}
 use mathlib.Core.List.{List, Memᴰ}
-use Prim.Native.Nat.{ℕ, ◌-◌, ◌≤◌, ◌<◌}
+use Prim.Native.Nat.{ℕ, ◌≤◌, ◌<◌}
 use native.Mathlib.Omega.{arith}
 use lib.Dec.{T, leb}
 use lib.ListN.{length}
 use borrow.Author.Tests.{leb-true, leb-false}
 use Rattle.lists.specs.Order.{Nodup, Pairwise}
-use Rattle.tile.specs.Tile.{tiles}
 use Rattle.rules.specs.Rules.{Game}
 use Rattle.hand.specs.Counts.{held}
 use Rattle.hand.specs.Reading.{Reading, Admits}
@@ -24,10 +23,10 @@ use Rattle.complete.proofs.Bound.{enough}
 use Rattle.checks.specs.declared.Calls.{Calls}
 use Rattle.checks.specs.Checks.{called, hand_check_in}
 use Rattle.checks.proofs.Passed.{passed, each_callable, passes_four, few_called}
-use Rattle.unit.specs.declared.Listing.TheVariants.{Listed, Refused}
+use Rattle.unit.specs.Listing.{Listed, Refused}
 use Rattle.unit.specs.Listing.{number_of, readings_of, bytes_of, hand_readings, hand_records, listing_in}
 use Rattle.unit.proofs.Answers.{listed_answer, short_answer}
-use Rattle.unit.proofs.Listed.{melds_called}
+use Rattle.unit.proofs.Passes.{melds_called}
 
 -- a hand that passes the checks of a game; the four melds of the calls are four (an array of four in the code)
 module _ (g : Game) (cs : List ℕ) (k : Calls) (four : length k.melds ≡ 4) (passes : hand_check_in g cs k ≡ 0) where

@@ -2,11 +2,15 @@
 // how many players there are, and whether indicators of dora are shown.
 #![tactic(auto)]
 
+pub mod refusals;
+
 ghost use Rattle.std.specs.Prelude.{◌≡◌};
 ghost use Rattle.rules.specs.Rules.{game};
 
+pub use refusals::Refusal;
+
 // Four-player mahjong; or three-player mahjong: no man 2 to 8 and no chi.
-#[derive(Clone, Copy)]
+#[derive(Clone, Copy, PartialEq, Eq)]
 pub enum Variant {
     Yonma,
     Sanma,

@@ -3,6 +3,7 @@ use mathlib.Core.Path.{◌≡◌, refl, sym, ap, ap₂, ◌∙◌, subst, fun_ex
 use mathlib.Core.Logic.{◌⊎◌, inl, inr}
 use mathlib.Core.Bool.{Bool, true, false, ◌&&◌, not, cond}
 use Prim.Native.Nat.{ℕ, zero, suc, ◌+◌, ◌-◌, ◌*◌, ◌/◌, ◌%◌, ◌^◌, ◌≤◌, ◌<◌}
+use native.Mathlib.Nat.{eq-zero-or-pos}
 use native.Mathlib.Omega.{arith}
 use lib.Dec.{T, eqb, leb, ltb, eqb→eq, leb→le}
 use borrow.Author.Tests.{le-leb, lt-leb, leb-true, leb-false, ltb-true, eq-eqb, eqb-true}
@@ -33,7 +34,7 @@ split_on w b z h =
 
 -- a word w from the tile t on does not reach into the tiles of the rest r
 abbrev Apart : ℕ → ℕ → ℕ → Type 0
-Apart w r t = (r ≡ 0) ⊎ ((k : ℕ) → 18 ≤ t + k → digit w k ≡ 0)
+Apart w r t = (r ≡ 0 → ⊥) → (k : ℕ) → 18 ≤ t + k → digit w k ≡ 0
 
 -- ---- the counts of one word
 
@@ -158,7 +159,7 @@ module _ (s : Split) (f : Fair s) (n : has_none_left s ≡ false) where
   current_rest e =
       let same : left (packed s.rest 0 18) ≡ left s =
       fun_ext (λ u. swap_at s.rest s.tile u ∙ ap (λ (w : ℕ). left (packed w s.rest s.tile) u) (sym e)) in
-      (same_fair s (packed s.rest 0 18) f same (inl refl), (same, some_word e))
+      (same_fair s (packed s.rest 0 18) f same (λ g k h. absurd (g refl)), (same, some_word e))
 
   pub current_word : (s.word ≡ 0 → ⊥) → Current s s
   current_word h = (f, (refl, h))
@@ -174,8 +175,7 @@ module _ (s : Split) (f : Fair s) (z : ℕ) (l : Lowest s.word z) where
   shifted_same = fun_ext (λ u. ap (λ (n : ℕ). n + in_word 18 s.rest u) (in_word_shift_holds s.tile s.word z u l))
 
   shifted_apart : Apart s.word s.rest s.tile → Apart (s.word / 2 ^ (3 * z)) s.rest (s.tile + z)
-  shifted_apart (inl e) = inl e
-  shifted_apart (inr g) = inr (λ k h. digit_shift z s.word k ∙ g (z + k) (omega arith))
+  shifted_apart g = λ f k h. digit_shift z s.word k ∙ g f (z + k) (omega arith)
 
   shifted_there : 1 ≤ s.word / 2 ^ (3 * z) % 8
   unfolding digit
@@ -210,11 +210,11 @@ module _ (s : Split) (a : AtLowest s) where
   -- the rest has nothing of a tile below its own, and nothing at all once the word is among its tiles
   rest_none : (u : ℕ) → (18 ≤ s.tile) ⊎ (u < 18) → in_word 18 s.rest u ≡ 0
   unfolding digit
-  rest_none u (inl h) = go a.fair.apart
+  rest_none u (inl h) = go (eq-zero-or-pos s.rest)
     where
-      go : Apart s.word s.rest s.tile → in_word 18 s.rest u ≡ 0
+      go : (s.rest ≡ 0) ⊎ (0 < s.rest) → in_word 18 s.rest u ≡ 0
       go (inl e) = ap (λ (r : ℕ). in_word 18 r u) e ∙ in_word_zero_holds 18 u
-      go (inr g) = absurd (omega (arith, g 0 (omega arith), a.there))
+      go (inr g) = absurd (omega (arith, a.fair.apart (λ e. omega arith) 0 (omega arith), a.there))
   rest_none u (inr h) = in_word_before_holds 18 s.rest u h
 
   left_on : (k : ℕ) → (18 ≤ s.tile) ⊎ (s.tile + k < 18) → left s (s.tile + k) ≡ digit s.word k
@@ -278,17 +278,13 @@ less_of s m w f g h = record {
   fair = record {
     few = λ u. omega (arith, f.few u, taken u);
     ends = λ u i. omega (arith, f.ends u i, taken u);
-    apart = apart f.apart;
+    apart = λ i k j. omega (arith, g k, f.apart i k j);
   };
   same = fun_ext (λ u. omega (arith, taken u));
 }
   where
     taken : (u : ℕ) → left (packed w s.rest s.tile) u + uses m u ≡ left s u
     taken u = omega (arith, in_word_less_holds s.tile s.word w (uses m) u g (h u))
-
-    apart : Apart s.word s.rest s.tile → Apart w s.rest s.tile
-    apart (inl e) = inl e
-    apart (inr i) = inr (λ k j. omega (arith, g k, i k j))
 
 -- 73 is one each at the three lowest places
 run_off : (t w k : ℕ) → 1 ≤ w % 8 → 1 ≤ w / 8 % 8 → 1 ≤ w / 8 / 8 % 8 → digit (w - 73) k + run_uses t (t + k) ≡ digit w k

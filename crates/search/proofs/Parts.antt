@@ -6,7 +6,8 @@ use mathlib.Core.List.{List, [], ◌∷◌, ◌++◌, map, append_assoc, append-
 use Prim.Native.Nat.{ℕ, zero, suc, ◌+◌, ◌-◌, ◌≤◌}
 use native.Mathlib.Nat.{le_trans, pow-le-pow_right}
 use native.Mathlib.Omega.{arith}
-use lib.Dec.{lit<}
+use lib.Dec.{lit<, eqb, eqb-suc-zero}
+use Rattle.std.specs.Int.{from_bool}
 use lib.ListN.{length, length-append, length-map}
 use lib.Seq.{sets}
 use Rattle.lists.proofs.Finite.{true→t}
@@ -83,6 +84,13 @@ module _ (n : ℕ) (s : Split) where
 
 pub at_most_16 : (n : ℕ) (s : Split) → n ≤ 4 → Fair s → length (meld_lists n (left s)) ≤ 16
 at_most_16 n s h f = le_trans (few n (left s) (λ u i. f.few u)) (pow-le-pow_right {n = 2} (lit< tt) h)
+
+-- nothing is left: one list of no melds, and none of more
+pub counted_empty : (n r : ℕ) (s : Split) → r ≡ from_bool (eqb n 0) → has_none_left s ≡ true → (r ≡ length (meld_lists n (left s))) × (r ≤ 16)
+counted_empty zero r s e h = (e ∙ sym (ap length (at_end 0 s refl h)), omega arith)
+counted_empty (suc n) r s e h =
+    let none : r ≡ 0 = rw eqb-suc-zero at e in
+    (none ∙ sym (ap length (too_few (suc n) s (λ i. omega arith) h)), omega arith)
 
 pub counted_part : (b : Bool) (n : ℕ) (m : Meld) (c d : ℕ → ℕ) (r : ℕ) → b ≡ true → d ≡ minus c m → r ≡ length (meld_lists n d)
     → r ≡ length (part b n m c)

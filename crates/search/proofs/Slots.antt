@@ -1,61 +1,46 @@
 -- Four slots, the bytes of their record, and runs of stores. Assumes nothing.
-use mathlib.Core.Path.{◌≡◌, sym, ap, ◌∙◌}
-use mathlib.Core.Bool.{cond}
-use mathlib.Core.List.{List, [], ◌∷◌, ◌++◌}
-use Prim.Native.Nat.{ℕ, suc, ◌+◌, ◌/◌, ◌%◌}
-use native.Mathlib.Nat.{add-zero}
-use native.Mathlib.Omega.{arith}
-use lib.Dec.{leb}
-use lib.ListN.{length, get_or, set}
-use lib.Seq.{sets}
+use Rattle.std.proofs.Common.{ℕ, suc, ◌≡◌, ◌+◌, min, max, cond, leb, List, [], ◌∷◌, ◌++◌, length, get_or, set, sym, ap, ◌∙◌, add-zero, arith, rules, tests}
+use Rattle.std.proofs.lemmas.List.Edits.{sets}
 use Rattle.lists.proofs.Elements.{four}
+use Rattle.meld.specs.declared.Meld.{Meld}
 use Rattle.hand.specs.Records.{standard_bytes}
-use Rattle.search.specs.Slots.{put, slot_bytes, slot_record}
+use Rattle.search.specs.Slots.{put, meld_of, slot_bytes, slot_record}
+
+-- the lower and the higher of two numbers
+lower : (x y : ℕ) → cond (leb x y) x y ≡ min x y
+lower x y = search (tests, rules)
+
+higher : (x y : ℕ) → cond (leb x y) y x ≡ max x y
+higher x y = search (tests, rules)
 
 -- a number put in from slot to slot: y, z, w are what is handed on
 pub put_is : (x y z w p q r s : ℕ) (l : List ℕ) → length l ≡ 4
-    → y ≡ cond (leb x (get_or l 0 0)) (get_or l 0 0) x
-    → z ≡ cond (leb y (get_or l 1 0)) (get_or l 1 0) y
-    → w ≡ cond (leb z (get_or l 2 0)) (get_or l 2 0) z
-    → p ≡ cond (leb x (get_or l 0 0)) x (get_or l 0 0)
-    → q ≡ cond (leb y (get_or l 1 0)) y (get_or l 1 0)
-    → r ≡ cond (leb z (get_or l 2 0)) z (get_or l 2 0)
-    → s ≡ cond (leb w (get_or l 3 0)) w (get_or l 3 0)
+    → y ≡ max x (get_or l 0 0)
+    → z ≡ max y (get_or l 1 0)
+    → w ≡ max z (get_or l 2 0)
+    → p ≡ min x (get_or l 0 0)
+    → q ≡ min y (get_or l 1 0)
+    → r ≡ min z (get_or l 2 0)
+    → s ≡ min w (get_or l 3 0)
     → p ∷ q ∷ r ∷ s ∷ [] ≡ put x l
 unfolding put
-put_is x y z w p q r s l h e f g i j k m = let u = ap (put x) (four l 0 h) in cc u
+put_is x y z w p q r s l h e f g i j k m =
+    let u = ap (put x) (four l 0 h) in
+    let v = simp (lower, higher) at u in
+    cc
 
 -- the bytes of a record, slot by slot
-pub four_bytes : (p : ℕ) (l : List ℕ) → length l ≡ 4
-    → slot_record p l ≡ standard_bytes ∷ 0 ∷ 3 ∷ 0 ∷ p
-    ∷ get_or l 0 0 / 32 % 256 ∷ get_or l 0 0 / 4 % 8 ∷ get_or l 0 0 % 4
-    ∷ get_or l 1 0 / 32 % 256 ∷ get_or l 1 0 / 4 % 8 ∷ get_or l 1 0 % 4
-    ∷ get_or l 2 0 / 32 % 256 ∷ get_or l 2 0 / 4 % 8 ∷ get_or l 2 0 % 4
-    ∷ get_or l 3 0 / 32 % 256 ∷ get_or l 3 0 / 4 % 8 ∷ get_or l 3 0 % 4 ∷ []
-unfolding slot_record slot_bytes
-four_bytes p l e = ap (slot_record p) (four l 0 e)
-
--- twelve numbers that are the tiles, kinds and sources of the slots are the record's bytes
 pub record_is :
-    (p : ℕ) (l : List ℕ) → length l ≡ 4 → (t₀ k₀ s₀ t₁ k₁ s₁ t₂ k₂ s₂ t₃ k₃ s₃ : ℕ)
-    → t₀ ≡ get_or l 0 0 / 32 % 256
-    → k₀ ≡ get_or l 0 0 / 4 % 8
-    → s₀ ≡ get_or l 0 0 % 4
-    → t₁ ≡ get_or l 1 0 / 32 % 256
-    → k₁ ≡ get_or l 1 0 / 4 % 8
-    → s₁ ≡ get_or l 1 0 % 4
-    → t₂ ≡ get_or l 2 0 / 32 % 256
-    → k₂ ≡ get_or l 2 0 / 4 % 8
-    → s₂ ≡ get_or l 2 0 % 4
-    → t₃ ≡ get_or l 3 0 / 32 % 256
-    → k₃ ≡ get_or l 3 0 / 4 % 8
-    → s₃ ≡ get_or l 3 0 % 4
-    → standard_bytes ∷ 0 ∷ 3 ∷ 0 ∷ p ∷ t₀ ∷ k₀ ∷ s₀ ∷ t₁ ∷ k₁ ∷ s₁ ∷ t₂ ∷ k₂ ∷ s₂ ∷ t₃ ∷ k₃ ∷ s₃ ∷ [] ≡ slot_record p l
-record_is p l h t₀ k₀ s₀ t₁ k₁ s₁ t₂ k₂ s₂ t₃ k₃ s₃ et₀ ek₀ es₀ et₁ ek₁ es₁ et₂ ek₂ es₂ et₃ ek₃ es₃ =
-    (λ i. standard_bytes ∷ 0 ∷ 3 ∷ 0 ∷ p ∷ et₀ i ∷ ek₀ i ∷ es₀ i ∷ et₁ i ∷ ek₁ i ∷ es₁ i ∷ et₂ i ∷ ek₂ i ∷ es₂ i ∷ et₃ i ∷ ek₃ i ∷ es₃ i ∷ []) ∙ sym (four_bytes p l h)
+    (p : ℕ) (l : List ℕ) → length l ≡ 4 → (a b c d : Meld)
+    → a ≡ meld_of (get_or l 0 0) → b ≡ meld_of (get_or l 1 0) → c ≡ meld_of (get_or l 2 0) → d ≡ meld_of (get_or l 3 0)
+    → standard_bytes ∷ 0 ∷ 3 ∷ 0 ∷ p ∷ a.tile ∷ a.kind ∷ a.source ∷ b.tile ∷ b.kind ∷ b.source ∷ c.tile ∷ c.kind ∷ c.source ∷ d.tile ∷ d.kind ∷ d.source ∷ []
+    ≡ slot_record p l
+unfolding slot_record slot_bytes
+record_is p l h a b c d e f g i = let u = ap (slot_record p) (four l 0 h) in cc
 
 pub record_length : (p : ℕ) (l : List ℕ) → length l ≡ 4 → length (slot_record p l) ≡ standard_bytes
-record_length p l e = ap length (four_bytes p l e)
+unfolding slot_record slot_bytes
+record_length p l e = ap (λ (s : List ℕ). length (slot_record p s)) (four l 0 e)
 
 -- ---- runs of stores
 

@@ -1,10 +1,10 @@
 -- How the code keeps the tiles that are left, in packed words; no rule of the game. These are definitions.
-use Rattle.std.specs.Prelude.{◌≡◌, ◌⊎◌, Bool, ◌&&◌, cond, ℕ, zero, suc, ◌+◌, ◌-◌, ◌/◌, ◌%◌, ◌≤◌, ◌<◌, eqb, leb}
+use Rattle.std.specs.Prelude.{◌≡◌, Bool, ◌&&◌, cond, ℕ, zero, suc, ◌+◌, ◌-◌, ◌/◌, ◌%◌, ◌≤◌, ◌<◌, eqb, leb}
 use Rattle.tile.specs.Tile.{is_start}
 use Rattle.meld.specs.declared.Meld.{Meld}
 use Rattle.meld.specs.Meld.{meld}
 use Rattle.hand.specs.Readings.{fits, is_empty, minus}
-use Rattle.search.specs.declared.Remaining.{Remaining}
+use Rattle.search.specs.declared.remaining.Remaining.{Remaining}
 
 -- the count at place k of a word, three bits a place, the lowest first
 unfoldable pub digit : ℕ → ℕ → ℕ
@@ -29,7 +29,7 @@ left s u = cond (leb s.tile u) (digit s.word (u - s.tile)) 0 + cond (leb 18 u) (
 pub record Fair (s : Split) : Type 0 where
   pub few : (u : ℕ) → left s u ≤ 4
   pub ends : (u : ℕ) → 34 ≤ u → left s u ≡ 0
-  pub apart : (s.rest ≡ 0) ⊎ ((k : ℕ) → 18 ≤ s.tile + k → digit s.word k ≡ 0)
+  pub apart : (s.rest ≡ 0 → ⊥) → (k : ℕ) → 18 ≤ s.tile + k → digit s.word k ≡ 0
 
 -- no tile is left
 unfoldable pub has_none_left : Split → Bool

@@ -19,6 +19,10 @@ put_all (x ∷ xs) slots = put_all xs (put x slots)
 unfoldable pub slots_of : List Meld → List ℕ
 slots_of ms = put_all (map key ms) (replicate 4 65535)
 
+-- the meld of a number
+abbrev pub meld_of : ℕ → Meld
+meld_of x = record { tile = x / 32 % 256; kind = x / 4 % 8; source = x % 4 }
+
 -- a meld's number as its tile, its kind and its source, a byte each
 unfoldable pub slot_bytes : List ℕ → List ℕ
 slot_bytes [] = []

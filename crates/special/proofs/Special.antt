@@ -2,27 +2,31 @@
 use mathlib.Core.Path.{◌≡◌, refl, sym, ap, ◌∙◌, subst}
 use mathlib.Core.Bool.{Bool, true, false, ◌&&◌, ◌||◌, not, cond, and-true, and-false}
 use mathlib.Core.List.{List, [], ◌∷◌, ◌++◌, map, append-nil, Memᴰ}
-use Prim.Native.Nat.{ℕ, suc, ◌+◌, ◌%◌, ◌≤◌, ◌<◌}
+use Prim.Native.Nat.{ℕ, ◌+◌, ◌%◌, ◌<◌}
 use native.Mathlib.Omega.{arith}
 use native.Mathlib.Numerals.{add-four}
-use lib.Dec.{T, eqb, ltb, eqb→eq}
+use lib.Dec.{T, eqb, eqb→eq}
 use lib.Count.{ones}
 use lib.ListN.{length, set}
 use lib.Seq.{sets}
-use borrow.Author.Tests.{eq-eqb, ne_eqb, lt-ltb}
+use borrow.Author.Tests.{eq-eqb, ne_eqb}
+use Rattle.std.specs.List.{find}
+use Rattle.std.specs.Option.{option_map, option_to_list}
+use Rattle.std.specs.Prelude.{Option, Some, None, IfSome}
 use Rattle.lists.specs.Fold.{all, count, keep, one, total}
 use Rattle.lists.proofs.Finite.{and_left, and_right, and_both, true→t, ¬T→false, or_elim}
 use Rattle.lists.proofs.Members.{all_mem, all_intro, map_members}
-use Rattle.lists.proofs.Kept.{keep_none}
+use Rattle.lists.proofs.Kept.{keep_none, keep_first, find_in}
 use Rattle.tile.specs.Tile.{is_terminal_or_honor, tiles}
-use Rattle.tile.proofs.Tiles.{in_tiles, tile_lt}
+use Rattle.tile.specs.declared.Tile.{Tile}
+use Rattle.tile.proofs.Tiles.{in_tiles, tile_lt, tiles_nodup}
 use Rattle.hand.specs.Reading.{pairs, orphans}
 use Rattle.hand.specs.Records.{record_of, records, two_bytes}
 use Rattle.hand.specs.Readings.{twos, is_pairs, seven_pairs, is_orphans, thirteen_orphans}
 use Rattle.hand.proofs.Tests.{seven_twos, orphans_exact, one_doubled}
+use Rattle.special.specs.Doubled.{doubled_in}
 use Rattle.special.specs.Kinds.{kinds_word}
 use Rattle.special.proofs.Words.{there, ones_kinds}
-use Rattle.special.proofs.Loops.{rest, rest_on, keep_pass, keep_end}
 
 -- ---- seven pairs
 
@@ -90,10 +94,6 @@ module _ (c : ℕ → ℕ) (p : ℕ) (h : T (is_orphans c p)) where
   orphan_kinds =
       ap total (map_members (λ t. one (there c t)) (λ t. one (is_terminal_or_honor t)) tiles (λ t m. ap one (orphan_there t m)))
 
-none_later : (c : ℕ → ℕ) (p : ℕ) → T (is_orphans c p) → p < 34 → keep (is_orphans c) (rest (p + 1)) ≡ []
-none_later c p h l =
-    keep_none (is_orphans c) (rest (p + 1)) (λ q m k. absurd (omega (arith, rest_on (p + 1) m, one_doubled c p q l h k)))
-
 module _ (c : ℕ → ℕ) where
   -- another number of kinds than thirteen
   pub orphans_none : (kinds : ℕ) → kinds ≡ kinds_word c → (ones kinds ≡ 13 → ⊥) → thirteen_orphans c ≡ []
@@ -101,27 +101,24 @@ module _ (c : ℕ → ℕ) where
   orphans_none kinds e f =
       ap (map orphans) (keep_none (is_orphans c) tiles (λ p m h. f (kinds_there c kinds e ∙ orphan_kinds c p h)))
 
-  module _ (p : ℕ) (left : keep (is_orphans c) tiles ≡ keep (is_orphans c) (rest p)) where
-    pub orphans_found : p < 34 → is_orphans c p ≡ true → thirteen_orphans c ≡ cond (ltb p 34) (orphans p ∷ []) []
-    unfolding thirteen_orphans
-    orphans_found l e =
-        ap (map orphans) (left ∙ keep_pass (is_orphans c) p l e ∙ ap (λ (r : List ℕ). p ∷ r) (none_later c p (true→t (is_orphans c p) e) l))
-        ∙ sym (ap (λ (b : Bool). cond b (orphans p ∷ []) []) (lt-ltb p 34 l))
+  -- thirteen orphans, where a tile is the first that is doubled in them: there is no other
+  pub orphans_found : (r : Option Tile) → option_map (λ (p : Tile). p.0) r ≡ find (is_orphans c) tiles → thirteen_orphans c ≡ doubled_in r
+  unfolding thirteen_orphans
+  orphans_found r e =
+      ap (map orphans)
+      (keep_first (is_orphans c) tiles tiles_nodup (λ p q i j s t. one_doubled c p q (tile_lt i) s t) ∙ ap option_to_list (sym e))
+      ∙ doubled r
+    where
+      doubled : (r : Option Tile) → map orphans (option_to_list (option_map (λ (p : Tile). p.0) r)) ≡ doubled_in r
+      doubled None = refl
+      doubled (Some p) = refl
 
-    pub orphans_end : 34 ≤ p → thirteen_orphans c ≡ []
-    unfolding thirteen_orphans
-    orphans_end l = ap (map orphans) (left ∙ keep_end (is_orphans c) p l)
+-- what is found among the tiles is one
+pub found_tile : (q : ℕ → Bool) (r : Option Tile) → option_map (λ (p : Tile). p.0) r ≡ find q tiles → IfSome r (λ p. p.0 < 34)
+found_tile q None e = tt
+found_tile q (Some p) e = tile_lt (find_in q tiles e)
 
 -- ---- records
-
-pub head_written :
-    (out : List ℕ) (at size kind : ℕ)
-    → set (set (set (set out at size) (at + 1) 0) (at + 2) kind) (at + 3) 0 ≡ sets out at (size ∷ 0 ∷ kind ∷ 0 ∷ [])
-head_written out at size kind =
-    let e : at + 1 ≡ suc at = omega arith in
-    let f : at + 2 ≡ suc (suc at) = omega arith in
-    let g : at + 3 ≡ suc (suc (suc at)) = omega arith in
-    rw (e, f, g)
 
 pub orphans_written :
     (out out' : List ℕ) (at p : ℕ) → out' ≡ sets out at (5 ∷ 0 ∷ 2 ∷ 0 ∷ []) → set out' (at + 4) p ≡ sets out at (record_of (orphans p))

@@ -6,6 +6,7 @@ use native.Mathlib.Nat.{pow-suc, pow-zero, pow-le-pow_right, lt_of_lt_of_le}
 use native.Mathlib.Omega.{arith}
 use lib.Dec.{eqb, lit<}
 use lib.Count.{ones, ones_step}
+use Rattle.std.specs.Int.{from_bool}
 use Rattle.lists.specs.Fold.{count, one, up_from}
 use Rattle.tile.specs.Tile.{tiles}
 use Rattle.special.specs.Kinds.{bits_from, kinds_word}
@@ -25,6 +26,18 @@ bit_le false = omega arith
 bit_one : (b : Bool) → cond b 0 1 ≡ one (not b)
 bit_one true = refl
 bit_one false = refl
+
+-- the yes or no in the code, as a number, is the tile's bit
+pub there_bit : (n : ℕ) → from_bool (not (eqb n 0)) ≡ cond (eqb n 0) 0 1
+there_bit n = go (eqb n 0)
+  where
+    go : (b : Bool) → from_bool (not b) ≡ cond b 0 1
+    go true = refl
+    go false = refl
+
+-- and at most 1
+pub there_le : (n r : ℕ) → r ≡ from_bool (not (eqb n 0)) → r ≤ 1
+there_le n r e = let b = bit_le (eqb n 0) in omega (arith, e, there_bit n)
 
 module _ (c : ℕ → ℕ) where
   -- ---- a one for each kind

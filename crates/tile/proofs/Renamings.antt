@@ -1,7 +1,7 @@
 -- Tests over the 12 renamings of the numbers alone, the 12 of the honors alone and all tiles that antt computes, and the laws of renamed tiles
 -- that they give for all 144: what a renaming does to a tile is done by one of its two parts. Assumes nothing.
 use mathlib.Core.Path.{◌≡◌, refl, sym, ap, subst, ◌∙◌}
-use mathlib.Core.Bool.{Bool, true, false, ◌&&◌, ◌||◌, beq}
+use mathlib.Core.Bool.{Bool, true, false, ◌&&◌, beq}
 use Prim.Native.Nat.{ℕ, ◌≤◌, ◌<◌}
 use native.Mathlib.Omega.{arith}
 use lib.Dec.{T, eqb, ltb, leb, eqb→eq, ltb→lt}

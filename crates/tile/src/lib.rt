@@ -74,14 +74,14 @@ impl Tile {
         (self.0 < 27) & (self.0 % 9 < 7)
     }
 
-    // The suit: 0 man, 1 pin, 2 sou; 3 where it is of no suit.
+    // The suit: 0 man, 1 pin, 2 sou; 3 where it is of no suit. A number and no Option, as the contract promises the one of `suit_of`.
     pub fn suit(self) -> u8
         ensures { result ≡ suit_of self.0 }
     {
         if self.0 < 27 { self.0 / 9 } else { 3 }
     }
 
-    // The number in its suit, 1 to 9; 0 where it is of no suit.
+    // The number in its suit, 1 to 9; 0 where it is of no suit: the one of `value_of`, likewise.
     pub fn value(self) -> u8
         ensures { result ≡ value_of self.0 }
     {
@@ -92,13 +92,10 @@ impl Tile {
     pub fn renamed(self, by: Renaming) -> Tile
         ensures { result.0 ≡ ren by self.0 }
     {
-        let t = self.0;
-        if t < 27 {
-            let numbers = by.numbers;
-            return Tile(numbers.of(t));
+        if self.0 < 27 {
+            Tile(by.numbers.of(self.0))
         } else {
-            let honors = by.honors;
-            return Tile(honors.of(t));
+            Tile(by.honors.of(self.0))
         }
     }
 }
@@ -118,13 +115,11 @@ pub enum Order {
 fn one_of(place: u8, a: u8, b: u8, c: u8) -> u8
     ensures { result ≡ three a b c place }
 {
-    if place == 0 {
-        return a;
+    match place {
+        0 => a,
+        1 => b,
+        _ => c,
     }
-    if place == 1 {
-        return b;
-    }
-    c
 }
 
 impl Order {
@@ -169,8 +164,7 @@ impl Numbers {
     pub fn of(self, t: u8) -> u8
         ensures { result ≡ ren_number self t }
     {
-        let suits = self.suits;
-        let suit = suits.of(t / 9);
+        let suit = self.suits.of(t / 9);
         if self.mirror {
             return suit * 9 + (8 - t % 9);
         }
@@ -187,8 +181,7 @@ impl Honors {
             return 64 - t;
         }
         if (28 <= t) & (t < 31) {
-            let winds = self.winds;
-            return 28 + winds.of(t - 28);
+            return 28 + self.winds.of(t - 28);
         }
         t
     }

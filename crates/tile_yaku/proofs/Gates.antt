@@ -5,11 +5,11 @@ use Prim.Native.Nat.{ℕ, zero, suc, ◌+◌, ◌*◌, ◌/◌, ◌%◌, ◌<◌
 use native.Mathlib.Omega.{arith}
 use lib.Dec.{T, eqb, leb, ltb, eqb→eq, leb→le}
 use borrow.Author.Tests.{lt-ltb, le-leb, eq-eqb}
-use Rattle.lists.specs.Fold.{all, sum, all_below}
+use Rattle.lists.specs.Fold.{all, any, sum, all_below}
 use Rattle.lists.proofs.Finite.{at, true→t}
 use Rattle.tile.specs.Tile.{is_honor, is_suited, tiles}
-use Rattle.tile_yaku.specs.Tiles.{some, one_suit, chinitsu, gate, nine_gates}
-use Rattle.tile_yaku.proofs.Below.{all_on, all_bad, all_tiles, some_of, some_none}
+use Rattle.tile_yaku.specs.Tiles.{some, one_suit, suits, chinitsu, gate, nine_gates}
+use Rattle.tile_yaku.proofs.Below.{all_bad, all_tiles, some_of, some_none}
 use Rattle.tile_yaku.proofs.Questions.{only_not}
 use Rattle.tile_yaku.proofs.Suits.{there_at, present, one_suit_by}
 
@@ -24,23 +24,10 @@ gate_at_holds c of s n h k =
     let l : ltb (s * 9 + n) 27 ≡ true = lt-ltb (s * 9 + n) 27 (omega arith) in
     rw (d, m, l)
 
--- ---- the walk: a tile that fits, one that does not, the next suit, and the end
-module _ (c : ℕ → ℕ) (of s n : ℕ) (b : Bool) (h : s < 3) (k : n < 9) where
-  pub fits : b ≡ gate_at c of s n → b ≡ true → all_below (s * 9 + n) (gate c of) ≡ true → all_below (s * 9 + (n + 1)) (gate c of) ≡ true
-  fits e f so =
-      let q : (s * 9 + n) + 1 ≡ s * 9 + (n + 1) = omega arith in
-      subst (λ (i : ℕ). all_below i (gate c of) ≡ true) q (all_on (gate c of) (s * 9 + n) so (sym (gate_at_holds c of s n h k) ∙ sym e ∙ f))
-
-  pub misfit : b ≡ gate_at c of s n → b ≡ false → false ≡ all_below 27 (gate c of)
-  misfit e f = sym (all_bad (gate c of) 27 (s * 9 + n) (omega arith) (sym (gate_at_holds c of s n h k) ∙ sym e ∙ f))
-
-pub first_number : (c : ℕ → ℕ) (of s : ℕ) → all_below (s * 9) (gate c of) ≡ true → all_below (s * 9 + 0) (gate c of) ≡ true
-first_number c of s so = let q : s * 9 ≡ s * 9 + 0 = omega arith in subst (λ (i : ℕ). all_below i (gate c of) ≡ true) q so
-
-pub next_suit :
-    (c : ℕ → ℕ) (of s n : ℕ) → 9 ≤ n → n ≤ 9 → all_below (s * 9 + n) (gate c of) ≡ true → all_below ((s + 1) * 9) (gate c of) ≡ true
-next_suit c of s n h k so =
-    let q : s * 9 + n ≡ (s + 1) * 9 = omega arith in subst (λ (i : ℕ). all_below i (gate c of) ≡ true) q so
+-- ---- the walk: a tile that does not fit, and the end
+pub misfit :
+    (c : ℕ → ℕ) (of s n : ℕ) (b : Bool) → s < 3 → n < 9 → b ≡ gate_at c of s n → b ≡ false → false ≡ all_below 27 (gate c of)
+misfit c of s n b h k e f = sym (all_bad (gate c of) 27 (s * 9 + n) (omega arith) (sym (gate_at_holds c of s n h k) ∙ sym e ∙ f))
 
 pub all_suits : (c : ℕ → ℕ) (of s : ℕ) → 3 ≤ s → s ≤ 3 → all_below (s * 9) (gate c of) ≡ true → true ≡ all_below 27 (gate c of)
 all_suits c of s h k so =
@@ -136,16 +123,16 @@ module _ (c : ℕ → ℕ) (flush : Bool) (e : flush ≡ chinitsu c) where
   no_honor h = flush_honor (some is_honor c) (one_suit c) (sym e ∙ h)
 
   -- in one: not where no suit has the gates, else where there are 14 tiles
-  module _
-      (k : flush ≡ true) (a b d : Bool) (f : a ≡ all_below 27 (gate c 0)) (g : b ≡ all_below 27 (gate c 1)) (h : d ≡ all_below 27 (gate c 2))
-    where
-      by_suits : nine_gates c ≡ ((a || (b || d)) && fourteen c)
-      by_suits =
-          nine_gates_are c
-          ∙ ap₂ (λ (x y : Bool). not x && y && fourteen c) (no_honor k) (sym (ap₂ ◌||◌ f (ap₂ ◌||◌ g h)))
+  module _ (k : flush ≡ true) (b : Bool) (f : b ≡ any (λ s. all_below 27 (gate c s)) suits) where
+    by_suits : nine_gates c ≡ (b && fourteen c)
+    by_suits = nine_gates_are c ∙ ap₂ (λ (x y : Bool). not x && y && fourteen c) (no_honor k) (sym (f ∙ three_gates))
+      where
+        three_gates : any (λ s. all_below 27 (gate c s)) suits ≡ some_gates c
+        three_gates =
+            ap (λ (x : Bool). all_below 27 (gate c 0) || (all_below 27 (gate c 1) || x)) (or-false (all_below 27 (gate c 2)))
 
-      pub not_in_suits : (a || (b || d)) ≡ false → false ≡ nine_gates c
-      not_in_suits n = sym (by_suits ∙ ap (λ (x : Bool). x && fourteen c) n)
+    pub not_in_suits : b ≡ false → false ≡ nine_gates c
+    not_in_suits n = sym (by_suits ∙ ap (λ (x : Bool). x && fourteen c) n)
 
-      pub by_total : (a || (b || d)) ≡ true → fourteen c ≡ nine_gates c
-      by_total y = sym (by_suits ∙ ap (λ (x : Bool). x && fourteen c) y)
+    pub by_total : b ≡ true → fourteen c ≡ nine_gates c
+    by_total y = sym (by_suits ∙ ap (λ (x : Bool). x && fourteen c) y)

@@ -3,8 +3,7 @@
 use mathlib.Core.Path.{◌≡◌, refl, sym, ap, ap₂, ◌∙◌}
 use mathlib.Core.Bool.{Bool, true, false, ◌&&◌, ◌||◌, not, and-false, and_self, beq}
 use mathlib.Core.List.{List, [], ◌∷◌}
-use Prim.Native.Nat.{ℕ, ◌+◌, ◌%◌, ◌<◌, ◌≤◌}
-use native.Mathlib.Omega.{arith}
+use Prim.Native.Nat.{ℕ, ◌+◌, ◌≤◌}
 use lib.Dec.{T, eqb, leb}
 use Rattle.lists.specs.Fold.{all, any}
 use Rattle.lists.proofs.Finite.{and_left, and_right, beq→eq, leb_one}
@@ -64,24 +63,17 @@ Flags c i simple terminal honor other =
     × ((honor ≡ some_below i (there c is_honor)) × (other ≡ some_below i (there c (λ t. not (is_green t))))))
 
 module _ (c : ℕ → ℕ) (i : ℕ) where
-  flag :
-      (q : ℕ → Bool) (b x : Bool) → i < 34 → b ≡ some_below i (there c q) → x ≡ q (i % 256)
-      → (b || (leb 1 (c i) && x)) ≡ some_below (i + 1) (there c q)
-  flag q b x h e f =
-      let m : i % 256 ≡ i = omega arith in
-      flag_on (there c q) i b (leb 1 (c i) && x) e (ap (λ (y : Bool). leb 1 (c i) && y) (f ∙ ap q m))
+  flag : (q : ℕ → Bool) (b x : Bool) → b ≡ some_below i (there c q) → x ≡ q i → (b || (leb 1 (c i) && x)) ≡ some_below (i + 1) (there c q)
+  flag q b x e f = flag_on (there c q) i b (leb 1 (c i) && x) e (ap (λ (y : Bool). leb 1 (c i) && y) f)
 
   pub flags_on :
-      {simple terminal honor other : Bool} → i < 34 → Flags c i simple terminal honor other → (s t h g : Bool)
-      → s ≡ is_simple (i % 256) → t ≡ is_terminal (i % 256) → h ≡ is_honor (i % 256) → g ≡ is_green (i % 256)
+      {simple terminal honor other : Bool} → Flags c i simple terminal honor other → (s t h g : Bool)
+      → s ≡ is_simple i → t ≡ is_terminal i → h ≡ is_honor i → g ≡ is_green i
       → Flags c (i + 1) (simple || (leb 1 (c i) && s)) (terminal || (leb 1 (c i) && t)) (honor || (leb 1 (c i) && h))
       (other || (leb 1 (c i) && not g))
-  flags_on {simple} {terminal} {honor} {other} k f s t h g d e u v = (
-    flag is_simple simple s k f.0 d,
-    (
-      flag is_terminal terminal t k f.1.0 e,
-      (flag is_honor honor h k f.1.1.0 u, flag (λ t. not (is_green t)) other (not g) k f.1.1.1 (ap not v)),
-    ),
+  flags_on {simple} {terminal} {honor} {other} f s t h g d e u v = (
+    flag is_simple simple s f.0 d,
+    (flag is_terminal terminal t f.1.0 e, (flag is_honor honor h f.1.1.0 u, flag (λ t. not (is_green t)) other (not g) f.1.1.1 (ap not v))),
   )
 
   pub flags_end :

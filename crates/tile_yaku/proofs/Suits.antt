@@ -5,7 +5,9 @@ use Prim.Native.Nat.{ℕ, zero, suc, ◌+◌, ◌*◌, ◌<◌, ◌≤◌}
 use native.Mathlib.Numerals.{add-one}
 use native.Mathlib.Omega.{arith}
 use lib.Dec.{eqb, ltb, leb}
-use borrow.Author.Tests.{lt-ltb, le-ltb, ne_eqb}
+use borrow.Author.Tests.{lt-ltb, le-ltb, ne_eqb, ltb-true, ltb-false}
+use Rattle.std.specs.Prelude.{Option, Some, None, IfSome, MatchOption, unwrap_or}
+use Rattle.std.specs.Option.{is_some}
 use Rattle.lists.specs.Fold.{one}
 use Rattle.tile_yaku.specs.Tiles.{some, of_suit, one_suit}
 use Rattle.tile_yaku.proofs.Below.{some_below, some_on, some_same, some_of, any_tiles}
@@ -35,9 +37,17 @@ abbrev pub only_suit : (ℕ → ℕ) → ℕ → ℕ
 only_suit c zero = 3
 only_suit c (suc s) = step (only_suit c s) s (present c s)
 
+-- the suit that was found, or 3
+abbrev pub found_suit : Option ℕ → ℕ
+found_suit o = unwrap_or o 3
+
 -- before the number n of the suit s: o is the only suit so far, and there are not several
-abbrev pub SoFar : (ℕ → ℕ) → ℕ → ℕ → ℕ → Type 0
-SoFar c s n o = (o ≡ step (only_suit c s) s (some_below n (there_at c s))) × (o ≤ 3)
+abbrev pub SoFar : (ℕ → ℕ) → ℕ → ℕ → Option ℕ → Type 0
+SoFar c s n o = (found_suit o ≡ step (only_suit c s) s (some_below n (there_at c s))) × IfSome o (λ u. u < 3)
+
+suit_le : (o : Option ℕ) → IfSome o (λ u. u < 3) → found_suit o ≤ 3
+suit_le None h = omega arith
+suit_le (Some u) h = omega arith
 
 step_same : (u s : ℕ) (b : Bool) → step u s b ≤ 3 → s ≤ step u s b → s ≡ step u s true
 step_same u s true h k = go (ltb u s || eqb u 4) h
@@ -59,22 +69,38 @@ step_several : (s : ℕ) (b : Bool) → step 4 s b ≡ 4
 step_several s false = refl
 step_several s true = ap (λ (x : Bool). cond x 4 s) (or-true (ltb 4 s))
 
+-- is a suit below s found? P says of a suit what the answer b is
+pub below_suit :
+    (o : Option ℕ) (s : ℕ) (b : Bool) {P : ℕ → Type 0} → s ≤ 3 → MatchOption o (b ≡ false) P → ((u : ℕ) → P u → b ≡ ltb u s)
+    → b ≡ ltb (found_suit o) s
+below_suit None s b k e f = e ∙ sym (le-ltb 3 s k)
+below_suit (Some u) s b k e f = f u e
+
+-- one is found where it is below 3
+pub some_suit_found : (o : Option ℕ) → IfSome o (λ u. u < 3) → is_some o ≡ ltb (found_suit o) 3
+some_suit_found None h = refl
+some_suit_found (Some u) h = sym (lt-ltb u 3 h)
+
 -- a number that is not there, a tile of the suit, and a tile of a second suit
-module _ (c : ℕ → ℕ) (s n o : ℕ) (so : SoFar c s n o) where
+module _ (c : ℕ → ℕ) (s n : ℕ) (o : Option ℕ) (so : SoFar c s n o) where
   pub skip : there_at c s n ≡ false → SoFar c s (n + 1) o
   skip e = (so.0 ∙ ap (step (only_suit c s) s) (sym (some_same (there_at c s) n e)), so.1)
 
-  pub found : there_at c s n ≡ true → s < 3 → s ≤ o → SoFar c s (n + 1) s
+  -- what was found so far is 3 at most
+  small : step (only_suit c s) s (some_below n (there_at c s)) ≤ 3
+  small = subst (λ (x : ℕ). x ≤ 3) so.0 (suit_le o so.1)
+
+  pub found : there_at c s n ≡ true → s < 3 → ltb (found_suit o) s ≡ false → SoFar c s (n + 1) (Some s)
   found e h k = (
-    step_same (only_suit c s) s (some_below n (there_at c s)) (subst (λ (x : ℕ). x ≤ 3) so.0 so.1) (subst (λ (x : ℕ). s ≤ x) so.0 k)
+    step_same (only_suit c s) s (some_below n (there_at c s)) small (subst (λ (x : ℕ). s ≤ x) so.0 (ltb-false (found_suit o) s k))
         ∙ ap (step (only_suit c s) s) (sym (some_on (there_at c s) n e)),
-    omega arith,
+    h,
   )
 
-  pub second : there_at c s n ≡ true → n < 9 → o < s → only_suit c (suc s) ≡ 4
+  pub second : there_at c s n ≡ true → n < 9 → ltb (found_suit o) s ≡ true → only_suit c (suc s) ≡ 4
   second e h k =
       ap (step (only_suit c s) s) (some_of (there_at c s) n 9 h e)
-      ∙ step_second (only_suit c s) s (some_below n (there_at c s)) (subst (λ (x : ℕ). x ≤ 3) so.0 so.1) (subst (λ (x : ℕ). x < s) so.0 k)
+      ∙ step_second (only_suit c s) s (some_below n (there_at c s)) small (subst (λ (x : ℕ). x < s) so.0 (ltb-true (found_suit o) s k))
 
   -- after the ninth number the suit is done
   pub next_suit : 9 ≤ n → n ≤ 9 → SoFar c (s + 1) 0 o
@@ -108,8 +134,10 @@ only_last c =
     ∙ sym (one_suit_by c (present c 0) (present c 1) (present c 2) refl refl refl)
 
 -- the end after all suits, and the end at a second suit
-pub flush_end : (c : ℕ → ℕ) (s o : ℕ) → 3 ≤ s → s ≤ 3 → SoFar c s 0 o → ltb o 3 ≡ one_suit c
-flush_end c s o h k so = let e : s ≡ 3 = omega arith in ap (λ (x : ℕ). ltb x 3) (so.0 ∙ ap (only_suit c) e) ∙ only_last c
+pub flush_end : (c : ℕ → ℕ) (s : ℕ) (o : Option ℕ) → 3 ≤ s → s ≤ 3 → SoFar c s 0 o → is_some o ≡ one_suit c
+flush_end c s o h k so =
+    let e : s ≡ 3 = omega arith in
+    some_suit_found o so.1 ∙ ap (λ (x : ℕ). ltb x 3) (so.0 ∙ ap (only_suit c) e) ∙ only_last c
 
 pub flush_not : (c : ℕ → ℕ) (s : ℕ) → s < 3 → only_suit c (suc s) ≡ 4 → false ≡ one_suit c
 flush_not c s h e = sym (ap (λ (x : ℕ). ltb x 3) (go s h e)) ∙ only_last c

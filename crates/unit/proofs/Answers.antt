@@ -3,17 +3,38 @@
 use mathlib.Core.Path.{◌≡◌, sym, ap, ◌∙◌}
 use mathlib.Core.Bool.{Bool, true, ◌&&◌, cond}
 use mathlib.Core.List.{List, ◌++◌}
-use Prim.Native.Nat.{ℕ, ◌+◌, ◌≤◌, ◌<◌}
+use Prim.Native.Nat.{ℕ, ◌≤◌, ◌<◌}
 use lib.Dec.{eqb, leb}
 use lib.ListN.{length, drop}
 use lib.Seq.{sets}
 use Rattle.lists.proofs.Stores.{sets_first}
 use borrow.Author.Tests.{eq-eqb, ne_eqb, le-leb, lt-leb}
 use Rattle.rules.specs.Rules.{Game}
+use Rattle.rules.specs.declared.refusals.Refusal.{Refusal}
+use Rattle.rules.specs.declared.refusals.Refusal.TheVariants.{CountsLength, TooManyCalls, NotACall, CountAboveFour, FiveOfAKind, NumberOfTiles, BufferTooShort, OutOfRange, WinningTile, NoReading, NoYaku, NoSuchReading, BasicPoints, Indicators, Seats, Book}
+use Rattle.rules.specs.Refusals.{refusal_number}
 use Rattle.checks.specs.declared.Calls.{Calls}
 use Rattle.checks.specs.Checks.{hand_check_in}
-use Rattle.unit.specs.declared.Listing.TheVariants.{Refused, Listed}
-use Rattle.unit.specs.Listing.{hand_readings, hand_records, listing_in, written_in}
+use Rattle.unit.specs.Listing.{Refused, Listed, hand_readings, hand_records, listing_in, written_in}
+
+-- no refusal has the number 0
+pub refuses : (e : Refusal) → refusal_number e ≡ 0 → ⊥
+refuses CountsLength h = cc
+refuses TooManyCalls h = cc
+refuses NotACall h = cc
+refuses CountAboveFour h = cc
+refuses FiveOfAKind h = cc
+refuses NumberOfTiles h = cc
+refuses BufferTooShort h = cc
+refuses OutOfRange h = cc
+refuses WinningTile h = cc
+refuses NoReading h = cc
+refuses NoYaku h = cc
+refuses NoSuchReading h = cc
+refuses BasicPoints h = cc
+refuses Indicators h = cc
+refuses Seats h = cc
+refuses Book h = cc
 
 module _ (g : Game) (cs : List ℕ) (k : Calls) where
   -- ---- refused by a check

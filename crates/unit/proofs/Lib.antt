@@ -1,5 +1,5 @@
 pub mod Standards
-pub mod Listed
+pub mod Passes
 pub mod Answers
 pub mod Special
 pub mod Refusals

@@ -1,6 +1,6 @@
 -- What refuses a listing, by examples: the room that is lent, one byte too few and just enough; and a check of the hand before it. Assumes nothing.
 use mathlib.Core.Path.{◌≡◌, refl}
-use mathlib.Core.List.{List, [], ◌∷◌, ◌++◌}
+use mathlib.Core.List.{List, [], ◌++◌}
 use Prim.Native.Nat.{ℕ, ◌-◌}
 use lib.ListN.{take}
 use Rattle.tile.specs.Named.{mans, pins, sous}
@@ -9,8 +9,7 @@ use Rattle.hand.specs.Records.{record_of, standard_bytes}
 use Rattle.hand.specs.Readings.{readings, seven_pairs, thirteen_orphans, standards_at, meld_lists}
 use Rattle.checks.specs.declared.Calls.{Calls}
 use Rattle.checks.specs.Checks.{check, hand_check_in}
-use Rattle.unit.specs.declared.Listing.TheVariants.{Refused, Listed}
-use Rattle.unit.specs.Listing.{number_of, hand_readings, hand_records, listing, listing_in}
+use Rattle.unit.specs.Listing.{Refused, Listed, number_of, hand_readings, hand_records, listing, listing_in}
 
 abbrev nothing_called : Calls
 nothing_called = record { count = 0; melds = [] }

@@ -17,9 +17,7 @@ use Rattle.checks.specs.Checks.{hand_check_in}
 use Rattle.checks.specs.Refusals.{hand_checks}
 use Rattle.checks.proofs.InOrder.{then_checks, exactly}
 use Rattle.checks.proofs.Refusals.{hand_refusals}
-use Rattle.unit.specs.declared.Listing.{Listing}
-use Rattle.unit.specs.declared.Listing.TheVariants.{Refused, Listed}
-use Rattle.unit.specs.Listing.{number_of, readings_of, bytes_of, hand_readings, hand_records, listing_in, written_in}
+use Rattle.unit.specs.Listing.{Listing, Refused, Listed, number_of, readings_of, bytes_of, hand_readings, hand_records, listing_in, written_in}
 use Rattle.unit.specs.Refusals.{room_check, list_checks, RefusedAlone}
 use Rattle.unit.proofs.Answers.{refused_answer, refused_buffer, short_answer, short_buffer, listed_answer}
 

@@ -1,14 +1,25 @@
 -- What listing the readings of a hand answers, and what it leaves in the lent buffer. These are definitions.
-use Rattle.std.specs.Prelude.{◌&&◌, cond, List, ◌++◌, ℕ, eqb, leb, length, drop}
+use Rattle.std.specs.Prelude.{◌&&◌, cond, List, ◌++◌, ℕ, eqb, leb, length, drop, Result, Ok, Err}
 use Rattle.rules.specs.Rules.{Game, four}
+use Rattle.rules.specs.declared.refusals.Refusal.{Refusal}
+use Rattle.rules.specs.Refusals.{refusal_number}
 use Rattle.hand.specs.Counts.{held}
 use Rattle.hand.specs.Reading.{Reading}
 use Rattle.hand.specs.Records.{records}
 use Rattle.hand.specs.Readings.{readings}
 use Rattle.checks.specs.declared.Calls.{Calls}
 use Rattle.checks.specs.Checks.{called, hand_check_in}
-use Rattle.unit.specs.declared.Listing.{Listing}
-use Rattle.unit.specs.declared.Listing.TheVariants.{Refused, Listed}
+use Rattle.unit.specs.declared.Listed.{Listed as ListedPart}
+
+-- the answer to a listing: refused with a number, or listed, with the count of readings and the count of bytes written
+pub data Listing : Type 0 where
+  Refused : ℕ → Listing
+  Listed : ℕ → ℕ → Listing
+
+-- the code's answer
+abbrev pub answer_of : Result ListedPart Refusal → Listing
+answer_of (Ok l) = Listed l.readings l.bytes
+answer_of (Err e) = Refused (refusal_number e)
 
 -- the numbers of an answer: the refusal, 0 where accepted; the count of readings; the count of bytes written
 abbrev pub number_of : Listing → ℕ

@@ -13,7 +13,6 @@ use Rattle.hand.specs.Counts.{held}
 use Rattle.checks.specs.Checks.{called, together}
 use Rattle.checks.proofs.Added.{uses_of}
 use Rattle.checks.proofs.Four.{four_test}
-use borrow.Author.Rules.{rules}
 use Rattle.checks.proofs.together_at_most_four.Goals as goal
 
 pub returns-then-k-eq0 : goal.returns-then-k-eq0
@@ -22,7 +21,7 @@ returns-then-k-eq0 c =
     let k = c.args.k in
     sym
     (T→true (all (λ t. leb (together cs (called k) t) 4) tiles)
-    (four_test (together cs (called k)) (λ t h. omega (arith, c.requires.1.0 t, ap (λ (n : ℕ). uses_of (take n k.melds) t) c.if-k-eq0.true))))
+    (four_test (together cs (called k)) (λ t h. omega (arith, c.requires.0 t, ap (λ (n : ℕ). uses_of (take n k.melds) t) c.if-k-eq0.true))))
 
 pub returns : goal.returns
 returns c =

@@ -1,7 +1,6 @@
 use mathlib.Core.Path.{◌≡◌, subst}
-use Prim.Native.Nat.{ℕ, ◌-◌, ◌≤◌}
+use Prim.Native.Nat.{ℕ, ◌-◌}
 use native.Mathlib.Omega.{arith}
-use borrow.Author.Rules.{rules}
 use Rattle.hand.specs.Counts.{held}
 use Rattle.decompose.specs.Packed.{pack_from}
 use Rattle.decompose.proofs.Words.{pack_none, pack_more, pack_small}
@@ -14,7 +13,7 @@ pub overflow_mul-word : goal.overflow_mul-word
 overflow_mul-word c =
     let l = c.loop-i in
     let a = c.args in
-    omega (arith, pack_small (held a.counts.now) c.requires.1.1.1.1 (a.to - l.i) l.i (omega arith))
+    omega (arith, pack_small (held a.counts.now) c.requires.1.1.1 (a.to - l.i) l.i (omega arith))
 
 pub overflow_add-word : goal.overflow_add-word
 overflow_add-word c =
@@ -22,8 +21,8 @@ overflow_add-word c =
     let a = c.args in
     omega (
       arith,
-      c.requires.1.1.1.1 (l.i - 1),
-      pack_small (held a.counts.now) c.requires.1.1.1.1 (a.to - l.i) l.i (omega arith),
+      c.requires.1.1.1 (l.i - 1),
+      pack_small (held a.counts.now) c.requires.1.1.1 (a.to - l.i) l.i (omega arith),
     )
 
 pub loop-i-preserved : goal.loop-i-preserved

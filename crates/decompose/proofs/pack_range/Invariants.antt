@@ -1,11 +1,8 @@
 -- `decompose::pack_range` meets its contract. The loop's invariant: the counts from `i` on are packed. Assumes nothing.
-use mathlib.Core.Path.{◌≡◌, subst}
-use Prim.Native.Nat.{ℕ, ◌-◌, ◌≤◌}
-use native.Mathlib.Omega.{arith}
-use borrow.Author.Rules.{rules}
+use mathlib.Core.Path.{◌≡◌}
+use Prim.Native.Nat.{◌-◌, ◌≤◌}
 use Rattle.hand.specs.Counts.{held}
 use Rattle.decompose.specs.Packed.{pack_from}
-use Rattle.decompose.proofs.Words.{pack_none, pack_more, pack_small}
 use Rattle.decompose.proofs.pack_range.Given as goal
 
 abbrev pub invariant-loop-i : goal.invariant-loop-i

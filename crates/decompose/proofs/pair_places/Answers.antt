@@ -2,7 +2,6 @@
 use mathlib.Core.Path.{refl, sym, ◌∙◌}
 use Rattle.hand.specs.Counts.{held}
 use Rattle.decompose.proofs.Places.{man_weight, pin_weight, sou_weight, honors_weight, nowhere, somewhere}
-use borrow.Author.Rules.{rules}
 use Rattle.decompose.proofs.pair_places.Goals as goal
 
 pub returns-then-man-pin-ne2 : goal.returns-then-man-pin-ne2

@@ -1,32 +1,32 @@
-use mathlib.Core.Path.{◌≡◌, refl, ap, ◌∙◌}
-use Prim.Native.Nat.{ℕ, ◌-◌, ◌*◌, ◌≤◌}
-use native.Mathlib.Omega.{arith}
-use lib.ListN.{length, get_or, take}
+-- `count_of` meets its contract: what is held of each tile shown is summed, and is four at most. Assumes nothing.
+use Rattle.std.proofs.Common.{rules, tests, arith, ℕ, List, ◌∙◌}
+use Rattle.std.proofs.lemmas.Iterator.{YieldsList-from_slice, YieldsList-from_map}
+use Rattle.std.proofs.lemmas.Iterator.Consumers.{sum_by_from_yields_List, fits_by_from_yields_list}
+use Rattle.lists.proofs.Chains.{sum_is}
 use Rattle.hand.specs.Counts.{held}
-use borrow.Author.Rules.{rules}
-use Rattle.dora.specs.Dora.{dora_of, count_of}
-use Rattle.dora.proofs.Turns.{count_next}
+use Rattle.context.specs.Context.{shown}
+use Rattle.dora.specs.Dora.{dora_of}
+use Rattle.dora.proofs.Counting.{forty_at_most}
 use Rattle.dora.proofs.count_of.Goals as goal
 
-pub loop-at-init : goal.loop-at-init
-loop-at-init c = (refl, (omega arith, (omega arith, search rules)))
+-- what an indicator adds
+abbrev adds : List ℕ → ℕ → ℕ
+adds counts t = held counts (dora_of t)
 
-pub overflow_add-n : goal.overflow_add-n
-overflow_add-n c =
-    let four = c.requires.1.0 (dora_of (get_or c.args.i.tiles c.loop-at.at 0)) in
-    omega (arith, c.held_by-n.ensures, four, c.loop-at.invariant, c.requires, c.places-count.ensures)
-
-pub loop-at-preserved : goal.loop-at-preserved
-loop-at-preserved c =
-    let l = c.loop-at in
-    let four = c.requires.1.0 (dora_of (get_or c.args.i.tiles l.at 0)) in
-    let next = count_next (held c.args.counts.now) c.args.i.tiles l.at (omega (arith, l.invariant, c.requires, c.places-count.ensures)) in (
-      omega (arith, next, l.invariant.0, c.held_by-n.ensures),
-      (omega (arith, four, c.held_by-n.ensures, l.invariant.1.0), (omega arith, l.invariant.1.1.1)),
-    )
+pub sum-requires-clause-fits : goal.sum-requires-clause-fits
+sum-requires-clause-fits c =
+    let each = adds c.args.counts.now in
+    let i = c.args.i in
+    fits_by_from_yields_list each (shown i) c.map.result 256
+    (YieldsList-from_map _ each (YieldsList-from_slice (shown i) cc) c.map.ensures.closure (λ x r q k. search (rules, tests)))
+    (omega (arith, sum_is each (shown i), forty_at_most (held c.args.counts.now) c.requires.0 i c.requires.1))
 
 pub returns : goal.returns
 returns c =
-    let l = c.loop-at in
-    let whole : l.at ≡ c.args.i.count = omega (arith, c.loop-at-test.false, l.invariant, c.places-count.ensures) in
-    (l.invariant.0 ∙ ap (λ (n : ℕ). count_of (held c.args.counts.now) (take n c.args.i.tiles)) whole, omega (arith, l.invariant.1.0, whole, c.requires))
+    let each = adds c.args.counts.now in
+    let i = c.args.i in
+    let sum =
+    sum_by_from_yields_List each (shown i) c.map.result c.sum.result c.sum.ensures.ran
+    (YieldsList-from_map _ each (YieldsList-from_slice (shown i) cc) c.map.ensures.closure (λ x r q k. search (rules, tests)))
+    ∙ sum_is each (shown i) in
+    (sum, omega (arith, sum, forty_at_most (held c.args.counts.now) c.requires.0 i c.requires.1))

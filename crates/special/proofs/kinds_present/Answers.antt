@@ -1,36 +1,28 @@
-use mathlib.Core.Path.{◌≡◌}
-use Prim.Native.Nat.{◌≤◌}
-use native.Mathlib.Omega.{arith}
-use lib.ListN.{length}
-use borrow.Author.Rules.{rules}
+use Rattle.std.proofs.Common.{arith, ◌∙◌}
 use Rattle.hand.specs.Counts.{held}
-use Rattle.special.proofs.Words.{word_from, word_end, word_more, word_first, word_small}
+use Rattle.special.proofs.Words.{word_end, word_more, word_first, word_small, there_bit, there_le}
 use Rattle.special.proofs.kinds_present.Goals as goal
 
-pub loop-i-init : goal.loop-i-init
-loop-i-init c = (omega arith, c.requires, word_end (held c.args.counts.now))
+pub loop-t-init : goal.loop-t-init
+loop-t-init c = word_end (held c.args.counts.now)
 
 pub overflow_mul-word : goal.overflow_mul-word
 overflow_mul-word c =
-    let l = c.loop-i in
-    omega (arith, word_small (held c.args.counts.now) l.i l.word l.invariant.2)
+    let l = c.loop-t in
+    omega (arith, word_small (held c.args.counts.now) l.t l.word l.invariant)
 
 pub overflow_add-word : goal.overflow_add-word
 overflow_add-word c =
-    let l = c.loop-i in
-    let a = c.args in
-    omega (arith, word_small (held a.counts.now) l.i l.word l.invariant.2, c.bit_of.ensures.1)
+    let l = c.loop-t in
+    omega (arith, word_small (held c.args.counts.now) l.t l.word l.invariant, there_le _ _ c.from.ensures)
 
-pub loop-i-preserved : goal.loop-i-preserved
-loop-i-preserved c =
-    let l = c.loop-i in
-    let a = c.args in (
-      omega arith,
-      l.invariant.1,
-      word_more (held a.counts.now) l.i l.word c.bit_of.result (omega arith) l.invariant.0 l.invariant.2 c.bit_of.ensures.0,
-    )
+pub loop-t-preserved : goal.loop-t-preserved
+loop-t-preserved c =
+    let l = c.loop-t in
+    let h = held c.args.counts.now in
+    word_more h l.t l.word c.from.result c.loop-t-test.true l.auto.t l.invariant (c.from.ensures ∙ there_bit _)
 
 pub returns : goal.returns
 returns c =
-    let l = c.loop-i in
-    word_first (held c.args.counts.now) l.i l.word (omega arith) l.invariant.2
+    let l = c.loop-t in
+    word_first (held c.args.counts.now) l.t l.word c.loop-t-test.false l.invariant

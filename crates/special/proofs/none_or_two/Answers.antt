@@ -1,34 +1,14 @@
-use mathlib.Core.Path.{◌≡◌, sym, ap, ◌∙◌}
-use mathlib.Core.List.{List}
-use Prim.Native.Nat.{ℕ, ◌-◌, ◌≤◌}
-use native.Mathlib.Omega.{arith}
-use lib.ListN.{length}
-use borrow.Author.Rules.{rules}
-use borrow.Author.Tests.{not-true, not-false}
-use Rattle.lists.specs.Fold.{all}
-use Rattle.tile.specs.Tile.{tiles}
-use Rattle.hand.specs.Counts.{held}
-use Rattle.special.proofs.Loops.{rest, rest_first, all_pass, all_fail, all_end}
-use Rattle.special.proofs.Special.{none_or_two}
+-- `special::none_or_two` meets its contract. Assumes nothing.
+use Rattle.std.proofs.Common.{rules, tests, ◌||◌, eqb, ◌∙◌}
+use Rattle.std.proofs.lemmas.Iterator.{YieldsList-from_slice}
+use Rattle.std.proofs.lemmas.Iterator.Search.{all_from_yields_List}
+use Rattle.lists.proofs.Chains.{all_is}
+use Rattle.lists.proofs.Elements.{all_by_place}
 use Rattle.special.proofs.none_or_two.Goals as goal
-
-pub loop-i-init : goal.loop-i-init
-loop-i-init c =
-    (omega arith, c.requires, ap (λ (l : List ℕ). all (none_or_two (held c.args.counts.now)) l) (sym rest_first))
-
-pub returns-then-not-x : goal.returns-then-not-x
-returns-then-not-x c =
-    let l = c.loop-i in
-    let a = c.args in
-    sym (l.invariant.2 ∙ all_fail (none_or_two (held a.counts.now)) l.i (omega arith) (c.if-not-x.true))
-
-pub loop-i-preserved : goal.loop-i-preserved
-loop-i-preserved c =
-    let l = c.loop-i in
-    let a = c.args in
-    (omega arith, l.invariant.1, l.invariant.2 ∙ all_pass (none_or_two (held a.counts.now)) l.i (omega arith) (c.if-not-x.false))
 
 pub returns : goal.returns
 returns c =
-    let l = c.loop-i in
-    sym (l.invariant.2 ∙ all_end (none_or_two (held c.args.counts.now)) l.i (omega arith))
+    let counts = c.args.counts.now in
+    all_from_yields_List (λ n. eqb n 0 || eqb n 2) _ _ _ c.all.ensures.ran (YieldsList-from_slice counts cc) (λ x b q k. search (rules, tests))
+    ∙ all_is (λ n. eqb n 0 || eqb n 2) counts
+    ∙ all_by_place 0 (λ n. eqb n 0 || eqb n 2) 34 counts c.told-counts

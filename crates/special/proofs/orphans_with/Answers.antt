@@ -1,53 +1,18 @@
-use mathlib.Core.Path.{◌≡◌, sym, ap, ◌∙◌}
-use mathlib.Core.Bool.{Bool, ◌&&◌}
-use mathlib.Core.List.{List}
-use Prim.Native.Nat.{ℕ, ◌-◌, ◌≤◌}
-use native.Mathlib.Omega.{arith}
-use lib.ListN.{length}
-use borrow.Author.Rules.{rules}
-use borrow.Author.Tests.{eq-eqb, ne_eqb, not-true, not-false}
+-- `special::orphans_with` meets its contract. Assumes nothing.
+use Rattle.std.proofs.Common.{rules, tests, refl, ap, sym, Bool, ◌&&◌, ◌∙◌}
+use Rattle.std.proofs.lemmas.Iterator.{YieldsList-from_range}
+use Rattle.std.proofs.lemmas.Iterator.Search.{all_from_yields_List}
+use Rattle.std.specs.List.{range_with_len}
 use Rattle.lists.specs.Fold.{all}
+use Rattle.lists.proofs.Chains.{all_is}
 use Rattle.tile.specs.Tile.{tiles}
 use Rattle.hand.specs.Counts.{held}
-use Rattle.hand.specs.Readings.{is_orphans}
-use Rattle.special.proofs.Loops.{rest, rest_first, all_pass, all_fail, all_end}
 use Rattle.special.proofs.Special.{orphan_count}
 use Rattle.special.proofs.orphans_with.Goals as goal
 
-pub returns-then-not-is_orphan : goal.returns-then-not-is_orphan
-returns-then-not-is_orphan c =
-    let a = c.args in
-    sym (ap (λ (b : Bool). b && all (orphan_count (held a.counts.now) a.p) tiles) (sym c.is_orphan.ensures ∙ c.if-not-is_orphan.true))
-
-pub loop-i-init : goal.loop-i-init
-loop-i-init c =
-    let a = c.args in
-    let p = orphan_count (held a.counts.now) a.p in (
-      omega arith,
-      c.requires.0,
-      ap (λ (b : Bool). b && all p tiles) (sym c.is_orphan.ensures ∙ c.if-not-is_orphan.false)
-          ∙ ap (λ (l : List ℕ). all p l) (sym rest_first),
-    )
-
-pub returns-then-counts-i : goal.returns-then-counts-i
-returns-then-counts-i c =
-    let l = c.loop-i in
-    let a = c.args in
-    sym (l.invariant.2 ∙ all_fail (orphan_count (held a.counts.now) a.p) l.i (omega arith)
-    (ne_eqb _ _ (λ e. c.if-counts-i.true (e ∙ sym c.orphans_of.ensures))))
-
-pub loop-i-preserved : goal.loop-i-preserved
-loop-i-preserved c =
-    let l = c.loop-i in
-    let a = c.args in (
-      omega arith,
-      l.invariant.1,
-      l.invariant.2 ∙ all_pass (orphan_count (held a.counts.now) a.p) l.i (omega arith)
-          (eq-eqb _ _ (c.if-counts-i.false ∙ c.orphans_of.ensures)),
-    )
-
 pub returns : goal.returns
 returns c =
-    let l = c.loop-i in
-    let a = c.args in
-    sym (l.invariant.2 ∙ all_end (orphan_count (held a.counts.now) a.p) l.i (omega arith))
+    let exact = orphan_count (held c.args.counts.now) c.args.p.0 in
+    all_from_yields_List exact _ _ _ c.all.ensures.ran (YieldsList-from_range 0 34 34 refl refl) (λ x b q k. search (rules, tests))
+    ∙ all_is exact (range_with_len 0 34)
+    ∙ sym (ap (λ (b : Bool). b && all exact tiles) (sym c.is_terminal_or_honor.ensures ∙ c.if-not-is_terminal_or_honor.false))

@@ -1,6 +1,5 @@
 -- `special::write_kokushi` meets its contract. Assumes nothing.
-use mathlib.Core.Path.{refl}
-use borrow.Author.Rules.{rules}
+use Rattle.std.proofs.Common.{refl}
 use Rattle.special.proofs.Special.{orphans_written}
 use Rattle.special.proofs.write_kokushi.Goals as goal
 

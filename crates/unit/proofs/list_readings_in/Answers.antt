@@ -1,105 +1,90 @@
 -- `unit::list_readings_in` meets its contract: the answer and the whole buffer, for every input of either game. What passes in a game passes
 -- with all tiles too, of which the readings are found. Assumes nothing.
-use mathlib.Core.Path.{sym, ◌∙◌, subst}
-use Prim.Native.Nat.{ℕ}
-use native.Mathlib.Omega.{arith}
-use lib.ListN.{length}
-use Rattle.rules.specs.Rules.{game}
-use Rattle.decompose.specs.Pairs.{OnlyAt}
-use Rattle.checks.proofs.Passed.{passed, passes_four}
-use Rattle.unit.proofs.Answers.{refused_answer, refused_buffer, short_answer, short_buffer, listed_answer, listed_buffer}
-use Rattle.unit.proofs.Listed.{bytes_are, readings_are, records_length, room_behind, all_written}
-use borrow.Author.Rules.{rules}
+use Rattle.std.proofs.Common.{◌≡◌, ℕ, List, length, sym, ap₂, ◌∙◌, arith}
+use Rattle.std.proofs.lemmas.Result.{err_from_is_err_and}
+use Rattle.rules.specs.Rules.{Game, game}
+use Rattle.checks.specs.declared.Calls.{Calls}
+use Rattle.checks.specs.declared.checked.CheckedHand.{CheckedHand}
+use Rattle.checks.specs.Checks.{hand_check_in}
+use Rattle.checks.proofs.Passed.{passed}
+use Rattle.unit.specs.Listing.{Listing, listing_in, written_in}
+use Rattle.unit.proofs.Answers.{refuses, refused_answer, refused_buffer, short_answer, short_buffer, listed_answer, listed_buffer}
+use Rattle.unit.proofs.Passes.{bytes_are, readings_are, records_length, room_behind, all_written}
 use Rattle.unit.proofs.list_readings_in.Goals as goal
 
-pub pack-h-requires : goal.pack-h-requires
-pack-h-requires c =
+-- what is shown of the checked hand holds of the counts and calls that were passed
+module _ (g : Game) (counts : List ℕ) (k : Calls) (hand : CheckedHand) (same : (hand.counts.now ≡ counts) × (hand.calls ≡ k)) (ok : 0 ≡ hand_check_in g counts k) where
+  in_game : hand_check_in g hand.counts.now hand.calls ≡ 0
+  in_game = ap₂ (hand_check_in g) same.0 same.1 ∙ sym ok
+
+  answered : (room : ℕ) {l : Listing} → l ≡ listing_in g hand.counts.now hand.calls room → l ≡ listing_in g counts k room
+  answered room {l} e = e ∙ ap₂ (λ (cs : List ℕ) (k : Calls). listing_in g cs k room) same.0 same.1
+
+  left : (old : List ℕ) {new : List ℕ} → new ≡ written_in g hand.counts.now hand.calls old → new ≡ written_in g counts k old
+  left old {new} e = e ∙ ap₂ (λ (cs : List ℕ) (k : Calls). written_in g cs k old) same.0 same.1
+
+pub returns-in_err-hand : goal.returns-in_err-hand
+returns-in_err-hand c =
     let a = c.args in
-    let h = passed a.counts.now a.k (sym c.check_hand-number.ensures ∙ c.if-number-ne0.false) in
-    (h.long, h.four)
+    let n = c.in_err-hand.ensures.answer in
+    let p = err_from_is_err_and c.from_residual.result c.from_residual.ensures.1 in
+    let z = refuses c.in_err-hand.field-0.0 in
+    record {
+      answer = rw (p.1, p.2) (refused_answer (game a.v) a.counts.now a.k _ (length a.out.now) n z);
+      buffer = refused_buffer (game a.v) a.counts.now a.k _ a.out.now n z;
+    }
 
-pub pair_places-places-requires : goal.pair_places-places-requires
-pair_places-places-requires c =
-    let a = c.args in
-    (passed a.counts.now a.k (sym c.check_hand-number.ensures ∙ c.if-number-ne0.false)).long
-
-pub find_readings-found-requires : goal.find_readings-found-requires
-find_readings-found-requires c =
-    let a = c.args in (
-      passes_four (game a.v) a.counts.now a.k (sym c.check_hand-number.ensures ∙ c.if-number-ne0.false),
-      (c.pack-h.ensures.0, (c.pack-h.ensures.1, c.pair_places-places.ensures)),
-    )
-
-pub bytes-bytes-requires : goal.bytes-bytes-requires
-bytes-bytes-requires c = c.find_readings-found.ensures.few
+pub of-pairs-requires : goal.of-pairs-requires
+of-pairs-requires c = let h = c.in_ok-hand.hand in (passed h.counts.now h.calls h.passed).four
 
 pub write_found-start-requires : goal.write_found-start-requires
 write_found-start-requires c =
-    let a = c.args in
-    let inGame = sym c.check_hand-number.ensures ∙ c.if-number-ne0.false in
-    let ok = passes_four (game a.v) a.counts.now a.k inGame in
+    let h = c.in_ok-hand.hand in
     let f = c.find_readings-found.ensures in
-    let need = bytes_are a.counts.now a.k ok _ f ∙ sym c.bytes-bytes.ensures in
-    let room = c.if-out-bytes.false in
-    (ok, (f.special, omega (arith, need, room, records_length a.counts.now a.k ok f.special.calls)))
+    let need = bytes_are h.counts.now h.calls h.passed _ f ∙ sym c.bytes-bytes.ensures in
+    (f.special, omega (arith, need, c.if-out-bytes.false, records_length h.counts.now h.calls h.passed f.special.calls))
 
 pub write_standards-requires : goal.write_standards-requires
 write_standards-requires c =
-    let a = c.args in
-    let inGame = sym c.check_hand-number.ensures ∙ c.if-number-ne0.false in
-    let ok = passes_four (game a.v) a.counts.now a.k inGame in
+    let h = c.in_ok-hand.hand in
+    let p = c.of-pairs in
     let f = c.find_readings-found.ensures in
-    let h = c.pack-h in
-    let need = bytes_are a.counts.now a.k ok _ f ∙ sym c.bytes-bytes.ensures in
-    let room = c.if-out-bytes.false in
-    let w = c.write_found-start.ensures in (
-      (passed a.counts.now a.k ok).few,
-      (
-        h.ensures.1,
-        (
-          subst (λ (d : ℕ → ℕ). OnlyAt d c.pair_places-places.result) (sym h.ensures.0) c.pair_places-places.ensures,
-          omega (arith, room_behind a.counts.now a.k ok f.special.calls h.result h.ensures.0 a.out.now _ _ w.1 w.0 (omega (arith, need, room))),
-        ),
-      ),
-    )
-
-pub readings-requires : goal.readings-requires
-readings-requires c = c.find_readings-found.ensures.few
-
-pub returns-then-number-ne0 : goal.returns-then-number-ne0
-returns-then-number-ne0 c =
-    let a = c.args in
-    let e = c.check_hand-number.ensures in
-    let n = c.check_hand-number.result in
-    record {
-      answer = refused_answer (game a.v) a.counts.now a.k n (length a.out.now) e c.if-number-ne0.true;
-      buffer = refused_buffer (game a.v) a.counts.now a.k n a.out.now e c.if-number-ne0.true;
-    }
+    let need = bytes_are h.counts.now h.calls h.passed _ f ∙ sym c.bytes-bytes.ensures in
+    let w = c.write_found-start.ensures in
+    room_behind h.counts.now h.calls h.passed f.special.calls p.result.hand p.ensures c.args.out.now _ _ w.1 w.0 (omega (arith, need, c.if-out-bytes.false))
 
 pub returns-then-out-bytes : goal.returns-then-out-bytes
 returns-then-out-bytes c =
     let a = c.args in
-    let inGame = sym c.check_hand-number.ensures ∙ c.if-number-ne0.false in
-    let ok = passes_four (game a.v) a.counts.now a.k inGame in
-    let need = bytes_are a.counts.now a.k ok _ c.find_readings-found.ensures ∙ sym c.bytes-bytes.ensures in
-    let short = c.if-out-bytes.true in record {
-      answer = short_answer (game a.v) a.counts.now a.k inGame (length a.out.now) (omega (arith, need, short));
-      buffer = short_buffer (game a.v) a.counts.now a.k inGame a.out.now (omega (arith, need, short));
+    let h = c.in_ok-hand.hand in
+    let same = c.in_ok-hand.ensures.hand in
+    let ok = c.in_ok-hand.ensures.answer in
+    let passes = in_game (game a.v) a.counts.now a.k h same ok in
+    let need = bytes_are h.counts.now h.calls h.passed _ c.find_readings-found.ensures ∙ sym c.bytes-bytes.ensures in
+    let short = c.if-out-bytes.true in
+    record {
+      answer = answered (game a.v) a.counts.now a.k h same ok _ (short_answer (game a.v) h.counts.now h.calls passes _ (omega (arith, need, short)));
+      buffer = left (game a.v) a.counts.now a.k h same ok _ (short_buffer (game a.v) h.counts.now h.calls passes _ (omega (arith, need, short)));
     }
 
 pub returns : goal.returns
 returns c =
     let a = c.args in
-    let inGame = sym c.check_hand-number.ensures ∙ c.if-number-ne0.false in
-    let ok = passes_four (game a.v) a.counts.now a.k inGame in
+    let h = c.in_ok-hand.hand in
+    let same = c.in_ok-hand.ensures.hand in
+    let ok = c.in_ok-hand.ensures.answer in
+    let passes = in_game (game a.v) a.counts.now a.k h same ok in
+    let p = c.of-pairs in
     let f = c.find_readings-found.ensures in
-    let h = c.pack-h in
-    let need = bytes_are a.counts.now a.k ok _ f ∙ sym c.bytes-bytes.ensures in
-    let count = readings_are a.counts.now a.k ok _ f ∙ sym c.readings.ensures in
+    let need = bytes_are h.counts.now h.calls h.passed _ f ∙ sym c.bytes-bytes.ensures in
+    let count = readings_are h.counts.now h.calls h.passed _ f ∙ sym c.readings.ensures in
     let room = c.if-out-bytes.false in
     let w = c.write_found-start.ensures in
-    let d = c.write_standards.ensures in record {
-      answer = listed_answer (game a.v) a.counts.now a.k inGame (length a.out.now) c.readings.result c.bytes-bytes.result (omega (arith, need, room)) (sym count) (sym need);
-      buffer = listed_buffer (game a.v) a.counts.now a.k inGame a.out.now _ (omega (arith, need, room))
-          (all_written a.counts.now a.k ok f.special.calls h.result h.ensures.0 a.out.now _ _ w.1 w.0 _ d.1);
+    let d = c.write_standards.ensures in
+    record {
+      answer = answered (game a.v) a.counts.now a.k h same ok _
+          (listed_answer (game a.v) h.counts.now h.calls passes _ c.readings.result c.bytes-bytes.result (omega (arith, need, room)) (sym count) (sym need));
+      buffer = left (game a.v) a.counts.now a.k h same ok a.out.now
+          (listed_buffer (game a.v) h.counts.now h.calls passes a.out.now _ (omega (arith, need, room))
+          (all_written h.counts.now h.calls h.passed f.special.calls p.result.hand p.ensures a.out.now _ _ w.1 w.0 _ d.1));
     }

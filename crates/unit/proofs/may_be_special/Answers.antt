@@ -4,7 +4,6 @@ use mathlib.Core.Bool.{Bool, true, false, ◌||◌}
 use lib.Dec.{T}
 use Rattle.hand.specs.Counts.{held}
 use Rattle.special.proofs.Special.{pairs_even, orphans_ends}
-use borrow.Author.Rules.{rules}
 use Rattle.unit.proofs.may_be_special.Goals as goal
 
 -- neither of two where one of them is not

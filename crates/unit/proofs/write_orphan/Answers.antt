@@ -1,30 +1,19 @@
 -- `unit::write_orphan` meets its contract. Assumes nothing.
-use mathlib.Core.Path.{◌≡◌, sym, ap, ◌∙◌}
-use Prim.Native.Nat.{ℕ, ◌%◌}
-use native.Mathlib.Omega.{arith}
-use lib.ListN.{length}
-use lib.Seq.{sets}
-use Rattle.hand.specs.Reading.{orphans}
-use Rattle.hand.specs.Records.{record_of}
-use borrow.Author.Rules.{rules}
-use Rattle.unit.proofs.Listed.{orphans_there, orphans_not, orphans_size}
+use Rattle.std.proofs.Common.{length, sym, ap, ◌∙◌, arith}
+use Rattle.std.specs.Prelude.{Option}
+use Rattle.std.proofs.lemmas.List.Edits.{sets}
+use Rattle.tile.specs.declared.Tile.{Tile}
+use Rattle.unit.specs.FirstPass.{orphan_records}
+use Rattle.unit.proofs.Passes.{orphans_size}
 use Rattle.unit.proofs.write_orphan.Goals as goal
 
 pub write_kokushi-requires : goal.write_kokushi-requires
-write_kokushi-requires c = omega (arith, orphans_size c.args.orphan c.if-orphan-lt34.true)
+write_kokushi-requires c =
+    let e = ap (λ (o : Option Tile). length (orphan_records o)) c.in-Some.is ∙ orphans_size c.in-Some.doubled in
+    omega (arith, c.requires, e)
 
-pub returns-then-orphan-lt34 : goal.returns-then-orphan-lt34
-returns-then-orphan-lt34 c =
-    let p = c.args.orphan in
-    let h = c.if-orphan-lt34.true in
-    let e : p % 256 ≡ p = omega arith in
-    let f = c.write_kokushi.ensures in (
-      omega (arith, f.0, orphans_size p h),
-      f.1 ∙ ap (λ (q : ℕ). sets c.args.out.now c.args.at (record_of (orphans q))) e
-          ∙ ap (sets c.args.out.now c.args.at) (sym (orphans_there p h)),
-    )
-
-pub returns : goal.returns
-returns c =
-    let e = orphans_not c.args.orphan c.if-orphan-lt34.false in
-    (omega (arith, ap length e), ap (sets c.args.out.now c.args.at) (sym e))
+pub returns-in-Some : goal.returns-in-Some
+returns-in-Some c =
+    let e = ap (λ (o : Option Tile). length (orphan_records o)) c.in-Some.is ∙ orphans_size c.in-Some.doubled in
+    let w = c.write_kokushi.ensures in
+    (omega (arith, w.0, e), w.1 ∙ ap (λ (o : Option Tile). sets c.args.out.now c.args.at (orphan_records o)) (sym c.in-Some.is))

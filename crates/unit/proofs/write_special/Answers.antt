@@ -7,11 +7,9 @@ use lib.ListN.{length, length-append}
 use lib.Seq.{sets, length-sets}
 use Rattle.hand.specs.Records.{records}
 use Rattle.checks.specs.declared.Calls.{Calls}
-use Rattle.checks.proofs.Passed.{passed}
 use Rattle.unit.specs.declared.FoundSpecial.{FoundSpecial}
 use Rattle.unit.specs.FirstPass.{specials, FindsSpecial, seven_records, orphan_records}
-use borrow.Author.Rules.{rules}
-use Rattle.unit.proofs.Listed.{both_written, special_is}
+use Rattle.unit.proofs.Passes.{both_written, special_is}
 use Rattle.unit.proofs.write_special.Goals as goal
 
 -- both parts
@@ -24,22 +22,22 @@ module _ (cs : List ℕ) (k : Calls) (f : FoundSpecial) (finds : FindsSpecial cs
 
 pub write_seven-after_seven-requires : goal.write_seven-after_seven-requires
 write_seven-after_seven-requires c =
-    let cs = c.args.counts.now in
+    let cs = c.args.hand.counts.now in
     let f = c.find_special-special in
-    ((passed cs c.args.k c.requires.0).long, (f.ensures.pairs, omega (arith, c.requires.1, sizes cs c.args.k f.result f.ensures)))
+    (f.ensures.pairs, omega (arith, c.requires, sizes cs c.args.hand.calls f.result f.ensures))
 
 pub write_orphan-requires : goal.write_orphan-requires
 write_orphan-requires c =
-    let cs = c.args.counts.now in
+    let cs = c.args.hand.counts.now in
     let f = c.find_special-special in
     let w = c.write_seven-after_seven.ensures in
     let long = ap length w.1 ∙ length-sets c.args.out.now 0 (seven_records cs f.result.seven) in
-    omega (arith, c.requires.1, sizes cs c.args.k f.result f.ensures, w.0, long)
+    omega (arith, c.requires, sizes cs c.args.hand.calls f.result f.ensures, w.0, long)
 
 pub returns : goal.returns
 returns c =
-    let cs = c.args.counts.now in
-    let k = c.args.k in
+    let cs = c.args.hand.counts.now in
+    let k = c.args.hand.calls in
     let f = c.find_special-special in
     let w = c.write_seven-after_seven.ensures in
     let r = c.readings.ensures in

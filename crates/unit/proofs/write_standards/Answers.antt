@@ -1,7 +1,7 @@
 -- `unit::write_standards` meets its contract. Assumes nothing.
 use mathlib.Core.Path.{◌≡◌, ap, ap₂}
 use mathlib.Core.List.{List}
-use Prim.Native.Nat.{ℕ, ◌-◌, ◌%◌, ◌≤◌}
+use Prim.Native.Nat.{ℕ, ◌-◌}
 use native.Mathlib.Omega.{arith}
 use lib.ListN.{length}
 use Rattle.tile.specs.Tile.{tiles}
@@ -12,23 +12,23 @@ use Rattle.decompose.specs.Pairs.{records_over}
 use Rattle.checks.specs.declared.Calls.{Calls}
 use Rattle.checks.specs.Checks.{called}
 use Rattle.unit.specs.FirstPass.{standard_records}
-use borrow.Author.Rules.{rules}
 use Rattle.unit.proofs.write_standards.Goals as goal
 
 -- the records as the code names them
 standards_are :
-    (c : ℕ → ℕ) (k : Calls) → k.count ≤ 4 → (slots : List ℕ) → slots ≡ slots_of (called k) → records_over (4 - k.count % 256) c slots tiles ≡ standard_records c k
+    (c : ℕ → ℕ) (k : Calls) (n : ℕ) (slots : List ℕ) → n ≡ 4 - k.count → slots ≡ slots_of (called k) → records_over n c slots tiles ≡ standard_records c k
 unfolding standard_records
-standards_are c k few slots e =
-    let h : 4 - k.count % 256 ≡ 4 - k.count = omega arith in
-    ap₂ (λ (m : ℕ) (l : List ℕ). records_over m c l tiles) h e
+standards_are c k n slots h e = ap₂ (λ (m : ℕ) (l : List ℕ). records_over m c l tiles) h e
 
 pub write_standards-requires : goal.write_standards-requires
 write_standards-requires c =
-    let e = ap length (standards_are (in_words c.args.h) c.args.k c.requires.0 c.slots_of.result c.slots_of.ensures) in
-    (omega arith, (c.requires.1.0, (c.requires.1.1.0, omega (arith, c.requires.1.1.1, e))))
+    let n = c.melds_needed in
+    let o = c.slots_of in
+    let e = ap length (standards_are (in_words c.args.pairs.hand) c.args.hand.calls n.result o.result n.ensures o.ensures) in
+    omega (arith, c.requires, e)
 
 pub returns : goal.returns
 returns c =
+    let n = c.melds_needed in
     let o = c.slots_of in
-    written_as c.args.out.now _ c.args.at _ (standards_are (in_words c.args.h) c.args.k c.requires.0 o.result o.ensures) c.write_standards.ensures
+    written_as c.args.out.now _ c.args.at _ (standards_are (in_words c.args.pairs.hand) c.args.hand.calls n.result o.result n.ensures o.ensures) c.write_standards.ensures

@@ -1,6 +1,5 @@
 -- `decompose::Packed::has_pair` meets its contract. Assumes nothing.
 use Rattle.decompose.proofs.Words.{low_pair, high_pair}
-use borrow.Author.Rules.{rules}
 use Rattle.decompose.proofs.Packed.has_pair.Goals as goal
 
 pub returns-then-p-lt18 : goal.returns-then-p-lt18

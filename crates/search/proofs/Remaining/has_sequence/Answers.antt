@@ -1,7 +1,0 @@
--- `Remaining::has_sequence` meets its contract: the three lowest places are the counts of the three tiles. Assumes nothing.
-use Rattle.search.specs.Remaining.{split}
-use Rattle.search.proofs.Left.{sequence_word}
-use Rattle.search.proofs.Remaining.has_sequence.Goals as goal
-
-pub returns : goal.returns
-returns c = sequence_word (split c.args.self) c.requires
