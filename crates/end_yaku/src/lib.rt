@@ -2,9 +2,9 @@
 // otherwise answers no at that line.
 #![tactic(auto)]
 
-ghost use Rattle.std.specs.Prelude.{◌≡◌, not, ◌&&◌, ◌||◌};
-ghost use Rattle.lists.specs.Fold.{any};
-ghost use Rattle.tile.specs.Tile.{is_terminal, is_terminal_or_honor};
+ghost use Rattle.std.specs.Prelude.{◌≡◌, not, ◌&&◌, ◌||◌, Bool, ℕ};
+ghost use Rattle.lists.specs.Fold.{all, any};
+ghost use Rattle.tile.specs.declared.Tile.{Tile};
 ghost use Rattle.meld.specs.Meld.{is_sequence};
 ghost use Rattle.structure.specs.Structure.{reading_of};
 ghost use Rattle.meld_yaku.specs.Melds.{set_of};
@@ -18,68 +18,47 @@ fn is_end_run(m: meld::Meld) -> bool
     m.is_sequence() & ((m.tile % 9 == 0) | (m.tile % 9 == 6))
 }
 
-// Does it hold a terminal or an honor?
-fn holds_terminal_or_honor(m: meld::Meld) -> bool
-    ensures { result ≡ (end_run m || set_of is_terminal_or_honor m) }
-{
-    let t = tile::Tile(m.tile);
-    is_end_run(m) | (m.is_triplet_or_kan() & t.is_terminal_or_honor())
-}
-
-// Does it hold a terminal?
-fn holds_terminal(m: meld::Meld) -> bool
-    ensures { result ≡ (end_run m || set_of is_terminal m) }
-{
-    let t = tile::Tile(m.tile);
-    is_end_run(m) | (m.is_triplet_or_kan() & t.is_terminal())
-}
-
 // Is one of the melds a sequence?
 fn any_sequence(ms: [meld::Meld; 4]) -> bool
     ensures { result ≡ any is_sequence ms }
 {
-    ms[0].is_sequence() | (ms[1].is_sequence() | (ms[2].is_sequence() | ms[3].is_sequence()))
+    ms.iter().any(|m| m.is_sequence())
 }
 
-// Has each group a terminal or an honor, and is there a sequence?
-fn is_chanta(ms: [meld::Meld; 4], pair: tile::Tile) -> bool
-    ensures { result ≡ chanta pair.0 ms }
+// Does each group hold a tile that passes the test? So the pair is of one, and each meld is 123, 789, or a triplet or kan of one.
+fn each_holds<F: Fn(tile::Tile) -> bool>(ms: [meld::Meld; 4], pair: tile::Tile, test: F) -> bool
+    requires { F.IsAlwaysCallable test }
+    ensures groups { (q : ℕ → Bool) → ((t : Tile) (b : Bool) → F.post test t b → b ≡ q t.0) → result ≡ (q pair.0 && all (λ m. end_run m || set_of q m) ms) }
 {
-    let all = holds_terminal_or_honor(ms[0])
-        & (holds_terminal_or_honor(ms[1])
-            & (holds_terminal_or_honor(ms[2]) & holds_terminal_or_honor(ms[3])));
-    pair.is_terminal_or_honor() & (any_sequence(ms) & all)
+    test(pair)
+        && ms.iter().all(|m| is_end_run(*m) | (m.is_triplet_or_kan() & test(tile::Tile(m.tile))))
 }
 
-// Has each group a terminal, and is there a sequence?
-fn is_junchan(ms: [meld::Meld; 4], pair: tile::Tile) -> bool
-    ensures { result ≡ junchan pair.0 ms }
+// Does each group, and is one of the melds a sequence?
+fn has_ends<F: Fn(tile::Tile) -> bool>(ms: [meld::Meld; 4], pair: tile::Tile, test: F) -> bool
+    requires { F.IsAlwaysCallable test }
+    ensures ends { (q : ℕ → Bool) → ((t : Tile) (b : Bool) → F.post test t b → b ≡ q t.0) → result ≡ (q pair.0 && (any is_sequence ms && all (λ m. end_run m || set_of q m) ms)) }
 {
-    let all = holds_terminal(ms[0])
-        & (holds_terminal(ms[1]) & (holds_terminal(ms[2]) & holds_terminal(ms[3])));
-    pair.is_terminal() & (any_sequence(ms) & all)
+    each_holds(ms, pair, test) && any_sequence(ms)
 }
 
 // Chanta: a terminal or honor in each group, and not Junchan.
-pub fn check_chanta(h: structure::Hand) -> bool
+pub fn check_chanta(h: structure::HandStructure) -> bool
     ensures { result ≡ of_standard (λ p ms. chanta p ms && not (junchan p ms)) (reading_of h) }
 {
-    let s = h.structure;
-    let structure::HandStructure::Standard { pair } = s else {
+    let structure::HandStructure::Standard { pair, melds } = h else {
         return false;
     };
-    let ms = h.melds;
-    is_chanta(ms, pair) & !is_junchan(ms, pair)
+    has_ends(melds, pair, |t| t.is_terminal_or_honor())
+        & !has_ends(melds, pair, |t| t.is_terminal())
 }
 
 // Junchan: a terminal in each group.
-pub fn check_junchan(h: structure::Hand) -> bool
+pub fn check_junchan(h: structure::HandStructure) -> bool
     ensures { result ≡ of_standard (λ p ms. junchan p ms) (reading_of h) }
 {
-    let s = h.structure;
-    let structure::HandStructure::Standard { pair } = s else {
+    let structure::HandStructure::Standard { pair, melds } = h else {
         return false;
     };
-    let ms = h.melds;
-    is_junchan(ms, pair)
+    has_ends(melds, pair, |t| t.is_terminal())
 }

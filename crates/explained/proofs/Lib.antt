@@ -1,5 +1,4 @@
 pub mod Numbers
-pub mod Places
 pub mod Rounded
 pub mod Parts
 pub mod PartsExamples

@@ -5,7 +5,7 @@ ghost use Rattle.structure.specs.Structure.{reading_of};
 ghost use Rattle.explained.specs.Breakdown.{only_base, pinfu_parts, counted_parts, breakdown, fu_at, meld_fu_at};
 
 // The parts; they add up to the fu of the reading.
-#[derive(Clone, Copy)]
+#[derive(Clone, Copy, Default)]
 pub struct FuBreakdown {
     pub base: u8,
     pub menzen_ron: u8,
@@ -22,12 +22,7 @@ fn only_base(n: u8) -> FuBreakdown
 {
     FuBreakdown {
         base: n,
-        menzen_ron: 0,
-        tsumo: 0,
-        melds: 0,
-        pair: 0,
-        wait: 0,
-        rounding: 0,
+        ..FuBreakdown::default()
     }
 }
 
@@ -36,17 +31,13 @@ fn pinfu_parts(w: context::GameContext) -> FuBreakdown
     ensures { result ≡ pinfu_parts (is_tsumo w) }
 {
     FuBreakdown {
-        base: 20,
-        menzen_ron: fu::pick(w.is_tsumo(), 0, 10),
-        tsumo: 0,
-        melds: 0,
-        pair: 0,
-        wait: 0,
-        rounding: 0,
+        menzen_ron: if w.is_tsumo() { 0 } else { 10 },
+        ..only_base(20)
     }
 }
 
 // The parts of a pair and four melds that are no pinfu.
+#[tactic(auto, unfolding(crate::specs::Breakdown::counted_parts))]
 fn counted_parts(
     ms: [meld::Meld; 4],
     pair: u8,
@@ -61,29 +52,32 @@ fn counted_parts(
     let rounding = fu::rounded_fu(sum, opened) - sum;
     FuBreakdown {
         base: 20,
-        menzen_ron: fu::pick(tsumo | opened, 0, 10),
-        tsumo: fu::pick(tsumo, 2, 0),
+        menzen_ron: if tsumo | opened { 0 } else { 10 },
+        tsumo: if tsumo { 2 } else { 0 },
         melds: fu::melds_fu(ms, w, kept),
         pair: fu::pair_fu(pair, w),
         wait: fu::wait_fu(ms, pair, w),
-        rounding: rounding,
+        rounding,
     }
 }
 
 // The parts of the fu of a reading: 25 for seven pairs, 30 for thirteen orphans; a pinfu has no parts but the base and the ron.
-pub fn fu_breakdown(h: structure::Hand, w: context::GameContext, opened: bool) -> FuBreakdown
+#[tactic(auto, unfolding(crate::specs::Breakdown::breakdown))]
+pub fn fu_breakdown(
+    h: structure::HandStructure,
+    w: context::GameContext,
+    opened: bool,
+) -> FuBreakdown
     ensures { result ≡ breakdown w opened (reading_of h) }
 {
-    let s = h.structure;
-    match s {
-        structure::HandStructure::Standard { pair } => {
+    match h {
+        structure::HandStructure::Standard { pair, melds } => {
             if wait::is_pinfu(h, w, opened) {
                 return pinfu_parts(w);
             }
-            let ms = h.melds;
-            counted_parts(ms, pair.0, w, opened)
+            counted_parts(melds, pair.0, w, opened)
         }
-        structure::HandStructure::Chiitoitsu => only_base(25),
+        structure::HandStructure::Chiitoitsu { pairs: _ } => only_base(25),
         structure::HandStructure::Kokushi { pair: _ } => only_base(30),
     }
 }
@@ -92,21 +86,20 @@ pub fn fu_breakdown(h: structure::Hand, w: context::GameContext, opened: bool) -
 fn fu_at(ms: [meld::Meld; 4], w: context::GameContext, i: usize) -> u8
     ensures { result ≡ fu_at w ms i }
 {
-    if 4 <= i {
+    let Some(&m) = ms.get(i) else {
         return 0;
-    }
+    };
     let kept = wait::winning_tile_in_closed_sequence(ms, w);
-    fu::meld_fu_with_context(ms[i], w, kept)
+    fu::meld_fu_with_context(m, w, kept)
 }
 
 // The fu of a meld of a reading, by its place, 0 to 3; 0 for any other place, and in readings without melds.
-pub fn meld_fu(h: structure::Hand, w: context::GameContext, i: usize) -> u8
+#[tactic(auto, unfolding(crate::specs::Breakdown::meld_fu_at))]
+pub fn meld_fu(h: structure::HandStructure, w: context::GameContext, i: usize) -> u8
     ensures { result ≡ meld_fu_at w i (reading_of h) }
 {
-    let s = h.structure;
-    let structure::HandStructure::Standard { pair: _ } = s else {
+    let structure::HandStructure::Standard { pair: _, melds } = h else {
         return 0;
     };
-    let ms = h.melds;
-    fu_at(ms, w, i)
+    fu_at(melds, w, i)
 }

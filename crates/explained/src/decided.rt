@@ -33,6 +33,7 @@ fn first_of(total: bool, yakuman: bool, han: bool, fu: bool) -> Decided
 }
 
 // What decided between two scores with a yaku, in the game that is played.
+#[tactic(auto, unfolding(crate::specs::Decided::decided_by))]
 pub fn decided_by(
     x: reading_score::ScoringResult,
     y: reading_score::ScoringResult,

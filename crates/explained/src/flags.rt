@@ -1,5 +1,6 @@
 // Why a flag of the win counts nothing. The flags by number, in the order of GameContext: 0 riichi, 1 double riichi, 2 ippatsu, 3 rinshan,
-// 4 chankan, 5 last tile, 6 tenhou, 7 chiihou.
+// 4 chankan, 5 last tile, 6 tenhou, 7 chiihou. They stay numbers: `why_uncounted` answers for every number, and the laws
+// `flag_tally` and `named_true` speak of each.
 ghost use Rattle.std.specs.Prelude.{◌≡◌, cond};
 ghost use Rattle.context.specs.Context.{is_tsumo};
 ghost use Rattle.explained.specs.Flags.{declared, first_draw, is_set, reason, why_uncounted};
@@ -48,6 +49,7 @@ fn first_draw(w: context::GameContext, opened: bool, rest: Uncounted) -> Uncount
 }
 
 // Is the flag with this number set?
+#[tactic(auto, unfolding(crate::specs::Flags::is_set))]
 fn is_set(w: context::GameContext, flag: usize) -> bool
     ensures { result ≡ is_set w flag }
 {
@@ -65,6 +67,7 @@ fn is_set(w: context::GameContext, flag: usize) -> bool
 }
 
 // Why a flag that is set counts nothing.
+#[tactic(auto, unfolding(crate::specs::Flags::reason))]
 fn reason(w: context::GameContext, opened: bool, flag: usize) -> Uncounted
     ensures { result ≡ reason w opened flag }
 {
@@ -96,6 +99,7 @@ fn reason(w: context::GameContext, opened: bool, flag: usize) -> Uncounted
 }
 
 // Why the flag with this number counts nothing.
+#[tactic(auto, unfolding(crate::specs::Flags::why_uncounted))]
 pub fn why_uncounted(w: context::GameContext, opened: bool, flag: usize) -> Uncounted
     ensures { result ≡ why_uncounted w opened flag }
 {

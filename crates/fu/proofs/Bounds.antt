@@ -1,9 +1,8 @@
 -- Bounds of fu: at most 170, and those of the parts. Assumes nothing.
-use mathlib.Core.Bool.{Bool, true, false, cond}
+use mathlib.Core.Bool.{Bool, true, false}
 use mathlib.Core.List.{List}
-use Prim.Native.Nat.{ℕ, ◌+◌, ◌*◌, ◌<◌, ◌≤◌, max}
+use Prim.Native.Nat.{ℕ, ◌+◌, ◌<◌, ◌≤◌, max}
 use native.Mathlib.Omega.{arith}
-use native.Mathlib.Nat.{mul-le-mul}
 use lib.Dec.{lit≤, lit<}
 use lib.ListN.{length}
 use Rattle.lists.specs.Fold.{sum}
@@ -20,10 +19,6 @@ use Rattle.wait.specs.Wait.{pinfu}
 use Rattle.wait.specs.Concealed.{concealed, spared}
 use Rattle.fu.specs.Fu.{set_fu, meld_fu, pair_fu, close_wait, wait_fu, win_fu, base_fu, round_up_to10, pinfu_fu, standard_fu, fu}
 use Rattle.fu.proofs.DoubleWind.{pair_fu_le}
-
--- the products of a triplet's or a kan's fu are bytes
-pub set_fits : (base kan closed : ℕ) → base ≤ 4 → kan ≤ 4 → closed ≤ 2 → (kan * closed ≤ 8) × (base * (kan * closed) ≤ 32)
-set_fits base kan closed b k c = let inner = mul-le-mul k c in (inner, mul-le-mul b inner)
 
 set_fu_le_holds : (outer kan hidden : Bool) → set_fu outer kan hidden ≤ 32
 set_fu_le_holds false false false = lit≤ tt
@@ -48,6 +43,10 @@ pinfu_fu_le_holds true = lit≤ tt
 meld_fu_le_holds : (w : GameContext) (kept : Bool) (m : Meld) → meld_fu w kept m ≤ 32
 meld_fu_le_holds w kept m = cond_le (is_sequence m) _ _ 32 (lit≤ tt) (set_fu_le_holds (is_terminal_or_honor m.tile) (is_kan m) (concealed w kept m))
 
+-- four melds have at most 128
+pub melds_fu_le_holds : (w : GameContext) (kept : Bool) (ms : List Meld) → length ms ≤ 4 → sum (meld_fu w kept) ms ≤ 128
+melds_fu_le_holds w kept ms h = let k = sum_le (meld_fu w kept) 32 (meld_fu_le_holds w kept) ms in omega arith
+
 wait_fu_le_holds : (w : GameContext) (p : ℕ) (ms : List Meld) → wait_fu w p ms ≤ 2
 wait_fu_le_holds w p ms = cond_le (close_wait w p ms) 2 0 2 (lit≤ tt) (lit≤ tt)
 
@@ -55,7 +54,7 @@ wait_fu_le_holds w p ms = cond_le (close_wait w p ms) 2 0 2 (lit≤ tt) (lit≤ 
 pub standard_fu_le_holds : (w : GameContext) (opened : Bool) (p : ℕ) (ms : List Meld) → length ms ≤ 4 → standard_fu w opened p ms ≤ 170
 unfolding standard_fu
 standard_fu_le_holds w opened p ms h =
-    let a = sum_le (meld_fu w (spared w ms)) 32 (meld_fu_le_holds w (spared w ms)) ms in
+    let a = melds_fu_le_holds w (spared w ms) ms h in
     let b = win_fu_le_holds (is_tsumo w) opened in
     let c = pair_fu_le w p in
     let d = wait_fu_le_holds w p ms in

@@ -1,5 +1,5 @@
 -- Fu (minipoints) of a reading. These are definitions.
-use Rattle.std.specs.Prelude.{Bool, ◌&&◌, ◌||◌, not, cond, List, ℕ, ◌+◌, ◌*◌, ◌/◌, max, eqb}
+use Rattle.std.specs.Prelude.{Bool, ◌&&◌, ◌||◌, cond, List, ℕ, ◌+◌, ◌*◌, ◌/◌, max, eqb}
 use Rattle.lists.specs.Fold.{any, sum}
 use Rattle.tile.specs.Tile.{is_terminal_or_honor}
 use Rattle.meld.specs.declared.Meld.{Meld}

@@ -13,11 +13,10 @@ use Rattle.tile.specs.Tile.{is_dragon, is_honor, is_wind}
 use Rattle.meld.specs.declared.Meld.{Meld}
 use Rattle.meld.specs.Meld.{is_triplet_or_kan}
 use Rattle.context.specs.declared.GameContext.{GameContext}
-use Rattle.hand.specs.Reading.{Reading}
-use Rattle.structure.specs.declared.Hand.{Hand}
+use Rattle.hand.specs.Reading.{Reading, standard}
 use Rattle.structure.specs.declared.HandStructure.{HandStructure}
-use Rattle.structure.specs.declared.HandStructure.TheVariants.{Standard, Chiitoitsu, Kokushi}
-use Rattle.structure.specs.Structure.{read, reading_of}
+use Rattle.structure.specs.Structure.{reading_of}
+use Rattle.structure.proofs.Cases.{NotStandard, otherwise}
 use Rattle.wait.specs.Wait.{weight}
 use Rattle.meld_yaku.specs.Melds.{set_of}
 use Rattle.meld_yaku.proofs.Few.{count_fewer, any_none, too_few}
@@ -39,11 +38,6 @@ module _ (w : GameContext) (ms : List Meld) (none : any (set_of is_honor) ms ≡
       let e : count (set_of (eqb t)) ms ≡ 0 = omega arith in
       ap (λ (n : ℕ). n * weight w t) e ∙ zero-mul (weight w t)
 
-  no_tally : (ps : List ℕ) (s : HandStructure) (t : ℕ) → T (is_honor t) → yakuhai_of w (read s ms ps) t ≡ 0
-  no_tally ps (Standard p) t h = no_yakuhai_holds t h
-  no_tally ps Chiitoitsu t h = refl
-  no_tally ps (Kokushi p) t h = refl
-
 -- the tallies of the seven honors, for any reading
 abbrev yakuhai_all : GameContext → Reading → Yakuhai
 yakuhai_all w r =
@@ -60,10 +54,27 @@ yakuhai_all w r =
 abbrev no_yakuhai : Yakuhai
 no_yakuhai = record { east = 0; south = 0; west = 0; north = 0; white = 0; green = 0; red = 0 }
 
-pub no_tallies : (w : GameContext) (h : Hand) → any (set_of is_honor) h.melds ≡ false → no_yakuhai ≡ yakuhai_all w (reading_of h)
-no_tallies w h none =
-    let tally = no_tally w h.melds none h.pairs h.structure in
+-- the tallies of seven numbers
+abbrev made : ℕ → ℕ → ℕ → ℕ → ℕ → ℕ → ℕ → Yakuhai
+made a b c d e f g = record { east = a; south = b; west = c; north = d; white = e; green = f; red = g }
+
+-- what `Yakuhai::default()` gives
+pub defaulted :
+    (y : Yakuhai)
+    → (y.east ≡ 0) × ((y.south ≡ 0) × ((y.west ≡ 0) × ((y.north ≡ 0) × ((y.white ≡ 0) × ((y.green ≡ 0) × (y.red ≡ 0))))))
+    → y ≡ no_yakuhai
+defaulted y h =
+    let e : made y.east y.south y.west y.north y.white y.green y.red ≡ made 0 0 0 0 0 0 0 = cc (h.0, h.1.0, h.1.1.0, h.1.1.1.0, h.1.1.1.1.0, h.1.1.1.1.1.0, h.1.1.1.1.1.1) in
+    e
+
+pub no_tallies : (w : GameContext) (p : ℕ) (ms : List Meld) → any (set_of is_honor) ms ≡ false → no_yakuhai ≡ yakuhai_all w (standard p ms)
+no_tallies w p ms none =
+    let tally = no_yakuhai_holds w ms none in
     cc (tally 27 tt, tally 28 tt, tally 29 tt, tally 30 tt, tally 31 tt, tally 32 tt, tally 33 tt)
+
+-- nor in a reading that is no standard one
+pub no_tallies_otherwise : (w : GameContext) (h : HandStructure) → NotStandard h → no_yakuhai ≡ yakuhai_all w (reading_of h)
+no_tallies_otherwise w h = otherwise (λ r. no_yakuhai ≡ yakuhai_all w r) (λ ps. refl) (λ p. refl) h
 
 -- ---- fewer than three triplets and kans
 module _ (ms : List Meld) (few : leb 3 (count is_triplet_or_kan ms) ≡ false) where

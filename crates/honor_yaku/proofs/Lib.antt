@@ -1,4 +1,3 @@
-pub mod Otherwise
 pub mod Renamed
 pub mod Few
 pub mod Laws

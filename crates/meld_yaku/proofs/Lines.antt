@@ -1,17 +1,16 @@
 -- Three melds of four make a line, so one of the first two melds is part of it: to find a line it is enough to look at the lines
 -- through the tiles of these two. Assumes nothing.
-use mathlib.Core.Path.{◌≡◌, sym, ap, ◌∙◌, subst}
+use mathlib.Core.Path.{◌≡◌, refl, sym, ap, ◌∙◌, subst}
 use mathlib.Core.Logic.{◌⊎◌, inl, inr, ⊎_elim}
-use mathlib.Core.Bool.{Bool, true, false, ◌&&◌, ◌||◌}
+use mathlib.Core.Bool.{Bool, true, false, ◌&&◌, ◌||◌, or-false}
 use mathlib.Core.List.{List, [], ◌∷◌}
 use Prim.Native.Nat.{ℕ, zero, suc, ◌+◌, ◌%◌, ◌<◌, ◌≤◌}
 use native.Mathlib.Omega.{arith}
 use native.Mathlib.Decide.{ℕ_discrete}
 use lib.Dec.{T, eqb, ltb, eqb→eq, ltb→lt, lt→ltb}
-use lib.ListN.{length, get_or}
+use lib.ListN.{length, take}
 use Rattle.lists.specs.Fold.{all, any, up_from}
 use Rattle.lists.proofs.Finite.{and_left, and_right, and_both, or_elim, or_left, or_right, T-eq}
-use Rattle.lists.proofs.Elements.{four}
 use Rattle.meld.specs.declared.Meld.{Meld}
 use Rattle.meld.specs.Meld.{is_sequence, is_triplet_or_kan}
 use Rattle.meld_yaku.specs.Melds.{run_from, set_of}
@@ -117,10 +116,15 @@ module _ (q : ℕ → Meld → Bool) (own : (t : ℕ) (m : Meld) → T (q t m) �
             (through a b c d at k (f k) (g k) (h k) (line k i) (subst (λ (l : List Meld). T (lined l (f k) (g k) (h k))) e r.3))
 
     -- some line is there exactly if one through the first or the second meld's tile is
-    pub first_two :
-        (l : List Meld) (m : Meld) → length l ≡ 4
-        → (on_line l (at (get_or l 0 m).tile) || on_line l (at (get_or l 1 m).tile)) ≡ any_of l
-    first_two l m e = of_four (get_or l 0 m) (get_or l 1 m) (get_or l 2 m) (get_or l 3 m) l (four l m e)
+    pub first_two : (l : List Meld) → length l ≡ 4 → any (λ m. on_line l (at m.tile)) (take 2 l) ≡ any_of l
+    first_two [] e = absurd (omega arith)
+    first_two (a ∷ []) e = absurd (omega arith)
+    first_two (a ∷ b ∷ []) e = absurd (omega arith)
+    first_two (a ∷ b ∷ c ∷ []) e = absurd (omega arith)
+    first_two (a ∷ b ∷ c ∷ d ∷ []) e =
+        let l = ms a b c d in
+        ap (λ (x : Bool). on_line l (at a.tile) || x) (or-false (on_line l (at b.tile))) ∙ of_four a b c d l refl
+    first_two (a ∷ b ∷ c ∷ d ∷ f ∷ l) e = absurd (omega arith)
 
 -- ---- sequences and sets have the tile that is asked for
 pub run_own : (t : ℕ) (m : Meld) → T (run_from t m) → t ≡ m.tile
@@ -132,11 +136,3 @@ set_own t m h = eqb→eq t m.tile (and_right (is_triplet_or_kan m) _ h)
 -- ---- the line of a number in the three suits
 pub of_number : (k : ℕ) → k < 9 → Line (λ t. t % 9) k k (k + 9) (k + 18)
 of_number k h = (omega arith, omega arith, omega arith, omega arith, omega arith)
-
--- ---- the tiles of the first two melds
-module _ (ms : List Meld) (m : Meld) where
-  abbrev pub first : ℕ
-  first = (get_or ms 0 m).tile
-
-  abbrev pub second : ℕ
-  second = (get_or ms 1 m).tile

@@ -1,6 +1,8 @@
 // For the comparison with agari only: what the layers below the operations answer for one reading that is handed in.
 #![tactic(auto)]
 
+use structure::HandStructure;
+
 // A reading in plain fields: kind 1 seven pairs, 2 thirteen orphans, else a pair and four melds.
 #[repr(C)]
 #[derive(Clone, Copy)]
@@ -22,18 +24,18 @@ pub struct ReadingScore {
     pub is_yakuman: bool,
 }
 
-// The reading as the code has it.
-fn hand_of(r: Reading) -> structure::Hand {
-    let pair = tile::Tile(r.pair);
-    let melds = r.melds;
-    let pairs = r.pairs;
-    if r.kind == 1 {
-        return structure::Hand::chiitoitsu(pairs);
+impl From<Reading> for HandStructure {
+    // The reading as the code has it.
+    fn from(r: Reading) -> HandStructure {
+        let pair = tile::Tile(r.pair);
+        let melds = r.melds;
+        let pairs = r.pairs;
+        match r.kind {
+            1 => HandStructure::Chiitoitsu { pairs },
+            2 => HandStructure::Kokushi { pair },
+            _ => HandStructure::Standard { pair, melds },
+        }
     }
-    if r.kind == 2 {
-        return structure::Hand::kokushi(pair);
-    }
-    structure::Hand::standard(pair, melds)
 }
 
 // Nothing found, for counts that are not 34 long.
@@ -55,15 +57,15 @@ pub extern "C" fn probe_reading(
     win: context::GameContext,
     opened: bool,
 ) -> ReadingScore {
-    if counts.len() != 34 {
+    let Ok(counts) = <&[u8; 34]>::try_from(counts) else {
         return nothing();
-    }
-    let hand = hand_of(reading);
+    };
+    let hand = HandStructure::from(reading);
     let tiles = tile_yaku::tile_yaku(counts, win.winning_tile);
     let found = yaku::detect_yaku_with_context(hand, tiles, win, opened);
     let tallies = found.tallies;
     ReadingScore {
-        tallies: tallies,
+        tallies,
         waits: wait::detect_wait_types(hand, tile::Tile(win.winning_tile)),
         han: found.han,
         fu: fu::calculate_fu(hand, win, opened),

@@ -22,7 +22,7 @@ pub struct ScoringResult {
 
 // The score of a reading; s is what all tiles together are, d the dora among them.
 pub fn calculate_score(
-    h: structure::Hand,
+    h: structure::HandStructure,
     s: tile_yaku::TileYaku,
     d: dora::DoraCount,
     w: context::GameContext,
@@ -38,9 +38,9 @@ pub fn calculate_score(
     let fu = fu::calculate_fu(h, w, opened);
     let basic = scoring::calculate_basic_points(han, fu, yakuman);
     ScoringResult {
-        tallies: tallies,
-        han: han,
-        fu: fu,
+        tallies,
+        han,
+        fu,
         is_yakuman: yakuman,
         score_level: scoring::determine_score_level(han, fu, yakuman),
         basic_points: basic,
@@ -53,8 +53,7 @@ pub fn calculate_score(
 fn has_yaku(x: ScoringResult) -> bool
     ensures { result ≡ has_yaku x }
 {
-    let tallies = x.tallies;
-    lists::any_above_zero(&tallies)
+    lists::any_above_zero(&x.tallies)
 }
 
 // The rank of a score in the choice: its total in the game that is played, then a yakuman before none, han, fu, as one number; 0 without a yaku.
@@ -64,10 +63,9 @@ pub fn rank(x: ScoringResult, v: rules::Variant) -> u64
     if !has_yaku(x) {
         return 0;
     }
-    let payment = x.payment;
-    let total = payment.total(v);
-    let yakuman = if x.is_yakuman { 1 } else { 0 };
-    let han = x.han as u64;
-    let fu = x.fu as u64;
+    let total = x.payment.total(v);
+    let yakuman = u64::from(x.is_yakuman);
+    let han = u64::from(x.han);
+    let fu = u64::from(x.fu);
     ((total * 2 + yakuman) * 256 + han) * 256 + fu + 1
 }

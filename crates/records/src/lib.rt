@@ -9,7 +9,7 @@ ghost use Rattle.records.specs.Buffer.{byte_at, meld_at, tiles_at, reading_at, p
 fn byte_at(b: &[u8], i: usize) -> u8
     ensures { result ≡ byte_at b.now i }
 {
-    if i < b.len() { b[i] } else { 0 }
+    b.get(i).copied().unwrap_or(0)
 }
 
 // The meld whose tile, kind and source stand at a place. That all three are there is asked at once.
@@ -36,46 +36,35 @@ fn tiles_at(b: &[u8], i: usize) -> [u8; 7]
     requires { i ≤ 1000000 }
     ensures { result ≡ tiles_at b.now i }
 {
-    [
-        byte_at(b, i),
-        byte_at(b, i + 1),
-        byte_at(b, i + 2),
-        byte_at(b, i + 3),
-        byte_at(b, i + 4),
-        byte_at(b, i + 5),
-        byte_at(b, i + 6),
-    ]
+    std::array::from_fn(|k| byte_at(b, i + k))
 }
 
-// The reading whose record stands at a place.
-pub fn reading_at(b: &[u8], i: usize) -> structure::Hand
+// The reading whose record stands at a place. The kind is a byte of the record, which C reads too: 1 seven pairs, 2 thirteen orphans.
+pub fn reading_at(b: &[u8], i: usize) -> structure::HandStructure
     requires { i ≤ 900000 }
     ensures { reading_of result ≡ reading_at b.now i }
 {
     let kind = byte_at(b, i + 2);
     if kind == 1 {
-        return structure::Hand::chiitoitsu(tiles_at(b, i + 4));
+        return structure::HandStructure::Chiitoitsu {
+            pairs: tiles_at(b, i + 4),
+        };
     }
     let pair = tile::Tile(byte_at(b, i + 4));
     if kind == 2 {
-        return structure::Hand::kokushi(pair);
+        return structure::HandStructure::Kokushi { pair };
     }
-    structure::Hand::standard(
+    structure::HandStructure::Standard {
         pair,
-        [
-            meld_at(b, i + 5),
-            meld_at(b, i + 8),
-            meld_at(b, i + 11),
-            meld_at(b, i + 14),
-        ],
-    )
+        melds: std::array::from_fn(|k| meld_at(b, i + 5 + 3 * k)),
+    }
 }
 
 // The length of the record at a place, its first byte.
 pub fn length_at(b: &[u8], i: usize) -> usize
     ensures { (result ≡ byte_at b.now i) × (result ≤ 255) }
 {
-    byte_at(b, i) as usize
+    usize::from(byte_at(b, i))
 }
 
 // The place of the record with a number, counted from 0.
@@ -84,10 +73,8 @@ pub fn place_of(b: &[u8], n: usize) -> usize
     ensures { (result ≡ place_of b.now n 0) × (result ≤ 255 * n) }
 {
     let mut at = 0;
-    let mut i = 0;
-    while i < n {
+    for _ in 0..n {
         at += length_at(b, at);
-        i += 1;
     }
     at
 }

@@ -23,7 +23,7 @@ use Rattle.set_yaku.specs.Sets.{toitoi, kans, san_ankou, sanshoku_doukou, suuank
 use Rattle.honor_yaku.specs.Honors.{shousangen, yakuhai_of, daisangen, shousuushii, daisuushii}
 use Rattle.sequence_yaku.specs.Sequences.{ittsu, sanshoku_doujun, peikou}
 use Rattle.end_yaku.specs.Ends.{chanta, junchan}
-use Rattle.yaku.specs.Tally.{unless_orphans, riichi, rinshan, one_han, more_han, yakuman, is_yakuman, ordinary, tallies}
+use Rattle.yaku.specs.Tally.{riichi, rinshan, one_han, more_han, yakuman, is_yakuman, ordinary, tallies}
 use Rattle.yaku.specs.Names.{names}
 use Rattle.yaku.specs.Han.{han_of, dot, han}
 use Rattle.renamed_scores.proofs.Asked.{Asked, ren_of_standard_holds, ren_is_chiitoitsu_holds, ren_unless_orphans_holds, ren_orphans_won_holds}

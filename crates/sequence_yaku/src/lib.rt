@@ -21,8 +21,7 @@ fn is_run_from(m: meld::Meld, t: u8) -> bool
 fn has_run(ms: [meld::Meld; 4], t: u8) -> bool
     ensures { result ≡ any (run_from t) ms }
 {
-    is_run_from(ms[0], t)
-        | (is_run_from(ms[1], t) | (is_run_from(ms[2], t) | is_run_from(ms[3], t)))
+    ms.iter().any(|m| is_run_from(*m, t))
 }
 
 // Are two melds the same sequence, from a tile where one can start?
@@ -37,66 +36,48 @@ fn is_same_run(a: meld::Meld, b: meld::Meld) -> bool
 fn count_peikou(ms: [meld::Meld; 4]) -> u8
     ensures { (result ≡ peikou ms) × (result ≤ 3) }
 {
-    let a = ms[0];
-    let b = ms[1];
-    let c = ms[2];
-    let d = ms[3];
+    let [a, b, c, d] = ms;
     let first = is_same_run(a, b) ^ (is_same_run(a, c) ^ is_same_run(a, d));
     let second = is_same_run(b, c) ^ is_same_run(b, d);
-    lists::one_if(first) + (lists::one_if(second) + lists::one_if(is_same_run(c, d)))
+    u8::from(first) + (u8::from(second) + u8::from(is_same_run(c, d)))
 }
 
 // Iipeikou: one pair of identical sequences.
-pub fn check_iipeikou(h: structure::Hand, opened: bool) -> bool
+pub fn check_iipeikou(h: structure::HandStructure, opened: bool) -> bool
     ensures { result ≡ of_standard (λ p ms. not opened && eqb (peikou ms) 1) (reading_of h) }
 {
-    let s = h.structure;
-    let structure::HandStructure::Standard { pair: _ } = s else {
+    let structure::HandStructure::Standard { pair: _, melds } = h else {
         return false;
     };
-    let ms = h.melds;
-    !opened & (count_peikou(ms) == 1)
+    !opened & (count_peikou(melds) == 1)
 }
 
 // Ryanpeikou: two pairs of identical sequences.
-pub fn check_ryanpeikou(h: structure::Hand, opened: bool) -> bool
+pub fn check_ryanpeikou(h: structure::HandStructure, opened: bool) -> bool
     ensures { result ≡ of_standard (λ p ms. not opened && leb 2 (peikou ms)) (reading_of h) }
 {
-    let s = h.structure;
-    let structure::HandStructure::Standard { pair: _ } = s else {
+    let structure::HandStructure::Standard { pair: _, melds } = h else {
         return false;
     };
-    let ms = h.melds;
-    !opened & (2 <= count_peikou(ms))
+    !opened & (2 <= count_peikou(melds))
 }
 
 // Is there a sequence at the tile's number in each suit? A sequence starts at 1 to 7.
 fn runs_of_number(ms: [meld::Meld; 4], t: u8) -> bool
     ensures { result ≡ (ltb (t % 9) 7 && all (λ u. any (run_from u) ms) (three_suits (t % 9))) }
 {
-    let n = t % 9;
-    (n < 7) & (has_run(ms, n) & (has_run(ms, n + 9) & has_run(ms, n + 18)))
+    let line = meld_yaku::three_suits(t);
+    (t % 9 < 7) & line.iter().all(|u| has_run(ms, *u))
 }
 
-// Is there the same sequence in all three suits? That takes three of the four melds, so one of the first two is among them.
-fn is_sanshoku(ms: [meld::Meld; 4]) -> bool
-    ensures { result ≡ sanshoku_doujun ms }
-{
-    let a = ms[0];
-    let b = ms[1];
-    runs_of_number(ms, a.tile) | runs_of_number(ms, b.tile)
-}
-
-// Sanshoku doujun: the same sequence in all three suits.
-pub fn check_sanshoku(h: structure::Hand) -> bool
+// Sanshoku doujun: the same sequence in all three suits. That takes three of the four melds, so one of the first two is among them.
+pub fn check_sanshoku(h: structure::HandStructure) -> bool
     ensures { result ≡ of_standard (λ p ms. sanshoku_doujun ms) (reading_of h) }
 {
-    let s = h.structure;
-    let structure::HandStructure::Standard { pair: _ } = s else {
+    let structure::HandStructure::Standard { pair: _, melds } = h else {
         return false;
     };
-    let ms = h.melds;
-    is_sanshoku(ms)
+    melds[..2].iter().any(|m| runs_of_number(melds, m.tile))
 }
 
 // Are 123, 456 and 789 of the tile's suit there?
@@ -108,26 +89,17 @@ fn straight_of_suit(ms: [meld::Meld; 4], t: u8) -> bool
         return false;
     }
     let first = suit * 9;
-    has_run(ms, first) & (has_run(ms, first + 3) & has_run(ms, first + 6))
+    [first, first + 3, first + 6]
+        .iter()
+        .all(|u| has_run(ms, *u))
 }
 
-// Are 123, 456 and 789 of one suit there? That takes three of the four melds, so one of the first two is among them.
-fn is_ittsu(ms: [meld::Meld; 4]) -> bool
-    ensures { result ≡ ittsu ms }
-{
-    let a = ms[0];
-    let b = ms[1];
-    straight_of_suit(ms, a.tile) | straight_of_suit(ms, b.tile)
-}
-
-// Ittsu: 123, 456 and 789 of one suit.
-pub fn check_ittsu(h: structure::Hand) -> bool
+// Ittsu: 123, 456 and 789 of one suit. That takes three of the four melds, so one of the first two is among them.
+pub fn check_ittsu(h: structure::HandStructure) -> bool
     ensures { result ≡ of_standard (λ p ms. ittsu ms) (reading_of h) }
 {
-    let s = h.structure;
-    let structure::HandStructure::Standard { pair: _ } = s else {
+    let structure::HandStructure::Standard { pair: _, melds } = h else {
         return false;
     };
-    let ms = h.melds;
-    is_ittsu(ms)
+    melds[..2].iter().any(|m| straight_of_suit(melds, m.tile))
 }

@@ -13,10 +13,10 @@ use Rattle.meld.specs.declared.Meld.{Meld}
 use Rattle.meld.specs.Meld.{is_kan, is_triplet_or_kan}
 use Rattle.context.specs.declared.GameContext.{GameContext}
 use Rattle.hand.specs.Reading.{Reading}
-use Rattle.structure.specs.declared.Hand.{Hand}
 use Rattle.structure.specs.declared.HandStructure.{HandStructure}
 use Rattle.structure.specs.declared.HandStructure.TheVariants.{Standard, Chiitoitsu, Kokushi}
-use Rattle.structure.specs.Structure.{read, reading_of}
+use Rattle.structure.specs.Structure.{reading_of}
+use Rattle.structure.proofs.Short.{FourMelds}
 use Rattle.wait.specs.Concealed.{concealed, spared}
 use Rattle.meld_yaku.specs.Melds.{set_of, three_suits}
 use Rattle.meld_yaku.specs.Standard.{of_standard}
@@ -118,17 +118,12 @@ set_yaku w r =
       sankantsu = of_standard (λ p ms. eqb (kans ms) 3) r;
     }
 
-abbrev no_sets : SetYaku
+abbrev pub no_sets : SetYaku
 no_sets = record { toitoi = false; sanshoku_doukou = false; sanankou = false; sankantsu = false }
 
-no_sets_read :
-    (w : GameContext) (ms : List Meld) (ps : List ℕ) → length ms ≡ 4 → (s : HandStructure)
-    → of_standard (λ p ms. leb 3 (count is_triplet_or_kan ms)) (read s ms ps) ≡ false → no_sets ≡ set_yaku w (read s ms ps)
-no_sets_read w ms ps size (Standard p) few = cc (no_toitoi ms few size, no_doukou ms few, no_sanankou ms few w, no_kans ms few 3 (lit≤ tt))
-no_sets_read w ms ps size Chiitoitsu few = refl
-no_sets_read w ms ps size (Kokushi p) few = refl
-
 pub no_sets_holds :
-    (w : GameContext) (h : Hand) → length h.melds ≡ 4
+    (w : GameContext) (h : HandStructure) → FourMelds h
     → of_standard (λ p ms. leb 3 (count is_triplet_or_kan ms)) (reading_of h) ≡ false → no_sets ≡ set_yaku w (reading_of h)
-no_sets_holds w h size = no_sets_read w h.melds h.pairs size h.structure
+no_sets_holds w (Standard p ms) size few = cc (no_toitoi ms few (size p ms refl), no_doukou ms few, no_sanankou ms few w, no_kans ms few 3 (lit≤ tt))
+no_sets_holds w (Chiitoitsu ps) size few = refl
+no_sets_holds w (Kokushi p) size few = refl

@@ -1,7 +1,7 @@
 // Yaku of triplets and kans (yaku.rs of agari). Each check takes its case apart and otherwise answers no at that line.
 #![tactic(auto)]
 
-ghost use Rattle.std.specs.Prelude.{◌≡◌, not, ◌&&◌, ◌%◌, ◌≤◌, eqb, leb};
+ghost use Rattle.std.specs.Prelude.{◌≡◌, not, ◌&&◌, ◌%◌, cond, eqb, leb};
 ghost use Rattle.lists.specs.Fold.{all, any, count};
 ghost use Rattle.meld.specs.Meld.{is_triplet_or_kan};
 ghost use Rattle.structure.specs.Structure.{reading_of};
@@ -10,132 +10,76 @@ ghost use Rattle.meld_yaku.specs.Melds.{set_of, three_suits};
 ghost use Rattle.meld_yaku.specs.Standard.{of_standard};
 ghost use Rattle.set_yaku.specs.Sets.{toitoi, kans, san_ankou, sanshoku_doukou, suuankou};
 
-use meld_yaku::has_set;
-use wait::how_many;
-
-// How many kans there are.
-fn count_kans(ms: [meld::Meld; 4]) -> u8
-    ensures { (result ≡ kans ms) × (result ≤ 4) }
-{
-    how_many(
-        ms[0].is_kan(),
-        ms[1].is_kan(),
-        ms[2].is_kan(),
-        ms[3].is_kan(),
-    )
-}
+use meld_yaku::{has_set, three_suits};
+use wait::count_melds;
 
 // How many triplets and kans are concealed; with `kept` a triplet of the ron tile too.
 fn count_concealed(ms: [meld::Meld; 4], w: context::GameContext, kept: bool) -> u8
-    ensures { (result ≡ count (concealed w kept) ms) × (result ≤ 4) }
+    ensures { result ≡ count (concealed w kept) ms }
 {
-    how_many(
-        wait::is_concealed_set(ms[0], w, kept),
-        wait::is_concealed_set(ms[1], w, kept),
-        wait::is_concealed_set(ms[2], w, kept),
-        wait::is_concealed_set(ms[3], w, kept),
-    )
-}
-
-// How many triplets and kans there are.
-fn count_triplets(ms: [meld::Meld; 4]) -> u8
-    ensures { (result ≡ count is_triplet_or_kan ms) × (result ≤ 4) }
-{
-    how_many(
-        ms[0].is_triplet_or_kan(),
-        ms[1].is_triplet_or_kan(),
-        ms[2].is_triplet_or_kan(),
-        ms[3].is_triplet_or_kan(),
-    )
+    count_melds(ms, |m| wait::is_concealed_set(m, w, kept))
 }
 
 // Are there three triplets or kans or more? Most hands have fewer, and many yaku need them.
-pub fn has_three_sets(h: structure::Hand) -> bool
+pub fn has_three_sets(h: structure::HandStructure) -> bool
     ensures { result ≡ of_standard (λ p ms. leb 3 (count is_triplet_or_kan ms)) (reading_of h) }
 {
-    let s = h.structure;
-    let structure::HandStructure::Standard { pair: _ } = s else {
+    let structure::HandStructure::Standard { pair: _, melds } = h else {
         return false;
     };
-    let ms = h.melds;
-    3 <= count_triplets(ms)
-}
-
-// Are all four melds triplets or kans?
-fn is_toitoi(ms: [meld::Meld; 4]) -> bool
-    ensures { result ≡ toitoi ms }
-{
-    ms[0].is_triplet_or_kan()
-        & (ms[1].is_triplet_or_kan() & (ms[2].is_triplet_or_kan() & ms[3].is_triplet_or_kan()))
+    3 <= count_melds(melds, |m| m.is_triplet_or_kan())
 }
 
 // Toitoi: triplets and kans only.
-pub fn check_toitoi(h: structure::Hand) -> bool
+pub fn check_toitoi(h: structure::HandStructure) -> bool
     ensures { result ≡ of_standard (λ p ms. toitoi ms) (reading_of h) }
 {
-    let s = h.structure;
-    let structure::HandStructure::Standard { pair: _ } = s else {
+    let structure::HandStructure::Standard { pair: _, melds } = h else {
         return false;
     };
-    let ms = h.melds;
-    is_toitoi(ms)
+    melds.iter().all(|m| m.is_triplet_or_kan())
 }
 
 // Is there a triplet or kan of the tile's number in each suit?
 fn sets_of_number(ms: [meld::Meld; 4], t: u8) -> bool
     ensures { result ≡ all (λ u. any (set_of (eqb u)) ms) (three_suits (t % 9)) }
 {
-    let n = t % 9;
-    has_set(ms, n) & (has_set(ms, n + 9) & has_set(ms, n + 18))
+    let line = three_suits(t);
+    line.iter().all(|u| has_set(ms, *u))
 }
 
-// Is there the same triplet in all three suits? That takes three of the four melds, so one of the first two is among them.
-fn is_sanshoku_doukou(ms: [meld::Meld; 4]) -> bool
-    ensures { result ≡ sanshoku_doukou ms }
-{
-    let a = ms[0];
-    let b = ms[1];
-    sets_of_number(ms, a.tile) | sets_of_number(ms, b.tile)
-}
-
-// Sanshoku doukou: the same triplet in all three suits.
-pub fn check_sanshoku_doukou(h: structure::Hand) -> bool
+// Sanshoku doukou: the same triplet in all three suits. That takes three of the four melds, so one of the first two is among them.
+pub fn check_sanshoku_doukou(h: structure::HandStructure) -> bool
     ensures { result ≡ of_standard (λ p ms. sanshoku_doukou ms) (reading_of h) }
 {
-    let s = h.structure;
-    let structure::HandStructure::Standard { pair: _ } = s else {
+    let structure::HandStructure::Standard { pair: _, melds } = h else {
         return false;
     };
-    let ms = h.melds;
-    is_sanshoku_doukou(ms)
+    melds[..2].iter().any(|m| sets_of_number(melds, m.tile))
 }
 
 // San ankou: three concealed triplets or kans.
-pub fn check_sanankou(h: structure::Hand, w: context::GameContext) -> bool
+pub fn check_sanankou(h: structure::HandStructure, w: context::GameContext) -> bool
     ensures { result ≡ of_standard (λ p ms. san_ankou w ms) (reading_of h) }
 {
-    let s = h.structure;
-    let structure::HandStructure::Standard { pair: _ } = s else {
+    let structure::HandStructure::Standard { pair: _, melds } = h else {
         return false;
     };
-    let ms = h.melds;
-    count_concealed(ms, w, wait::winning_tile_in_closed_sequence(ms, w)) == 3
+    count_concealed(melds, w, wait::winning_tile_in_closed_sequence(melds, w)) == 3
 }
 
 // San kantsu and suu kantsu: so many kans.
-pub fn check_kantsu(h: structure::Hand, n: u8) -> bool
+pub fn check_kantsu(h: structure::HandStructure, n: u8) -> bool
     ensures { result ≡ of_standard (λ p ms. eqb (kans ms) n) (reading_of h) }
 {
-    let s = h.structure;
-    let structure::HandStructure::Standard { pair: _ } = s else {
+    let structure::HandStructure::Standard { pair: _, melds } = h else {
         return false;
     };
-    let ms = h.melds;
-    count_kans(ms) == n
+    count_melds(melds, |m| m.is_kan()) == n
 }
 
 // The yaku of three triplets or kans, the four together.
-#[derive(Clone, Copy)]
+#[derive(Clone, Copy, Default)]
 pub struct SetYaku {
     pub toitoi: bool,
     pub sanshoku_doukou: bool,
@@ -144,7 +88,7 @@ pub struct SetYaku {
 }
 
 // Toitoi, Sanshoku doukou, San ankou and San kantsu: all no at once where there are fewer than three triplets and kans.
-pub fn check_sets(h: structure::Hand, w: context::GameContext) -> SetYaku
+pub fn check_sets(h: structure::HandStructure, w: context::GameContext) -> SetYaku
     ensures { result ≡ record {
       toitoi = of_standard (λ p ms. toitoi ms) (reading_of h);
       sanshoku_doukou = of_standard (λ p ms. sanshoku_doukou ms) (reading_of h);
@@ -153,12 +97,7 @@ pub fn check_sets(h: structure::Hand, w: context::GameContext) -> SetYaku
     } }
 {
     if !has_three_sets(h) {
-        return SetYaku {
-            toitoi: false,
-            sanshoku_doukou: false,
-            sanankou: false,
-            sankantsu: false,
-        };
+        return SetYaku::default();
     }
     SetYaku {
         toitoi: check_toitoi(h),
@@ -168,26 +107,12 @@ pub fn check_sets(h: structure::Hand, w: context::GameContext) -> SetYaku
     }
 }
 
-// Suuankou: four concealed triplets or kans, won on another tile than the pair's.
-pub fn check_suuankou(h: structure::Hand, w: context::GameContext) -> bool
-    ensures { result ≡ of_standard (λ p ms. suuankou w ms && not (eqb w.winning_tile p)) (reading_of h) }
+// Suuankou: four concealed triplets or kans, won on the pair's tile (`on_pair` yes, Suuankou tanki) or on another one (no).
+pub fn check_suuankou(h: structure::HandStructure, w: context::GameContext, on_pair: bool) -> bool
+    ensures { result ≡ of_standard (λ p ms. suuankou w ms && cond on_pair (eqb w.winning_tile p) (not (eqb w.winning_tile p))) (reading_of h) }
 {
-    let s = h.structure;
-    let structure::HandStructure::Standard { pair } = s else {
+    let structure::HandStructure::Standard { pair, melds } = h else {
         return false;
     };
-    let ms = h.melds;
-    (count_concealed(ms, w, false) == 4) & !(w.winning_tile == pair.0)
-}
-
-// Suuankou tanki: four concealed triplets or kans, won on the pair's tile.
-pub fn check_suuankou_tanki(h: structure::Hand, w: context::GameContext) -> bool
-    ensures { result ≡ of_standard (λ p ms. suuankou w ms && eqb w.winning_tile p) (reading_of h) }
-{
-    let s = h.structure;
-    let structure::HandStructure::Standard { pair } = s else {
-        return false;
-    };
-    let ms = h.melds;
-    (count_concealed(ms, w, false) == 4) & (w.winning_tile == pair.0)
+    (count_concealed(melds, w, false) == 4) & ((w.winning_tile == pair.0) == on_pair)
 }

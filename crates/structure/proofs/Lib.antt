@@ -1,4 +1,4 @@
-pub mod Four
+pub mod Asked
 pub mod Seven
 pub mod Cases
 pub mod Short

@@ -1,7 +1,7 @@
 // The tallies of a reading and their han (yaku.rs of agari: detect_yaku_with_context).
 #![tactic(auto)]
 
-ghost use Rattle.std.specs.Prelude.{◌≡◌, true, false, cond, ◌++◌, map, ◌≤◌, replicate};
+ghost use Rattle.std.specs.Prelude.{◌≡◌, false, cond, ◌++◌, map, ◌*◌, ◌≤◌, replicate};
 ghost use Rattle.lists.specs.Fold.{one};
 ghost use Rattle.structure.specs.Structure.{reading_of};
 ghost use Rattle.meld_yaku.specs.Standard.{of_standard};
@@ -19,64 +19,49 @@ pub struct YakuResult {
 }
 
 // Is it seven pairs?
-fn is_chiitoitsu(h: structure::Hand) -> bool
+fn is_chiitoitsu(h: structure::HandStructure) -> bool
     ensures { result ≡ is_chiitoitsu (reading_of h) }
 {
-    let s = h.structure;
-    let structure::HandStructure::Chiitoitsu = s else {
+    let structure::HandStructure::Chiitoitsu { pairs: _ } = h else {
         return false;
     };
     true
 }
 
 // The answer to a question of the tiles; no for thirteen orphans.
-fn unless_orphans(q: bool, h: structure::Hand) -> bool
+fn unless_orphans(q: bool, h: structure::HandStructure) -> bool
     ensures { result ≡ unless_orphans q (reading_of h) }
 {
-    let s = h.structure;
-    match s {
-        structure::HandStructure::Standard { pair: _ } => q,
-        structure::HandStructure::Chiitoitsu => q,
+    match h {
+        structure::HandStructure::Standard { pair: _, melds: _ } => q,
+        structure::HandStructure::Chiitoitsu { pairs: _ } => q,
         structure::HandStructure::Kokushi { pair: _ } => false,
     }
 }
 
 // The answer to a question of the tiles; no unless they are a pair and four melds.
-fn if_standard(q: bool, h: structure::Hand) -> bool
+fn if_standard(q: bool, h: structure::HandStructure) -> bool
     ensures { result ≡ of_standard (λ p ms. q) (reading_of h) }
 {
-    let s = h.structure;
-    let structure::HandStructure::Standard { pair: _ } = s else {
+    let structure::HandStructure::Standard { pair: _, melds: _ } = h else {
         return false;
     };
     q
 }
 
-// Are they thirteen orphans, won on the doubled tile?
-fn won_on_pair(h: structure::Hand, w: context::GameContext) -> bool
-    ensures { result ≡ orphans_won w true (reading_of h) }
+// Are they thirteen orphans, won on the doubled tile (`doubled` yes) or on another one (no)?
+fn orphans_won(h: structure::HandStructure, w: context::GameContext, doubled: bool) -> bool
+    ensures { result ≡ orphans_won w doubled (reading_of h) }
 {
-    let s = h.structure;
-    let structure::HandStructure::Kokushi { pair } = s else {
+    let structure::HandStructure::Kokushi { pair } = h else {
         return false;
     };
-    w.winning_tile == pair.0
-}
-
-// Are they thirteen orphans, won on another tile?
-fn won_beside_pair(h: structure::Hand, w: context::GameContext) -> bool
-    ensures { result ≡ orphans_won w false (reading_of h) }
-{
-    let s = h.structure;
-    let structure::HandStructure::Kokushi { pair } = s else {
-        return false;
-    };
-    !(w.winning_tile == pair.0)
+    (w.winning_tile == pair.0) == doubled
 }
 
 // The tallies of one han, Riichi to HouteiRaoyui.
 fn one_han(
-    h: structure::Hand,
+    h: structure::HandStructure,
     s: tile_yaku::TileYaku,
     w: context::GameContext,
     opened: bool,
@@ -88,12 +73,12 @@ fn one_han(
     let rinshan = w.is_rinshan & tsumo;
     let honors = honor_yaku::check_all_yakuhai(h, w);
     [
-        lists::one_if(riichi & !w.is_double_riichi),
-        lists::one_if(riichi & (w.is_ippatsu & !rinshan)),
-        lists::one_if(tsumo & !opened),
-        lists::one_if(unless_orphans(s.tanyao, h)),
-        lists::one_if(wait::is_pinfu(h, w, opened)),
-        lists::one_if(sequence_yaku::check_iipeikou(h, opened)),
+        u8::from(riichi & !w.is_double_riichi),
+        u8::from(riichi & (w.is_ippatsu & !rinshan)),
+        u8::from(tsumo & !opened),
+        u8::from(unless_orphans(s.tanyao, h)),
+        u8::from(wait::is_pinfu(h, w, opened)),
+        u8::from(sequence_yaku::check_iipeikou(h, opened)),
         honors.east,
         honors.south,
         honors.west,
@@ -101,16 +86,16 @@ fn one_han(
         honors.white,
         honors.green,
         honors.red,
-        lists::one_if(rinshan),
-        lists::one_if(w.is_chankan & !tsumo),
-        lists::one_if(w.is_last_tile & (tsumo & !w.is_rinshan)),
-        lists::one_if(w.is_last_tile & !tsumo),
+        u8::from(rinshan),
+        u8::from(w.is_chankan & !tsumo),
+        u8::from(w.is_last_tile & (tsumo & !w.is_rinshan)),
+        u8::from(w.is_last_tile & !tsumo),
     ]
 }
 
 // The tallies of more han, DoubleRiichi to Chinitsu.
 fn more_han(
-    h: structure::Hand,
+    h: structure::HandStructure,
     s: tile_yaku::TileYaku,
     w: context::GameContext,
     opened: bool,
@@ -119,27 +104,27 @@ fn more_han(
 {
     let sets = set_yaku::check_sets(h, w);
     [
-        lists::one_if((w.is_riichi & !opened) & w.is_double_riichi),
-        lists::one_if(sets.toitoi),
-        lists::one_if(sequence_yaku::check_sanshoku(h)),
-        lists::one_if(sets.sanshoku_doukou),
-        lists::one_if(sequence_yaku::check_ittsu(h)),
-        lists::one_if(is_chiitoitsu(h)),
-        lists::one_if(end_yaku::check_chanta(h)),
-        lists::one_if(sets.sanankou),
-        lists::one_if(sets.sankantsu),
-        lists::one_if(unless_orphans(s.honroutou, h)),
-        lists::one_if(honor_yaku::check_shousangen(h)),
-        lists::one_if(unless_orphans(s.honitsu, h)),
-        lists::one_if(end_yaku::check_junchan(h)),
-        lists::one_if(sequence_yaku::check_ryanpeikou(h, opened)),
-        lists::one_if(unless_orphans(s.chinitsu, h)),
+        u8::from((w.is_riichi & !opened) & w.is_double_riichi),
+        u8::from(sets.toitoi),
+        u8::from(sequence_yaku::check_sanshoku(h)),
+        u8::from(sets.sanshoku_doukou),
+        u8::from(sequence_yaku::check_ittsu(h)),
+        u8::from(is_chiitoitsu(h)),
+        u8::from(end_yaku::check_chanta(h)),
+        u8::from(sets.sanankou),
+        u8::from(sets.sankantsu),
+        u8::from(unless_orphans(s.honroutou, h)),
+        u8::from(honor_yaku::check_shousangen(h)),
+        u8::from(unless_orphans(s.honitsu, h)),
+        u8::from(end_yaku::check_junchan(h)),
+        u8::from(sequence_yaku::check_ryanpeikou(h, opened)),
+        u8::from(unless_orphans(s.chinitsu, h)),
     ]
 }
 
 // May there be a yakuman? It takes a first draw, rare tiles, thirteen orphans, or three triplets or kans.
 fn may_be_yakuman(
-    h: structure::Hand,
+    h: structure::HandStructure,
     s: tile_yaku::TileYaku,
     w: context::GameContext,
     opened: bool,
@@ -147,13 +132,13 @@ fn may_be_yakuman(
     ensures { result ≡ false → is_yakuman w opened s (reading_of h) ≡ false }
 {
     let tiles = (s.tsuuiisou | s.chinroutou) | (s.ryuuiisou | (!opened & s.nine_gates));
-    let orphans = won_on_pair(h, w) | won_beside_pair(h, w);
+    let orphans = orphans_won(h, w, true) | orphans_won(h, w, false);
     (w.is_tenhou | w.is_chiihou) | (tiles | (orphans | set_yaku::has_three_sets(h)))
 }
 
 // The tallies of yakuman, Tenhou to JunseiChuurenPoutou.
 fn yakuman_tallies(
-    h: structure::Hand,
+    h: structure::HandStructure,
     s: tile_yaku::TileYaku,
     w: context::GameContext,
     opened: bool,
@@ -166,27 +151,27 @@ fn yakuman_tallies(
     let tsumo = w.is_tsumo();
     let dealer = w.is_dealer();
     [
-        lists::one_if(w.is_tenhou & (tsumo & (!opened & dealer))),
-        lists::one_if(w.is_chiihou & (tsumo & (!opened & !dealer))),
-        lists::one_if(won_beside_pair(h, w)),
-        lists::one_if(set_yaku::check_suuankou(h, w)),
-        lists::one_if(honor_yaku::check_daisangen(h)),
-        lists::one_if(honor_yaku::check_shousuushii(h)),
-        lists::one_if(honor_yaku::check_daisuushii(h)),
-        lists::one_if(unless_orphans(s.tsuuiisou, h)),
-        lists::one_if(unless_orphans(s.chinroutou, h)),
-        lists::one_if(if_standard(s.ryuuiisou, h)),
-        lists::one_if(if_standard(!opened & (s.nine_gates & !s.pure_wait), h)),
-        lists::one_if(set_yaku::check_kantsu(h, 4)),
-        lists::one_if(won_on_pair(h, w)),
-        lists::one_if(set_yaku::check_suuankou_tanki(h, w)),
-        lists::one_if(if_standard(!opened & (s.nine_gates & s.pure_wait), h)),
+        u8::from(w.is_tenhou & (tsumo & (!opened & dealer))),
+        u8::from(w.is_chiihou & (tsumo & (!opened & !dealer))),
+        u8::from(orphans_won(h, w, false)),
+        u8::from(set_yaku::check_suuankou(h, w, false)),
+        u8::from(honor_yaku::check_daisangen(h)),
+        u8::from(honor_yaku::check_shousuushii(h)),
+        u8::from(honor_yaku::check_daisuushii(h)),
+        u8::from(unless_orphans(s.tsuuiisou, h)),
+        u8::from(unless_orphans(s.chinroutou, h)),
+        u8::from(if_standard(s.ryuuiisou, h)),
+        u8::from(if_standard(!opened & (s.nine_gates & !s.pure_wait), h)),
+        u8::from(set_yaku::check_kantsu(h, 4)),
+        u8::from(orphans_won(h, w, true)),
+        u8::from(set_yaku::check_suuankou(h, w, true)),
+        u8::from(if_standard(!opened & (s.nine_gates & s.pure_wait), h)),
     ]
 }
 
 // All tallies, from those of yakuman: a yakuman leaves every other yaku out.
 fn all_tallies(
-    h: structure::Hand,
+    h: structure::HandStructure,
     s: tile_yaku::TileYaku,
     w: context::GameContext,
     opened: bool,
@@ -319,11 +304,11 @@ fn han_table(opened: bool) -> [u8; 47]
     HAN_CLOSED
 }
 
-// A byte as a wider number.
-fn wide(x: u8) -> u32
-    ensures { (result ≡ x) × (result ≤ 255) }
+// A value as often as its tally says.
+fn times(value: u8, tally: u8) -> u32
+    ensures { (result ≡ value * tally) × (result ≤ 65025) }
 {
-    x as u32
+    u32::from(value) * u32::from(tally)
 }
 
 // The sum of each value as often as its tally says.
@@ -332,14 +317,14 @@ fn sum_of(values: [u8; 47], tallies: [u8; 47]) -> u32
 {
     let mut han = 0;
     for i in 0..47 {
-        han += wide(values[i]) * wide(tallies[i]);
+        han += times(values[i], tallies[i]);
     }
     han
 }
 
 // What is found of a reading.
 pub fn detect_yaku_with_context(
-    h: structure::Hand,
+    h: structure::HandStructure,
     s: tile_yaku::TileYaku,
     w: context::GameContext,
     opened: bool,

@@ -1,18 +1,8 @@
--- `any_sequence` meets its contract. Assumes nothing.
-use mathlib.Core.Path.{◌≡◌}
-use lib.ListN.{length}
-use borrow.Author.Rules.{rules}
+-- `any_sequence` meets its contract: the closure asks the definition's question. Assumes nothing.
+use Rattle.std.proofs.Common.{rules, tests}
+use Rattle.structure.proofs.Asked.{any_asked}
 use Rattle.meld.specs.Meld.{is_sequence}
-use Rattle.structure.proofs.Four.{any_four}
 use Rattle.end_yaku.proofs.any_sequence.Goals as goal
 
 pub returns : goal.returns
-returns c =
-    let size : length c.args.ms ≡ 4 = search rules in
-    simp (
-      c.is_sequence.ensures,
-      c.is_sequence-2.ensures,
-      c.is_sequence-3.ensures,
-      c.is_sequence-4.ensures,
-    )
-    (any_four is_sequence c.args.ms _ size)
+returns c = any_asked is_sequence c.args.ms (cc) c.any.ensures.ran (λ x b q k. search (rules, tests))

@@ -1,14 +1,13 @@
 -- `check_chanta` meets its contract. Assumes nothing.
-use borrow.Author.Rules.{rules}
-use Rattle.meld_yaku.proofs.Otherwise.{answer_no}
+use Rattle.std.proofs.Common.{rules, tests}
+use Rattle.tile.specs.Tile.{is_terminal, is_terminal_or_honor}
+use Rattle.end_yaku.specs.Ends.{chanta, junchan}
 use Rattle.end_yaku.proofs.check_chanta.Goals as goal
 
-pub returns-in_default : goal.returns-in_default
-returns-in_default c = answer_no c.args.h c.in_default.not-Standard _
-
 pub returns : goal.returns
+unfolding chanta junchan
 returns c = simp (
   c.in-Standard.is,
-  c.is_chanta.ensures,
-  c.is_junchan.ensures,
+  c.has_ends.ensures.ends is_terminal_or_honor (λ t b k. search (rules, tests)),
+  c.has_ends-2.ensures.ends is_terminal (λ t b k. search (rules, tests)),
 )

@@ -1,16 +1,11 @@
 -- `check_shousangen` meets its contract. Assumes nothing.
-use borrow.Author.Rules.{rules}
-use Rattle.meld_yaku.proofs.Otherwise.{answer_no}
 use Rattle.honor_yaku.specs.Honors.{shousangen}
 use Rattle.honor_yaku.proofs.check_shousangen.Goals as goal
-
-pub returns-in_default : goal.returns-in_default
-returns-in_default c = answer_no c.args.h c.in_default.not-Standard _
 
 pub returns : goal.returns
 unfolding shousangen
 returns c = simp (
   c.in-Standard.is,
   c.is_dragon.ensures,
-  c.count_dragons.ensures.0,
+  c.count_dragons.ensures,
 )

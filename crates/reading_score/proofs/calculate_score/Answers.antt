@@ -5,7 +5,7 @@ use Prim.Native.Nat.{◌≤◌}
 use native.Mathlib.Omega.{arith}
 use lib.ListN.{length-map}
 use Rattle.structure.specs.Structure.{reading_of}
-use Rattle.structure.proofs.Short.{short_reading}
+use Rattle.structure.proofs.Short.{FourMelds, short_reading}
 use Rattle.yaku.proofs.Laws.{han_plain}
 use Rattle.scoring.proofs.Laws.{basic_le}
 use Rattle.reading_score.specs.Score.{result, score_of}
@@ -16,7 +16,7 @@ pub total_han_with_dora-han-requires : goal.total_han_with_dora-han-requires
 total_han_with_dora-han-requires c =
     let a = c.args in
     let found = c.detect_yaku_with_context-yaku.ensures in
-    let four = c.well_formed.0.1.1.1.0.1.0.1 in
+    let four : FourMelds a.h = λ p ms e. let k = rw e at c.well_formed.0 in search rules in
     (c.requires, λ e. omega (arith, found.1.0, han_plain a.w a.opened a.s (reading_of a.h) (short_reading a.h four) (sym found.1.1 ∙ e)))
 
 pub calculate_payment-requires : goal.calculate_payment-requires

@@ -1,12 +1,13 @@
 -- `rank` meets its contract, and its number fits: a total of u32 amounts, a digit for the yakuman, and two bytes. Assumes nothing.
-use mathlib.Core.Path.{◌≡◌, ap}
-use mathlib.Core.Bool.{not}
+use mathlib.Core.Path.{◌≡◌, refl, ap, ◌∙◌}
+use mathlib.Core.Bool.{Bool, true, false, not}
 use mathlib.Core.List.{List}
 use Prim.Native.Nat.{ℕ, ◌*◌, ◌≤◌}
 use native.Mathlib.Omega.{arith}
 use borrow.Author.Rules.{rules}
 use mir.Val.{Val}
 use denote.Laws.{Is}
+use Rattle.std.specs.Int.{from_bool}
 use Rattle.rules.specs.declared.Variant.{Variant}
 use Rattle.rules.specs.Rules.{game}
 use Rattle.rules.proofs.Games.{table}
@@ -16,7 +17,6 @@ use Rattle.scoring.specs.contracts.Payment as P
 use Rattle.scoring.proofs.Shares.{table_rises}
 use Rattle.reading_score.specs.Score.{yakuman_first}
 use Rattle.reading_score.proofs.Fits.{total_fits, rank_none, rank_some}
-use Rattle.reading_score.proofs.rank.Goals.{then-x, else-x}
 use Rattle.reading_score.proofs.rank.Goals as goal
 
 -- the total of either game, at most that of four
@@ -26,47 +26,19 @@ small p v vs t is e =
     let few = table_rises p (game v).players 4 (table v).1 in
     omega arith
 
+-- the digit of the yakuman
+digit : (b : Bool) → from_bool b ≡ yakuman_first b
+digit true = refl
+digit false = refl
+
+digit_le : (b : Bool) → from_bool b ≤ 1
+digit_le true = omega arith
+digit_le false = omega arith
+
 pub overflow_mul-result : goal.overflow_mul-result
 overflow_mul-result c =
     let total = small c.args.x.payment c.args.v _ c.total-total.result c.well_formed.0.1.1.1.1.1.1.1.1.0 c.total-total.ensures in
-    let digit : c.if-x.yakuman ≤ 1 = elim c.if-x.branch [ then-x w ↦ omega arith | else-x w ↦ omega arith ] in
-    search rules
-
-pub overflow_add-result : goal.overflow_add-result
-overflow_add-result c =
-    let total = small c.args.x.payment c.args.v _ c.total-total.result c.well_formed.0.1.1.1.1.1.1.1.1.0 c.total-total.ensures in
-    let digit : c.if-x.yakuman ≤ 1 = elim c.if-x.branch [ then-x w ↦ omega arith | else-x w ↦ omega arith ] in
-    search rules
-
-pub overflow_mul-result-2 : goal.overflow_mul-result-2
-overflow_mul-result-2 c =
-    let total = small c.args.x.payment c.args.v _ c.total-total.result c.well_formed.0.1.1.1.1.1.1.1.1.0 c.total-total.ensures in
-    let digit : c.if-x.yakuman ≤ 1 = elim c.if-x.branch [ then-x w ↦ omega arith | else-x w ↦ omega arith ] in
-    search rules
-
-pub overflow_add-result-2 : goal.overflow_add-result-2
-overflow_add-result-2 c =
-    let total = small c.args.x.payment c.args.v _ c.total-total.result c.well_formed.0.1.1.1.1.1.1.1.1.0 c.total-total.ensures in
-    let digit : c.if-x.yakuman ≤ 1 = elim c.if-x.branch [ then-x w ↦ omega arith | else-x w ↦ omega arith ] in
-    search rules
-
-pub overflow_mul-result-3 : goal.overflow_mul-result-3
-overflow_mul-result-3 c =
-    let total = small c.args.x.payment c.args.v _ c.total-total.result c.well_formed.0.1.1.1.1.1.1.1.1.0 c.total-total.ensures in
-    let digit : c.if-x.yakuman ≤ 1 = elim c.if-x.branch [ then-x w ↦ omega arith | else-x w ↦ omega arith ] in
-    search rules
-
-pub overflow_add-result-3 : goal.overflow_add-result-3
-overflow_add-result-3 c =
-    let total = small c.args.x.payment c.args.v _ c.total-total.result c.well_formed.0.1.1.1.1.1.1.1.1.0 c.total-total.ensures in
-    let digit : c.if-x.yakuman ≤ 1 = elim c.if-x.branch [ then-x w ↦ omega arith | else-x w ↦ omega arith ] in
-    search rules
-
-pub overflow_add-result-4 : goal.overflow_add-result-4
-overflow_add-result-4 c =
-    let total = small c.args.x.payment c.args.v _ c.total-total.result c.well_formed.0.1.1.1.1.1.1.1.1.0 c.total-total.ensures in
-    let digit : c.if-x.yakuman ≤ 1 = elim c.if-x.branch [ then-x w ↦ omega arith | else-x w ↦ omega arith ] in
-    search rules
+    omega arith
 
 pub returns-then-not-has_yaku : goal.returns-then-not-has_yaku
 returns-then-not-has_yaku c =
@@ -76,10 +48,6 @@ returns-then-not-has_yaku c =
 pub returns : goal.returns
 returns c =
     let a = c.args in
-    let digit : c.if-x.yakuman ≡ yakuman_first a.x.is_yakuman =
-    elim c.if-x.branch [
-      | then-x w ↦ rw w.if-x.true (omega (arith, w.yakuman-is))
-      | else-x w ↦ rw w.if-x.false (omega (arith, w.yakuman-is))
-    ] in
-    rank_some (game a.v).players a.x c.has_yaku.result c.total-total.result c.if-x.yakuman
-    c.has_yaku.ensures (ap not c.if-not-has_yaku.false) c.total-total.ensures digit
+    simp (c.from-han.ensures, c.from-fu.ensures)
+    (rank_some (game a.v).players a.x c.has_yaku.result c.total-total.result c.from-yakuman.result
+    c.has_yaku.ensures (ap not c.if-not-has_yaku.false) c.total-total.ensures (c.from-yakuman.ensures ∙ digit a.x.is_yakuman))

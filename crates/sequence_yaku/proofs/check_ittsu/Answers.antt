@@ -1,10 +1,12 @@
 -- `check_ittsu` meets its contract. Assumes nothing.
-use borrow.Author.Rules.{rules}
-use Rattle.meld_yaku.proofs.Otherwise.{answer_no}
+use Rattle.std.proofs.Common.{rules, tests, ◌≡◌, ◌∙◌, take, length}
+use Rattle.structure.proofs.Asked.{any_asked}
+use Rattle.sequence_yaku.proofs.Lines.{in_suit, ittsu_lines}
 use Rattle.sequence_yaku.proofs.check_ittsu.Goals as goal
 
-pub returns-in_default : goal.returns-in_default
-returns-in_default c = answer_no c.args.h c.in_default.not-Standard _
-
 pub returns : goal.returns
-returns c = simp (c.in-Standard.is, c.is_ittsu.ensures)
+returns c =
+    let ms = c.in-Standard.melds in
+    let size : length ms ≡ 4 = search rules in
+    let e = any_asked (in_suit ms) (take 2 ms) (cc) c.any.ensures.ran (λ x b q k. search (rules, tests)) in
+    simp c.in-Standard.is (e ∙ ittsu_lines ms size)

@@ -2,6 +2,7 @@
 use mathlib.Core.Path.{◌≡◌}
 use lib.ListN.{length}
 use borrow.Author.Rules.{rules}
+use Rattle.lists.proofs.Chains.{one_is}
 use Rattle.sequence_yaku.proofs.Peikou.{six_comparisons}
 use Rattle.sequence_yaku.proofs.count_peikou.Goals as goal
 
@@ -9,9 +10,10 @@ pub returns : goal.returns
 returns c =
     let size : length c.args.ms ≡ 4 = search rules in (
       simp (
-        c.one_if-3.ensures.0,
-        c.one_if-2.ensures.0,
-        c.one_if.ensures.0,
+        c.from-3.ensures,
+        c.from-2.ensures,
+        c.from.ensures,
+        one_is,
         c.is_same_run.ensures,
         c.is_same_run-2.ensures,
         c.is_same_run-3.ensures,

@@ -1,12 +1,10 @@
 -- `runs_of_number` meets its contract. Assumes nothing.
-use mathlib.Core.Bool.{and-true}
-use borrow.Author.Rules.{rules}
+use Rattle.std.proofs.Common.{rules, tests, ◌%◌}
+use Rattle.lists.specs.Fold.{any}
+use Rattle.structure.proofs.Asked.{all_asked}
+use Rattle.meld_yaku.specs.Melds.{run_from, three_suits}
 use Rattle.sequence_yaku.proofs.runs_of_number.Goals as goal
 
 pub returns : goal.returns
-returns c = simp (
-  c.has_run.ensures,
-  c.has_run-2.ensures,
-  c.has_run-3.ensures,
-  and-true,
-)
+returns c =
+    simp (all_asked (λ u. any (run_from u) c.args.ms) (three_suits (c.args.t % 9)) (cc) c.all.ensures.ran (λ x b q k. search (rules, tests)))

@@ -1,20 +1,13 @@
 -- `straight_of_suit` meets its contract. Assumes nothing.
-use mathlib.Core.Bool.{and-true}
-use Prim.Native.Nat.{◌/◌, ◌<◌}
-use native.Mathlib.Omega.{arith}
-use borrow.Author.Tests.{le-ltb, lt-ltb}
-use borrow.Author.Rules.{rules}
+use Rattle.std.proofs.Common.{rules, tests, ◌/◌, arith}
+use borrow.Author.Tests.{lt-ltb}
+use Rattle.lists.specs.Fold.{any}
+use Rattle.structure.proofs.Asked.{all_asked}
+use Rattle.meld_yaku.specs.Melds.{run_from}
+use Rattle.sequence_yaku.proofs.Lines.{straight}
 use Rattle.sequence_yaku.proofs.straight_of_suit.Goals as goal
 
-pub returns-then-suit-ge3 : goal.returns-then-suit-ge3
-returns-then-suit-ge3 c = simp (le-ltb _ _ c.if-suit-ge3.true)
-
 pub returns : goal.returns
-returns c = let below : c.args.t / 9 < 3 = omega arith in
-    simp (
-      lt-ltb _ _ below,
-      c.has_run.ensures,
-      c.has_run-2.ensures,
-      c.has_run-3.ensures,
-      and-true,
-    )
+returns c =
+    let runs = all_asked (λ u. any (run_from u) c.args.ms) (straight (c.args.t / 9)) (cc) c.all.ensures.ran (λ x b q k. search (rules, tests)) in
+    simp (lt-ltb (c.args.t / 9) 3 (omega arith)) runs

@@ -1,10 +1,9 @@
 -- `check_kantsu` meets its contract. Assumes nothing.
-use borrow.Author.Rules.{rules}
-use Rattle.meld_yaku.proofs.Otherwise.{answer_no}
+use Rattle.std.proofs.Common.{rules, tests}
+use Rattle.meld.specs.Meld.{is_kan}
+use Rattle.set_yaku.specs.Sets.{kans}
 use Rattle.set_yaku.proofs.check_kantsu.Goals as goal
 
-pub returns-in_default : goal.returns-in_default
-returns-in_default c = answer_no c.args.h c.in_default.not-Standard _
-
 pub returns : goal.returns
-returns c = simp (c.in-Standard.is, c.count_kans.ensures.0)
+unfolding kans
+returns c = simp (c.in-Standard.is, c.count_melds.ensures.tally is_kan (λ m b k. search (rules, tests)))

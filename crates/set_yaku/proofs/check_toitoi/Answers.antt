@@ -1,10 +1,11 @@
 -- `check_toitoi` meets its contract. Assumes nothing.
-use borrow.Author.Rules.{rules}
-use Rattle.meld_yaku.proofs.Otherwise.{answer_no}
+use Rattle.std.proofs.Common.{rules, tests}
+use Rattle.meld.specs.Meld.{is_triplet_or_kan}
+use Rattle.structure.proofs.Asked.{all_asked}
+use Rattle.set_yaku.specs.Sets.{toitoi}
 use Rattle.set_yaku.proofs.check_toitoi.Goals as goal
 
-pub returns-in_default : goal.returns-in_default
-returns-in_default c = answer_no c.args.h c.in_default.not-Standard _
-
 pub returns : goal.returns
-returns c = simp (c.in-Standard.is, c.is_toitoi.ensures)
+unfolding toitoi
+returns c =
+    simp (c.in-Standard.is, all_asked is_triplet_or_kan c.in-Standard.melds (cc) c.all.ensures.ran (λ x b q k. search (rules, tests)))

@@ -1,12 +1,10 @@
 -- `sets_of_number` meets its contract. Assumes nothing.
-use mathlib.Core.Bool.{and-true}
-use borrow.Author.Rules.{rules}
+use Rattle.std.proofs.Common.{rules, tests, ◌%◌, eqb}
+use Rattle.lists.specs.Fold.{any}
+use Rattle.structure.proofs.Asked.{all_asked}
+use Rattle.meld_yaku.specs.Melds.{set_of, three_suits}
 use Rattle.set_yaku.proofs.sets_of_number.Goals as goal
 
 pub returns : goal.returns
-returns c = simp (
-  c.has_set.ensures,
-  c.has_set-2.ensures,
-  c.has_set-3.ensures,
-  and-true,
-)
+returns c =
+    all_asked (λ u. any (set_of (eqb u)) c.args.ms) (three_suits (c.args.t % 9)) (cc) c.all.ensures.ran (λ x b q k. search (rules, tests))

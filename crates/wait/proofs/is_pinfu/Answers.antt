@@ -1,23 +1,24 @@
 -- `is_pinfu` meets its contract: it asks the definition's question of a standard reading and answers no of another.
 -- Assumes nothing.
-use mathlib.Core.Path.{◌≡◌, refl}
-use mathlib.Core.Bool.{false}
-use Rattle.wait.specs.Wait.{pinfu}
+use Rattle.std.proofs.Common.{rules, tests, ◌≡◌, refl, false}
+use Rattle.structure.proofs.Asked.{any_asked, all_asked}
 use Rattle.structure.proofs.Cases.{otherwise}
-use borrow.Author.Rules.{rules}
+use Rattle.meld.specs.Meld.{is_sequence}
+use Rattle.wait.specs.Wait.{pinfu, closed_run, two_sided}
 use Rattle.wait.proofs.is_pinfu.Goals as goal
 
 pub returns : goal.returns
 unfolding pinfu
 returns c =
+    let ms = c.in-Standard.melds in
     simp (
       c.in-Standard.is,
-      c.all_sequences.ensures,
+      all_asked is_sequence ms (cc) c.all.ensures.ran (λ x b q k. search (rules, tests)),
       c.weight.ensures.0,
-      c.any_ryanmen.ensures,
+      any_asked (closed_run two_sided c.args.w.winning_tile) ms (cc) c.any.ensures.ran (λ x b q k. search (rules, tests)),
     )
 
 pub returns-in_default : goal.returns-in_default
 unfolding pinfu
 returns-in_default c =
-    otherwise (λ r. false ≡ pinfu c.args.w c.args.opened r) c.args.h refl (λ p. refl) c.in_default.not-Standard
+    otherwise (λ r. false ≡ pinfu c.args.w c.args.opened r) (λ ps. refl) (λ p. refl) c.args.h c.in_default.not-Standard

@@ -4,7 +4,7 @@ use mathlib.Core.Path.{sym, ◌∙◌}
 use lib.ListN.{length-map}
 use Rattle.structure.specs.Structure.{reading_of}
 use Rattle.yaku.proofs.Found.{all_found}
-use Rattle.structure.proofs.Short.{short_reading}
+use Rattle.structure.proofs.Short.{FourMelds, short_reading}
 use Rattle.yaku.proofs.Laws.{han_small}
 use borrow.Author.Rules.{rules}
 use Rattle.yaku.proofs.detect_yaku_with_context.Goals as goal
@@ -22,7 +22,7 @@ returns c =
 pub overflow_cast-result : goal.overflow_cast-result
 overflow_cast-result c =
     let a = c.args in
-    let four = c.well_formed.0.1.1.1.0.1.0.1 in
+    let four : FourMelds a.h = λ p ms e. let k = rw e at c.well_formed.0 in search rules in
     let small = han_small a.w a.opened a.s (reading_of a.h) (short_reading a.h four) in
     let found = returns c in
     search rules

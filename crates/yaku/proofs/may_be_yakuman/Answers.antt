@@ -8,8 +8,8 @@ use Rattle.yaku.proofs.may_be_yakuman.Goals as goal
 pub returns : goal.returns
 returns c = λ e.
     let a = c.args in
-    let beside = c.won_beside_pair in
-    let on = c.won_on_pair in
+    let on = c.orphans_won in
+    let beside = c.orphans_won-2 in
     let whole = neither _ _ e in
     let first = neither _ _ whole.0 in
     let rest = neither _ _ whole.1 in

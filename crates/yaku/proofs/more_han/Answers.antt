@@ -2,36 +2,38 @@
 -- Assumes nothing.
 use Rattle.yaku.specs.Tally.{more_han}
 use borrow.Author.Rules.{rules}
+use Rattle.lists.proofs.Chains.{one_is}
 use Rattle.yaku.proofs.more_han.Goals as goal
 
 pub returns : goal.returns
 unfolding more_han
 returns c =
     simp (
+      one_is,
       c.check_sets-sets.ensures,
-      c.one_if.ensures.0,
-      c.one_if-2.ensures.0,
+      c.from.ensures,
+      c.from-2.ensures,
       c.check_sanshoku.ensures,
-      c.one_if-3.ensures.0,
-      c.one_if-4.ensures.0,
+      c.from-3.ensures,
+      c.from-4.ensures,
       c.check_ittsu.ensures,
-      c.one_if-5.ensures.0,
+      c.from-5.ensures,
       c.is_chiitoitsu.ensures,
-      c.one_if-6.ensures.0,
+      c.from-6.ensures,
       c.check_chanta.ensures,
-      c.one_if-7.ensures.0,
-      c.one_if-8.ensures.0,
-      c.one_if-9.ensures.0,
+      c.from-7.ensures,
+      c.from-8.ensures,
+      c.from-9.ensures,
       c.unless_orphans.ensures,
-      c.one_if-10.ensures.0,
+      c.from-10.ensures,
       c.check_shousangen.ensures,
-      c.one_if-11.ensures.0,
+      c.from-11.ensures,
       c.unless_orphans-2.ensures,
-      c.one_if-12.ensures.0,
+      c.from-12.ensures,
       c.check_junchan.ensures,
-      c.one_if-13.ensures.0,
+      c.from-13.ensures,
       c.check_ryanpeikou.ensures,
-      c.one_if-14.ensures.0,
+      c.from-14.ensures,
       c.unless_orphans-3.ensures,
-      c.one_if-15.ensures.0,
+      c.from-15.ensures,
     )

@@ -2,25 +2,27 @@
 -- Assumes nothing.
 use Rattle.yaku.specs.Tally.{one_han}
 use borrow.Author.Rules.{rules}
+use Rattle.lists.proofs.Chains.{one_is}
 use Rattle.yaku.proofs.one_han.Goals as goal
 
 pub returns : goal.returns
 unfolding one_han
 returns c =
     simp (
+      one_is,
       c.is_tsumo-tsumo.ensures,
-      c.one_if.ensures.0,
-      c.one_if-2.ensures.0,
-      c.one_if-3.ensures.0,
+      c.from.ensures,
+      c.from-2.ensures,
+      c.from-3.ensures,
       c.unless_orphans.ensures,
-      c.one_if-4.ensures.0,
+      c.from-4.ensures,
       c.is_pinfu.ensures,
-      c.one_if-5.ensures.0,
+      c.from-5.ensures,
       c.check_iipeikou.ensures,
-      c.one_if-6.ensures.0,
+      c.from-6.ensures,
       c.check_all_yakuhai-honors.ensures,
-      c.one_if-7.ensures.0,
-      c.one_if-8.ensures.0,
-      c.one_if-9.ensures.0,
-      c.one_if-10.ensures.0,
+      c.from-7.ensures,
+      c.from-8.ensures,
+      c.from-9.ensures,
+      c.from-10.ensures,
     )

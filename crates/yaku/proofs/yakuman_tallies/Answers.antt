@@ -4,6 +4,7 @@ use Rattle.set_yaku.specs.Sets.{kans, suu_kantsu}
 use Rattle.structure.specs.Structure.{reading_of}
 use Rattle.yaku.proofs.NoYakuman.{all_zero}
 use borrow.Author.Rules.{rules}
+use Rattle.lists.proofs.Chains.{one_is}
 use borrow.Author.Tests.{not-true}
 use Rattle.yaku.proofs.yakuman_tallies.Goals as goal
 
@@ -16,34 +17,35 @@ pub returns : goal.returns
 unfolding suu_kantsu kans
 returns c =
     simp (
+      one_is,
       c.is_tsumo-tsumo.ensures,
       c.is_dealer-dealer.ensures,
-      c.one_if.ensures.0,
-      c.one_if-2.ensures.0,
-      c.won_beside_pair.ensures,
-      c.one_if-3.ensures.0,
+      c.from.ensures,
+      c.from-2.ensures,
+      c.orphans_won.ensures,
+      c.from-3.ensures,
       c.check_suuankou.ensures,
-      c.one_if-4.ensures.0,
+      c.from-4.ensures,
       c.check_daisangen.ensures,
-      c.one_if-5.ensures.0,
+      c.from-5.ensures,
       c.check_shousuushii.ensures,
-      c.one_if-6.ensures.0,
+      c.from-6.ensures,
       c.check_daisuushii.ensures,
-      c.one_if-7.ensures.0,
+      c.from-7.ensures,
       c.unless_orphans.ensures,
-      c.one_if-8.ensures.0,
+      c.from-8.ensures,
       c.unless_orphans-2.ensures,
-      c.one_if-9.ensures.0,
+      c.from-9.ensures,
       c.if_standard.ensures,
-      c.one_if-10.ensures.0,
+      c.from-10.ensures,
       c.if_standard-2.ensures,
-      c.one_if-11.ensures.0,
+      c.from-11.ensures,
       c.check_kantsu.ensures,
-      c.one_if-12.ensures.0,
-      c.won_on_pair.ensures,
-      c.one_if-13.ensures.0,
-      c.check_suuankou_tanki.ensures,
-      c.one_if-14.ensures.0,
+      c.from-12.ensures,
+      c.orphans_won-2.ensures,
+      c.from-13.ensures,
+      c.check_suuankou-2.ensures,
+      c.from-14.ensures,
       c.if_standard-3.ensures,
-      c.one_if-15.ensures.0,
+      c.from-15.ensures,
     )
