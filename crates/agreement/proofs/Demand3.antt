@@ -24,7 +24,7 @@ use Rattle.checks.specs.declared.Calls.{Calls}
 use Rattle.checks.specs.Checks.{called, hand_check_in}
 use Rattle.checks.proofs.Passed.{passes_four}
 use Rattle.unit.specs.Listing.{hand_readings, hand_records}
-use Rattle.unit.proofs.Listed.{melds_called}
+use Rattle.unit.proofs.Passes.{melds_called}
 use Rattle.promises.proofs.Listing.{once}
 use Rattle.dora.specs.declared.DoraCount.{DoraCount}
 use Rattle.win.specs.Win.{dora_together, scores, score_win_in}

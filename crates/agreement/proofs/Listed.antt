@@ -10,7 +10,7 @@ use Rattle.rules.specs.Rules.{Game}
 use Rattle.hand.specs.Reading.{Reading}
 use Rattle.checks.specs.declared.Calls.{Calls}
 use Rattle.checks.specs.Checks.{hand_check_in}
-use Rattle.unit.specs.declared.Listing.TheVariants.{Listed, Refused}
+use Rattle.unit.specs.Listing.{Listed, Refused}
 use Rattle.unit.specs.Listing.{hand_readings, hand_records, listing_in, written_in}
 use Rattle.promises.proofs.Listing.{once, ascending}
 use Rattle.agreement.specs.Agreement.{Writes}

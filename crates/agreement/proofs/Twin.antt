@@ -12,7 +12,6 @@ use lib.ListN.{length}
 use Rattle.lists.specs.Fold.{all, sum}
 use Rattle.lists.proofs.Finite.{and_left, and_right, and_both}
 use Rattle.lists.proofs.Members.{all_map, all_mem, all_intro}
-use Rattle.tile.specs.Tile.{tiles}
 use Rattle.tile.specs.declared.Renaming.{Renaming}
 use Rattle.tile.specs.Renaming.{ren, back}
 use Rattle.tile.proofs.Renamings.{ren_lt, ren_back}
@@ -37,7 +36,7 @@ use Rattle.checks.proofs.Four.{four_each}
 use Rattle.checks.proofs.Played.{wall_each, each_wall}
 use Rattle.checks.proofs.Passed.{Passed, passed, passes, passes_four}
 use Rattle.unit.specs.Listing.{hand_readings}
-use Rattle.unit.proofs.Listed.{melds_called}
+use Rattle.unit.proofs.Passes.{melds_called}
 use Rattle.agreement.specs.Agreement.{StaysAllowed, RenamedCalls}
 use Rattle.agreement.proofs.Indicators.{BothRenamed, checked_alike, none_alike}
 use Rattle.win.proofs.Passed.{Checked}

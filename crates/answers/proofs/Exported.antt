@@ -17,10 +17,8 @@ use Rattle.checks.specs.declared.Calls.{Calls}
 use Rattle.unit.specs.Listing.{hand_readings}
 use Rattle.scoring.specs.declared.Payment.{Payment}
 use Rattle.scoring.specs.declared.Payment.TheVariants.{Ron, DealerTsumo, Tsumo}
-use Rattle.scoring.specs.declared.PaymentAnswer.{PaymentAnswer}
-use Rattle.scoring.specs.declared.PaymentAnswer.TheVariants.{Refused, Paid}
 use Rattle.scoring.specs.Level.{level, basic_points}
-use Rattle.scoring.specs.Payment.{round_up_to100, payment, payment_answer}
+use Rattle.scoring.specs.Payment.{PaymentAnswer, Refused, Paid, round_up_to100, payment, payment_answer}
 use Rattle.records.specs.Pick.{pick_at}
 use Rattle.reading_score.proofs.Ranks.{Priced, score_priced}
 use Rattle.choice.specs.declared.ScoreAnswer.{ScoreAnswer}

@@ -13,9 +13,7 @@ use Rattle.unit.specs.Listing.{listing_in}
 use Rattle.unit.specs.Refusals.{list_checks}
 use Rattle.unit.proofs.Refusals.{listing_refusals}
 use Rattle.scoring.specs.declared.Payment.TheVariants.{Ron, DealerTsumo, Tsumo}
-use Rattle.scoring.specs.declared.PaymentAnswer.{PaymentAnswer}
-use Rattle.scoring.specs.declared.PaymentAnswer.TheVariants.{Refused, Paid}
-use Rattle.scoring.specs.Payment.{payment_answer, refusal_of}
+use Rattle.scoring.specs.Payment.{PaymentAnswer, Refused, Paid, payment_answer, refusal_of}
 use Rattle.scoring.proofs.Shares.{payment_refusals}
 use Rattle.win.specs.Win.{score_win_in, score_reading_in, name_waits_in}
 use Rattle.win.specs.Refusals.{score_checks, number_checks}

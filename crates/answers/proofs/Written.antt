@@ -10,8 +10,8 @@ use borrow.Author.Tests.{eqb-false}
 use Rattle.rules.specs.Rules.{Game}
 use Rattle.checks.specs.declared.Calls.{Calls}
 use Rattle.checks.specs.Checks.{hand_check_in}
-use Rattle.unit.specs.declared.Listing.{Listing}
-use Rattle.unit.specs.declared.Listing.TheVariants.{Refused, Listed}
+use Rattle.unit.specs.Listing.{Listing}
+use Rattle.unit.specs.Listing.{Refused, Listed}
 use Rattle.unit.specs.Listing.{hand_readings, hand_records, listing_in}
 use Rattle.answers.specs.Answers.{listing_answer}
 

@@ -1,14 +1,12 @@
 -- The operations' answers as plain numbers, for C. These are definitions.
 use Rattle.std.specs.Prelude.{cond, ℕ, eqb}
-use Rattle.unit.specs.declared.Listing.{Listing}
+use Rattle.unit.specs.Listing.{Listing}
 use Rattle.unit.specs.Listing.{number_of, readings_of, bytes_of}
 use Rattle.scoring.specs.declared.ScoreLevel.{ScoreLevel}
 use Rattle.scoring.specs.declared.ScoreLevel.TheVariants.{Normal, Mangan, Haneman, Baiman, Sanbaiman, Yakuman}
 use Rattle.scoring.specs.declared.Payment.{Payment}
 use Rattle.scoring.specs.declared.Payment.TheVariants.{Ron, DealerTsumo, Tsumo}
-use Rattle.scoring.specs.declared.PaymentAnswer.{PaymentAnswer}
-use Rattle.scoring.specs.declared.PaymentAnswer.TheVariants.{Refused, Paid}
-use Rattle.scoring.specs.Payment.{total_at}
+use Rattle.scoring.specs.Payment.{PaymentAnswer, Refused, Paid, total_at}
 use Rattle.choice.specs.declared.ScoreAnswer.{ScoreAnswer}
 use Rattle.win.specs.declared.WaitsAnswer.{WaitsAnswer}
 use Rattle.answers.specs.declared.ListingAnswer.{ListingAnswer}

@@ -3,7 +3,11 @@
 
 ghost use Rattle.std.specs.Prelude.{◌≡◌};
 ghost use Rattle.rules.specs.Rules.{game};
+ghost use Rattle.unit.specs.Listing.{answer_of};
+ghost use Rattle.scoring.specs.Payment.{answer_of as payment_answered};
 ghost use Rattle.answers.specs.Answers.{listing_answer, level_answer, paid, payment_values_at, settlement_beside, score_values_at, waits_values};
+
+use rules::Refusal;
 
 // The answer to a listing: number 0 where accepted, else the refusal; the count of readings; the count of bytes written.
 #[repr(C)]
@@ -15,19 +19,19 @@ pub struct ListingAnswer {
 }
 
 // The numbers of a listing.
-pub fn listing_of(a: unit::Listing) -> ListingAnswer
-    ensures { result ≡ listing_answer a }
+pub fn listing_of(a: Result<unit::Listed, Refusal>) -> ListingAnswer
+    ensures { result ≡ listing_answer (answer_of a) }
 {
     match a {
-        unit::Listing::Refused(refusal) => ListingAnswer {
-            number: refusal as u32,
+        Ok(listed) => ListingAnswer {
+            number: 0,
+            readings: listed.readings,
+            bytes: listed.bytes,
+        },
+        Err(refusal) => ListingAnswer {
+            number: u32::from(refusal),
             readings: 0,
             bytes: 0,
-        },
-        unit::Listing::Listed(readings, bytes) => ListingAnswer {
-            number: 0,
-            readings: readings,
-            bytes: bytes,
         },
     }
 }
@@ -113,19 +117,19 @@ fn values_of(p: scoring::Payment, v: rules::Variant) -> PaymentValues
 }
 
 // The values of the answer to who pays what at the table of the game.
-pub fn payment_values(a: scoring::PaymentAnswer, v: rules::Variant) -> PaymentValues
-    ensures { result ≡ payment_values_at (game v).players a }
+pub fn payment_values(a: Result<scoring::Payment, Refusal>, v: rules::Variant) -> PaymentValues
+    ensures { result ≡ payment_values_at (game v).players (payment_answered a) }
 {
     match a {
-        scoring::PaymentAnswer::Refused(number) => PaymentValues {
-            number: number as u32,
+        Ok(p) => values_of(p, v),
+        Err(refused) => PaymentValues {
+            number: u32::from(refused),
             settlement: NONE,
             from_non_dealer: 0,
             from_dealer: 0,
             from_discarder: 0,
             total: 0,
         },
-        scoring::PaymentAnswer::Paid(p) => values_of(p, v),
     }
 }
 
@@ -173,7 +177,7 @@ pub fn score_values(a: choice::ScoreAnswer, v: rules::Variant) -> ScoreValues
     let pays = values_of(payment, v);
     let settlement = settlement_beside(a.number, pays.settlement);
     ScoreValues {
-        number: a.number as u32,
+        number: u32::from(a.number),
         settlement: settlement,
         reading: a.reading,
         tallies: tallies,
@@ -207,7 +211,7 @@ pub fn waits_values(a: win::WaitsAnswer) -> WaitsValues
 {
     let waits = a.waits;
     WaitsValues {
-        number: a.number as u32,
+        number: u32::from(a.number),
         waits: waits,
     }
 }

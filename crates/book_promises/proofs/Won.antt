@@ -19,7 +19,7 @@ use Rattle.seat_book.specs.declared.SeatBook.{SeatBook}
 use Rattle.seat_book.specs.declared.Deal.{Deal}
 use Rattle.seat_book.specs.declared.Settlement.{Settlement}
 use Rattle.seat_book.specs.Points.{moved}
-use Rattle.seat_book.specs.Book.{points_of, gets_of, pays_of, declares, on_table, taken, settled, has_room}
+use Rattle.seat_book.specs.Book.{points_of, gets_of, pays_of, declares, on_table, takes, taken, settled, has_room}
 use Rattle.seat_book.specs.History.{Outcome, refused, settles, number_of, book_after}
 use Rattle.seat_book.proofs.Kept.{seat_after_holds}
 use Rattle.settlements.specs.declared.Winner.{Winner}
@@ -76,7 +76,7 @@ module _ (b : SeatBook) (cs : List ℕ) (k : Calls) (w : GameContext) (d : Deal)
     book_is = ap (book_after b d) (accepted ok).is
 
     -- what a seat has after it, of the parts of its settlement
-    parts : (s g y t : ℕ) → s < 4 → gets_of x s ≡ g → taken (eqb x.taker s) (on_table b d) ≡ t → pays_of x s ≡ y → points_of after s ≡ moved (points_of b s) (g + t) (y + stick d s)
+    parts : (s g y t : ℕ) → s < 4 → gets_of x s ≡ g → taken (takes x.taker s) (on_table b d) ≡ t → pays_of x s ≡ y → points_of after s ≡ moved (points_of b s) (g + t) (y + stick d s)
     parts s g y t h eg et ey =
         ap (λ (z : SeatBook). points_of z s) book_is ∙ seat_after_holds b d x s h
         ∙ ap₂ (moved (points_of b s)) (ap₂ (λ m n. m + n) eg et) (ap (λ n. n + stick d s) ey)
@@ -105,15 +105,15 @@ module _ (b : SeatBook) (cs : List ℕ) (k : Calls) (w : GameContext) (d : Deal)
     winner_points =
         let h = sat.winner in
         let gets = Q.winner_gets_gain paid b.counter p d h ∙ Q.gain_is paid b.counter p d (P.fitting cs k w d p sat (accepted ok).scored) in
-        let takes = ap (λ n. taken (eqb n p.seat) (on_table b d)) (Q.winner_takes paid b.counter p d) ∙ ap (λ t. taken t (on_table b d)) (eq-eqb p.seat p.seat refl) in
-        parts p.seat (total_at 4 paid + 300 * b.counter) 0 (1000 * on_table b d) h gets takes (Q.each_pays_owed paid b.counter p d p.seat h ∙ owes_none)
+        let sticks = ap (λ n. taken (takes n p.seat) (on_table b d)) (Q.winner_takes paid b.counter p d) ∙ ap (λ t. taken t (on_table b d)) (eq-eqb p.seat p.seat refl) in
+        parts p.seat (total_at 4 paid + 300 * b.counter) 0 (1000 * on_table b d) h gets sticks (Q.each_pays_owed paid b.counter p d p.seat h ∙ owes_none)
         ∙ ap (moved (points_of b p.seat) (total_at 4 paid + 300 * b.counter + 1000 * on_table b d)) (zero-add (stick d p.seat))
 
     -- ---- any other seat gets nothing, and pays n beside its stick where it owes n
     owing : (s n : ℕ) → s < 4 → (s ≡ p.seat → ⊥) → owes paid b.counter p d s ≡ n → points_of after s ≡ moved (points_of b s) 0 (n + stick d s)
     owing s n h f e =
-        let takes = ap (λ m. taken (eqb m s) (on_table b d)) (Q.winner_takes paid b.counter p d) ∙ ap (λ t. taken t (on_table b d)) (ne_eqb p.seat s (λ e. f (sym e))) in
-        parts s 0 n 0 h (Q.others_get_nothing paid b.counter p d s h f) takes (Q.each_pays_owed paid b.counter p d s h ∙ e)
+        let sticks = ap (λ m. taken (takes m s) (on_table b d)) (Q.winner_takes paid b.counter p d) ∙ ap (λ t. taken t (on_table b d)) (ne_eqb p.seat s (λ e. f (sym e))) in
+        parts s 0 n 0 h (Q.others_get_nothing paid b.counter p d s h f) sticks (Q.each_pays_owed paid b.counter p d s h ∙ e)
 
     owes_of : (q : Payment) (s n : ℕ) → paid ≡ q → owes q b.counter p d s ≡ n → owes paid b.counter p d s ≡ n
     owes_of q s n e f = ap (λ (z : Payment). owes z b.counter p d s) e ∙ f

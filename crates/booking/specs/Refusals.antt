@@ -1,5 +1,5 @@
 -- What a booking asks, in the words of document 02. These are definitions.
-use Rattle.std.specs.Prelude.{◌≡◌, ◌≢◌, true, List, [], ◌∷◌, ◌++◌, ℕ, ◌<◌}
+use Rattle.std.specs.Prelude.{◌≡◌, ◌≢◌, true, List, [], ◌∷◌, ◌++◌, ◌<◌}
 use Rattle.lists.specs.Refusals.{Check, unless}
 use Rattle.seat_book.specs.declared.SeatBook.{SeatBook}
 use Rattle.seat_book.specs.declared.Deal.{Deal}

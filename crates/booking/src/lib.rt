@@ -18,7 +18,8 @@ const MOST_COUNTER: u8 = 255;
 // East, the dealer's wind; South, West and North follow it.
 const EAST: u8 = 27;
 
-// The number, 0 where the deal is booked, and the book as the booking leaves it.
+// The number, 0 where the deal is booked, and the book as the booking leaves it. Not a Result: `book_win` and `book_draw` promise number and book
+// together (`answer_of`), the book of a refused deal too, and C is handed both.
 #[derive(Clone, Copy)]
 pub struct Booked {
     pub number: u32,
@@ -49,12 +50,11 @@ fn seated(
     requires { (d.dealer < 4) × (won.seat < 4) }
     ensures { result ≡ seated d won w }
 {
-    let wind = seat_wind(d.dealer, won.seat);
-    let how = type_of(won.has_discarder);
-    let mut win = w;
-    win.win_type = how;
-    win.seat_wind = wind;
-    win
+    context::GameContext {
+        win_type: type_of(won.has_discarder),
+        seat_wind: seat_wind(d.dealer, won.seat),
+        ..w
+    }
 }
 
 // Are the seats those of four players, and is the discarder, if there is one, another than the winner?
@@ -70,10 +70,7 @@ fn are_seats(d: seat_book::Deal, won: settlements::Winner) -> bool
 fn refuse(number: u32, b: seat_book::SeatBook, d: seat_book::Deal) -> Booked
     ensures { result ≡ answer_of b d (refused number) }
 {
-    Booked {
-        number: number,
-        book: b,
-    }
+    Booked { number, book: b }
 }
 
 // A deal that is settled so, unless it would raise a counter that cannot rise.
@@ -85,10 +82,7 @@ fn settle(b: seat_book::SeatBook, d: seat_book::Deal, x: seat_book::Settlement) 
         return refuse(NO_ROOM, b, d);
     }
     let book = seat_book::settle(b, d, x);
-    Booked {
-        number: 0,
-        book: book,
-    }
+    Booked { number: 0, book }
 }
 
 // A win that was scored, or that scoring refused.
@@ -103,7 +97,7 @@ fn book_scored(
 {
     let number = a.number;
     if number != 0 {
-        return refuse(number as u32, b, d);
+        return refuse(u32::from(number), b, d);
     }
     let score = a.score;
     let payment = score.payment;

@@ -19,8 +19,8 @@ use Rattle.hand.specs.Records.{always_enough, records}
 use Rattle.wait.specs.Wait.{waits}
 use Rattle.checks.specs.declared.Calls.{Calls}
 use Rattle.checks.specs.Checks.{called, hand_check_in}
-use Rattle.unit.specs.declared.Listing.{Listing}
-use Rattle.unit.specs.declared.Listing.TheVariants.{Refused, Listed}
+use Rattle.unit.specs.Listing.{Listing}
+use Rattle.unit.specs.Listing.{Refused, Listed}
 use Rattle.unit.specs.Listing.{hand_readings}
 use Rattle.lent.specs.Lent.{calls_of}
 use Rattle.records.specs.Pick.{pick_at}

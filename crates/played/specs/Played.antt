@@ -4,7 +4,7 @@ use Rattle.std.specs.Prelude.{List, [], ◌∷◌, ◌++◌}
 use Rattle.yaku.specs.declared.names.Yaku.TheVariants.{MenzenTsumo, Tanyao, Pinfu, Iipeikou, Chiitoitsu, SanAnkou, Ryanpeikou, KokushiMusou, Kokushi13Wait}
 use Rattle.scoring.specs.declared.ScoreLevel.TheVariants.{Normal, Mangan, Yakuman}
 use Rattle.scoring.specs.declared.Payment.TheVariants.{Ron, DealerTsumo, Tsumo}
-use Rattle.scoring.specs.declared.PaymentAnswer.TheVariants.{Refused, Paid}
+use Rattle.scoring.specs.Payment.{Refused, Paid}
 use Rattle.tile.specs.Named.{man, pin, sou, East, White, mans, pins, sous, orphan_tiles}
 use Rattle.meld.specs.Named.{chi, pon, closed_kan, added_kan}
 use Rattle.context.specs.Named.{by_ron, by_tsumo, ron, tsumo}

@@ -20,14 +20,12 @@ use Rattle.scoring.specs.declared.ScoreLevel.{ScoreLevel}
 use Rattle.scoring.specs.declared.ScoreLevel.TheVariants.{Normal, Mangan, Haneman, Baiman, Sanbaiman, Yakuman}
 use Rattle.scoring.specs.declared.Payment.{Payment}
 use Rattle.scoring.specs.declared.Payment.TheVariants.{Ron, DealerTsumo, Tsumo}
-use Rattle.scoring.specs.declared.PaymentAnswer.{PaymentAnswer}
-use Rattle.scoring.specs.declared.PaymentAnswer.TheVariants.{Refused, Paid}
 use Rattle.fu.specs.Fu.{standard_fu, fu}
 use Rattle.dora.specs.Dora.{dora_of, dora_in, total_han}
 use Rattle.scoring.specs.Level.{level, basic_points}
-use Rattle.scoring.specs.Payment.{payment, payment_answer}
+use Rattle.scoring.specs.Payment.{PaymentAnswer, Refused, Paid, payment, payment_answer}
 use Rattle.checks.specs.Checks.{check, hand_check_in}
-use Rattle.unit.specs.declared.Listing.{Listing}
+use Rattle.unit.specs.Listing.{Listing}
 use Rattle.unit.specs.Listing.{hand_readings, hand_records, listing_in, number_of, readings_of}
 use Rattle.lent.specs.Lent.{calls_of}
 use Rattle.reading_score.specs.declared.ScoringResult.{ScoringResult}

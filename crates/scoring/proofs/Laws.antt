@@ -1,14 +1,14 @@
 -- Laws of rounding, of the ron factor and of totals, and the bound of basic points. Assumes nothing.
 use mathlib.Core.Path.{◌≡◌, refl}
 use mathlib.Core.Bool.{Bool, true, false, cond}
-use Prim.Native.Nat.{ℕ, zero, suc, ◌+◌, ◌-◌, ◌*◌, ◌%◌, ◌^◌, ◌<◌, ◌≤◌, max}
+use Prim.Native.Nat.{ℕ, zero, suc, ◌+◌, ◌-◌, ◌*◌, ◌%◌, ◌^◌, ◌<◌, ◌≤◌}
 use native.Mathlib.Omega.{arith}
-use lib.Dec.{lit≤, lit<}
+use lib.Dec.{lit≤}
 use lib.ListN.{length, replicate, length-replicate}
 use Rattle.lists.specs.Fold.{one, total as added}
 use Rattle.scoring.specs.declared.Payment.{Payment}
 use Rattle.scoring.specs.declared.Payment.TheVariants.{Ron, DealerTsumo, Tsumo}
-use Rattle.scoring.specs.Level.{reaches_yakuman, reaches_sanbaiman, reaches_baiman, reaches_haneman, reaches_mangan, highest, yakuman_count, points_at, basic_points}
+use Rattle.scoring.specs.Level.{reaches_yakuman, reaches_sanbaiman, reaches_baiman, reaches_haneman, reaches_mangan, highest, points_at, basic_points}
 use Rattle.scoring.specs.Payment.{round_up_to100, payment, total_at}
 use Rattle.scoring.specs.Payers.{payers}
 

@@ -3,7 +3,7 @@ use mathlib.Core.Path.{◌≡◌, refl}
 use mathlib.Core.Bool.{Bool, true, false}
 use Prim.Native.Nat.{ℕ}
 use Rattle.scoring.specs.declared.Payment.TheVariants.{Ron, DealerTsumo, Tsumo}
-use Rattle.scoring.specs.declared.PaymentAnswer.TheVariants.{Refused, Paid}
+use Rattle.scoring.specs.Payment.{Refused, Paid}
 use Rattle.scoring.specs.Level.{basic_points}
 use Rattle.scoring.specs.Payment.{round_up_to100, payment, payment_answer, total_at}
 use Rattle.scoring.specs.Payers.{owed_in_all}

@@ -1,7 +1,7 @@
 -- Payments, for all basic points: what each pays, that more basic points never pay less, and what is refused. Assumes nothing.
 use mathlib.Core.Path.{◌≡◌, refl, sym, ap, ◌∙◌}
 use mathlib.Core.Logic.{inl, inr, ⊎_elim, ◌↔◌}
-use mathlib.Core.Bool.{Bool, true, false, cond}
+use mathlib.Core.Bool.{Bool, true, false}
 use mathlib.Core.List.{[], ◌∷◌}
 use Prim.Native.Nat.{ℕ, ◌+◌, ◌-◌, ◌*◌, ◌/◌, ◌<◌, ◌≤◌}
 use native.Mathlib.Omega.{arith}
@@ -12,7 +12,7 @@ use borrow.Author.Tests.{lt-ltb, le-ltb}
 use Rattle.lists.specs.Refusals.{Answers, unless}
 use Rattle.scoring.specs.declared.Payment.{Payment}
 use Rattle.scoring.specs.declared.Payment.TheVariants.{Ron, DealerTsumo, Tsumo}
-use Rattle.scoring.specs.declared.PaymentAnswer.TheVariants.{Paid}
+use Rattle.scoring.specs.Payment.{Paid}
 use Rattle.scoring.specs.Level.{basic_points}
 use Rattle.scoring.specs.Payment.{round_up_to100, payment, total_at, payment_answer, refusal_of}
 use Rattle.scoring.specs.Payers.{asked, owed_in_all}

@@ -1,9 +1,9 @@
 -- Who pays what. These are definitions.
-use Rattle.std.specs.Prelude.{Bool, cond, ℕ, ◌+◌, ◌-◌, ◌*◌, ◌/◌, eqb, ltb}
+use Rattle.std.specs.Prelude.{Bool, cond, ℕ, ◌+◌, ◌-◌, ◌*◌, ◌/◌, eqb, ltb, Result, Ok, Err}
+use Rattle.rules.specs.declared.refusals.Refusal.{Refusal}
+use Rattle.rules.specs.Refusals.{refusal_number}
 use Rattle.scoring.specs.declared.Payment.{Payment}
 use Rattle.scoring.specs.declared.Payment.TheVariants.{Ron, DealerTsumo, Tsumo}
-use Rattle.scoring.specs.declared.PaymentAnswer.{PaymentAnswer}
-use Rattle.scoring.specs.declared.PaymentAnswer.TheVariants.{Refused, Paid}
 
 -- a payer's amount is rounded up to 100 once, after multiplication
 abbrev pub round_up_to100 : ℕ → ℕ
@@ -21,6 +21,16 @@ abbrev pub total_at : ℕ → Payment → ℕ
 total_at players (Ron n) = n
 total_at players (DealerTsumo n) = n * (players - 1)
 total_at players (Tsumo dealer other) = dealer + other * (players - 2)
+
+-- a payment, or the number of the refusal
+pub data PaymentAnswer : Type 0 where
+  Refused : ℕ → PaymentAnswer
+  Paid : Payment → PaymentAnswer
+
+-- what the code answers
+abbrev pub answer_of : Result Payment Refusal → PaymentAnswer
+answer_of (Ok p) = Paid p
+answer_of (Err e) = Refused (refusal_number e)
 
 -- the payment for any numbers: 8 for a win type that is neither ron (0) nor tsumo (1), 13 for basic points above 152,000
 unfoldable pub payment_answer : ℕ → Bool → ℕ → PaymentAnswer

@@ -4,10 +4,10 @@
 ghost use Rattle.std.specs.Prelude.{◌≡◌, cond, ◌&&◌, ◌||◌, ◌+◌, ◌*◌, ◌/◌, ◌^◌, ◌≤◌, max, min, eqb, leb};
 ghost use Rattle.rules.specs.Rules.{game};
 ghost use Rattle.scoring.specs.Level.{reaches_mangan, yakuman_count, level, basic_points};
-ghost use Rattle.scoring.specs.Payment.{round_up_to100, payment, payment_answer, total_at};
+ghost use Rattle.scoring.specs.Payment.{round_up_to100, payment, payment_answer, answer_of, total_at};
 
 // Score limit levels. A yakuman carries how many times it counts.
-#[derive(Clone, Copy)]
+#[derive(Clone, Copy, PartialEq, Eq)]
 pub enum ScoreLevel {
     Normal,
     Mangan,
@@ -18,7 +18,7 @@ pub enum ScoreLevel {
 }
 
 // One case for each kind of settlement: a ron, a tsumo of the dealer, a tsumo of another player.
-#[derive(Clone, Copy)]
+#[derive(Clone, Copy, PartialEq, Eq)]
 pub enum Payment {
     Ron {
         from_discarder: u32,
@@ -38,8 +38,7 @@ pub enum Payment {
 fn yakuman_count(han: u8) -> u8
     ensures { result ≡ yakuman_count han }
 {
-    let n = han / 13;
-    if n < 1 { 1 } else { n }
+    (han / 13).max(1)
 }
 
 // Do han and fu reach mangan: 5 han, 4 han with 40 fu, 3 han with 70 fu?
@@ -50,6 +49,7 @@ fn reaches_mangan(han: u8, fu: u8) -> bool
 }
 
 // The level of han and fu, with or without a yakuman.
+#[tactic(auto, unfolding(crate::specs::Level::level))]
 pub fn determine_score_level(han: u8, fu: u8, is_yakuman: bool) -> ScoreLevel
     ensures { result ≡ level han fu is_yakuman }
 {
@@ -79,29 +79,23 @@ fn fu_points(han: u8, fu: u8) -> u32
     requires { han ≤ 4 }
     ensures { result ≡ fu * 2 ^ (han + 2) }
 {
-    (fu as u32) << (han + 2)
+    u32::from(fu) << (han + 2)
 }
 
 // The basic points of han and fu, with or without a yakuman.
+#[tactic(auto, unfolding(crate::specs::Level::basic_points))]
 pub fn calculate_basic_points(han: u8, fu: u8, is_yakuman: bool) -> u32
     ensures { result ≡ basic_points han fu is_yakuman }
 {
     let level = determine_score_level(han, fu, is_yakuman);
     match level {
-        ScoreLevel::Normal => at_most_2000(fu_points(han, fu)),
+        ScoreLevel::Normal => fu_points(han, fu).min(2000),
         ScoreLevel::Mangan => 2000,
         ScoreLevel::Haneman => 3000,
         ScoreLevel::Baiman => 4000,
         ScoreLevel::Sanbaiman => 6000,
-        ScoreLevel::Yakuman(n) => 8000 * (n as u32),
+        ScoreLevel::Yakuman(n) => 8000 * u32::from(n),
     }
-}
-
-// The lower of a number and 2,000.
-fn at_most_2000(n: u32) -> u32
-    ensures { result ≡ min n 2000 }
-{
-    if n < 2000 { n } else { 2000 }
 }
 
 // ---- payment
@@ -122,6 +116,7 @@ fn ron_factor(is_dealer: bool) -> u32
 }
 
 // Who pays what for basic points up to 152,000.
+#[tactic(auto, unfolding(crate::specs::Payment::payment))]
 pub fn calculate_payment(basic_points: u32, is_dealer: bool, is_tsumo: bool) -> Payment
     requires { basic_points ≤ 152000 }
     ensures { result ≡ payment is_tsumo is_dealer basic_points }
@@ -143,24 +138,23 @@ pub fn calculate_payment(basic_points: u32, is_dealer: bool, is_tsumo: bool) -> 
     }
 }
 
-// A payment, or why there is none: 8 for a win type above 1, 13 for basic points above 152,000.
-#[derive(Clone, Copy)]
-pub enum PaymentAnswer {
-    Refused(u8),
-    Paid(Payment),
-}
-
-// Who pays what for any basic points and any win type, 0 for ron and 1 for tsumo.
-pub fn score_payment(basic_points: u32, is_dealer: bool, win_type: u8) -> PaymentAnswer
-    ensures { result ≡ payment_answer basic_points is_dealer win_type }
+// Who pays what for any basic points and any win type, 0 for ron and 1 for tsumo. Refused are a win type above 1 and then basic points
+// above 152,000.
+#[tactic(auto, unfolding(crate::specs::Payment::payment_answer))]
+pub fn score_payment(
+    basic_points: u32,
+    is_dealer: bool,
+    win_type: u8,
+) -> Result<Payment, rules::Refusal>
+    ensures { answer_of result ≡ payment_answer basic_points is_dealer win_type }
 {
     if 1 < win_type {
-        return PaymentAnswer::Refused(8);
+        return Err(rules::Refusal::OutOfRange);
     }
     if 152000 < basic_points {
-        return PaymentAnswer::Refused(13);
+        return Err(rules::Refusal::BasicPoints);
     }
-    PaymentAnswer::Paid(calculate_payment(basic_points, is_dealer, win_type == 1))
+    Ok(calculate_payment(basic_points, is_dealer, win_type == 1))
 }
 
 impl Payment {
@@ -170,12 +164,12 @@ impl Payment {
     {
         let players = v.players();
         match self {
-            Payment::Ron { from_discarder } => from_discarder as u64,
-            Payment::DealerTsumo { from_each } => (from_each as u64) * (players - 1),
+            Payment::Ron { from_discarder } => u64::from(from_discarder),
+            Payment::DealerTsumo { from_each } => u64::from(from_each) * (players - 1),
             Payment::Tsumo {
                 from_dealer,
                 from_non_dealer,
-            } => (from_dealer as u64) + (from_non_dealer as u64) * (players - 2),
+            } => u64::from(from_dealer) + u64::from(from_non_dealer) * (players - 2),
         }
     }
 }

@@ -5,7 +5,7 @@ use mathlib.Core.List.{List, [], ◌∷◌}
 use Prim.Native.Nat.{ℕ, ◌+◌}
 use native.Mathlib.Nat.{add-zero}
 use lib.Dec.{eqb}
-use lib.IntN.{ℤ, pos}
+use lib.IntN.{pos}
 use lib.ListN.{length}
 use borrow.Author.Tests.{ne_eqb}
 use Rattle.lists.specs.Fold.{sum, after_last}
@@ -14,7 +14,7 @@ use Rattle.lists.proofs.Since.{since, since_next, since_zero, after_never}
 use Rattle.seat_book.specs.declared.SeatBook.{SeatBook}
 use Rattle.seat_book.specs.declared.Deal.{Deal}
 use Rattle.seat_book.specs.declared.Settlement.{Settlement}
-use Rattle.seat_book.specs.Book.{new_book, declared_in, is_taken, settled, all_points}
+use Rattle.seat_book.specs.Book.{new_book, declared_in, settled, all_points}
 use Rattle.seat_book.specs.History.{Outcome, refused, settles, number_of, book_after, Only, Kind, SettledAs, Sound, next, booked_all, accepted, returns}
 use Rattle.seat_book.proofs.Kept.{settled_kept}
 

@@ -1,18 +1,17 @@
 -- A settled deal neither makes nor loses points: those of the seats and 1,000 for each stick are the same before and after, on any book. Assumes nothing.
-use mathlib.Core.Path.{◌≡◌, refl, ap, ap₂, ◌∙◌, sym}
-use mathlib.Core.Bool.{Bool, true, false, cond}
+use mathlib.Core.Path.{◌≡◌, refl}
 use Prim.Native.Nat.{ℕ, zero, suc, ◌+◌, ◌*◌, ◌<◌}
 use native.Mathlib.Omega.{arith}
 use borrow.Author.Tests.{ne_eqb, le-ltb}
-use lib.Dec.{eqb, ltb}
-use lib.IntN.{ℤ, pos, ◌+ℤ◌, ◌-ℤ◌}
+use Rattle.std.specs.Prelude.{Option, None, Some}
+use lib.IntN.{ℤ, pos, ◌+ℤ◌}
 use Rattle.lists.specs.Fold.{one}
 use Rattle.lists.proofs.Finite.{below_four}
 use Rattle.seat_book.specs.declared.SeatBook.{SeatBook}
 use Rattle.seat_book.specs.declared.Deal.{Deal}
 use Rattle.seat_book.specs.declared.Settlement.{Settlement}
 use Rattle.seat_book.specs.Points.{moved, together, four_of}
-use Rattle.seat_book.specs.Book.{points_of, gets_of, pays_of, declares, declared_in, on_table, Even, taken, sticks_after, points_after, settled, all_points}
+use Rattle.seat_book.specs.Book.{points_of, gets_of, pays_of, declares, on_table, Even, takes, taken, sticks_after, points_after, settled, all_points}
 use Rattle.seat_book.proofs.Integers.{parts, shifted, summed, natural, across}
 
 -- four seats that get and pay, and something beside them: where that changes by what they pay less what they get, all is kept
@@ -28,18 +27,19 @@ module _ (p : ℕ → ℤ) (g y : ℕ → ℕ) (m n : ℕ) where
 
 -- ---- a settled deal
 -- what is taken of the sticks, and what is left of them
-sticks_go : (t k : ℕ) → taken (eqb t 0) k + taken (eqb t 1) k + taken (eqb t 2) k + taken (eqb t 3) k + 1000 * sticks_after t k ≡ 1000 * k
-sticks_go zero k = omega arith
-sticks_go (suc zero) k = omega arith
-sticks_go (suc (suc zero)) k = omega arith
-sticks_go (suc (suc (suc zero))) k = omega arith
-sticks_go (suc (suc (suc (suc t)))) k = rw (le-ltb (suc (suc (suc (suc t)))) 4 (omega arith), ne_eqb (suc (suc (suc (suc t)))) 0 (λ e. omega arith), ne_eqb (suc (suc (suc (suc t)))) 1 (λ e. omega arith), ne_eqb (suc (suc (suc (suc t)))) 2 (λ e. omega arith), ne_eqb (suc (suc (suc (suc t)))) 3 (λ e. omega arith)) (omega arith)
+sticks_go : (t : Option ℕ) (k : ℕ) → taken (takes t 0) k + taken (takes t 1) k + taken (takes t 2) k + taken (takes t 3) k + 1000 * sticks_after t k ≡ 1000 * k
+sticks_go None k = omega arith
+sticks_go (Some zero) k = omega arith
+sticks_go (Some (suc zero)) k = omega arith
+sticks_go (Some (suc (suc zero))) k = omega arith
+sticks_go (Some (suc (suc (suc zero)))) k = omega arith
+sticks_go (Some (suc (suc (suc (suc t))))) k = rw (le-ltb (suc (suc (suc (suc t)))) 4 (omega arith), ne_eqb (suc (suc (suc (suc t)))) 0 (λ e. omega arith), ne_eqb (suc (suc (suc (suc t)))) 1 (λ e. omega arith), ne_eqb (suc (suc (suc (suc t)))) 2 (λ e. omega arith), ne_eqb (suc (suc (suc (suc t)))) 3 (λ e. omega arith)) (omega arith)
 
 pub settled_kept : (b : SeatBook) (d : Deal) (x : Settlement) → Even x → all_points (settled b d x) ≡ all_points b
 unfolding settled
 settled_kept b d x even =
     let go = sticks_go x.taker (on_table b d) in
-    all_kept (points_of b) (λ s. gets_of x s + taken (eqb x.taker s) (on_table b d)) (λ s. pays_of x s + 1000 * one (declares d s)) (1000 * b.sticks) (1000 * sticks_after x.taker (on_table b d)) (omega arith)
+    all_kept (points_of b) (λ s. gets_of x s + taken (takes x.taker s) (on_table b d)) (λ s. pays_of x s + 1000 * one (declares d s)) (1000 * b.sticks) (1000 * sticks_after x.taker (on_table b d)) (omega arith)
 
 -- ---- seat by seat
 pub seat_after_holds : (b : SeatBook) (d : Deal) (x : Settlement) (s : ℕ) → s < 4 → points_of (settled b d x) s ≡ points_after b d x s

@@ -1,5 +1,6 @@
 pub mod Magnitude
 pub mod Rooms
+pub mod Seats
 pub mod Integers
 pub mod Kept
 pub mod Histories

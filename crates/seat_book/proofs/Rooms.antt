@@ -1,8 +1,8 @@
 -- What it says that a book takes another deal: each test is its fact, both ways. Assumes nothing.
 use mathlib.Core.Path.{◌≡◌, ap₂}
-use mathlib.Core.Bool.{Bool, true, ◌&&◌}
+use mathlib.Core.Bool.{true, ◌&&◌}
 use Prim.Native.Nat.{ℕ, ◌≤◌, ◌<◌}
-use lib.Dec.{T, ltb, leb, ltb→lt, leb→le, lit<}
+use lib.Dec.{ltb, leb, ltb→lt, leb→le, lit<}
 use lib.IntN.{ℤ}
 use lib.Signed.{le_z, le_z_yes}
 use borrow.Author.Tests.{lt-ltb, le-leb}

@@ -1,5 +1,5 @@
 -- The seat book and what a settled deal makes of it. b is a book, d a deal, x a settlement, s a seat. These are definitions.
-use Rattle.std.specs.Prelude.{◌≡◌, Bool, true, false, ◌&&◌, cond, List, [], ◌∷◌, ℕ, ◌+◌, ◌*◌, ◌≤◌, ◌<◌, eqb, ltb, leb, ℤ, pos, ◌+ℤ◌, get_or}
+use Rattle.std.specs.Prelude.{◌≡◌, Bool, true, false, ◌&&◌, cond, [], ◌∷◌, ℕ, ◌+◌, ◌*◌, ◌≤◌, eqb, ltb, leb, ℤ, pos, ◌+ℤ◌, get_or, Option, None, Some}
 use Rattle.lists.specs.Fold.{one}
 use Rattle.seat_book.specs.declared.SeatBook.{SeatBook}
 use Rattle.seat_book.specs.declared.Deal.{Deal}
@@ -50,9 +50,18 @@ pays_of x s = get_or x.pays s 0
 abbrev pub Even : Settlement → Type 0
 Even x = four_of (gets_of x) ≡ four_of (pays_of x)
 
--- one of the four seats takes the sticks
+-- the seat s takes them
+abbrev pub takes : Option ℕ → ℕ → Bool
+takes None s = false
+takes (Some t) s = eqb t s
+
+-- one of the four seats does
+abbrev pub one_takes : Option ℕ → Bool
+one_takes None = false
+one_takes (Some t) = ltb t 4
+
 abbrev pub is_taken : Settlement → Bool
-is_taken x = ltb x.taker 4
+is_taken x = one_takes x.taker
 
 -- ---- a book after a settled deal
 -- the points of the sticks, for a seat that takes them
@@ -64,11 +73,11 @@ abbrev pub seat_after : ℤ → ℕ → ℕ → Bool → Bool → ℕ → ℤ
 seat_after p gets pays takes declared sticks = moved p (gets + taken takes sticks) (pays + 1000 * one declared)
 
 abbrev pub points_after : SeatBook → Deal → Settlement → ℕ → ℤ
-points_after b d x s = seat_after (points_of b s) (gets_of x s) (pays_of x s) (eqb x.taker s) (declares d s) (on_table b d)
+points_after b d x s = seat_after (points_of b s) (gets_of x s) (pays_of x s) (takes x.taker s) (declares d s) (on_table b d)
 
 -- the sticks stay unless one of the four seats takes them
-abbrev pub sticks_after : ℕ → ℕ → ℕ
-sticks_after taker sticks = cond (ltb taker 4) 0 sticks
+abbrev pub sticks_after : Option ℕ → ℕ → ℕ
+sticks_after taker sticks = cond (one_takes taker) 0 sticks
 
 -- the counter rises by one or returns to 0
 abbrev pub counter_after : Bool → ℕ → ℕ

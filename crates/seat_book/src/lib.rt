@@ -43,13 +43,13 @@ pub struct Deal {
     pub declared: [bool; 4],
 }
 
-// How a deal is settled: what each seat gets and pays besides its stick, the seat that takes all sticks (any number above 3: nobody does),
-// and whether the counter rises.
+// How a deal is settled: what each seat gets and pays besides its stick, the seat that takes all sticks (a number above 3 is no seat, so
+// that nobody does), and whether the counter rises. What is had by seat is an array of its own, as it is in a book and a deal, which C lends.
 #[derive(Clone, Copy)]
 pub struct Settlement {
     pub gets: [u64; 4],
     pub pays: [u64; 4],
-    pub taker: u8,
+    pub taker: Option<u8>,
     pub raises: bool,
 }
 
@@ -58,7 +58,7 @@ pub fn new_book() -> SeatBook
     ensures { result ≡ new_book }
 {
     SeatBook {
-        points: [START, START, START, START],
+        points: [START; 4],
         sticks: 0,
         deals: 0,
         counter: 0,
@@ -77,11 +77,7 @@ fn is_within(p: i64) -> bool
 pub fn has_room(b: SeatBook) -> bool
     ensures { result ≡ has_room b }
 {
-    let points = b.points;
-    (b.deals < MOST_DEALS)
-        & ((b.sticks <= MOST_STICKS)
-            & (is_within(points[0])
-                & (is_within(points[1]) & (is_within(points[2]) & is_within(points[3])))))
+    (b.deals < MOST_DEALS) & ((b.sticks <= MOST_STICKS) & b.points.iter().all(|p| is_within(*p)))
 }
 
 // The points after receiving and paying.
@@ -96,12 +92,7 @@ fn moved(p: i64, gets: u64, pays: u64) -> i64
 fn declared_in(d: Deal) -> u32
     ensures { (result ≡ declared_in d) × (result ≤ 4) }
 {
-    let declared = d.declared;
-    let a = lists::one_if(declared[0]);
-    let b = lists::one_if(declared[1]);
-    let c = lists::one_if(declared[2]);
-    let e = lists::one_if(declared[3]);
-    (a + b + c + e) as u32
+    d.declared.iter().filter(|declares| **declares).count() as u32
 }
 
 // The sticks on the table once those of this deal lie there.
@@ -117,7 +108,7 @@ fn taken(takes: bool, sticks: u32) -> u64
     requires { sticks ≤ 4100 }
     ensures { (result ≡ taken takes sticks) × (result ≤ 4100000) }
 {
-    if takes { STICK * (sticks as u64) } else { 0 }
+    if takes { STICK * u64::from(sticks) } else { 0 }
 }
 
 // The points of a seat after a deal: with the sticks if it takes them, and without its own if it declared.
@@ -126,15 +117,18 @@ fn seat_after(p: i64, gets: u64, pays: u64, takes: bool, declared: bool, sticks:
     ensures { result ≡ seat_after p gets pays takes declared sticks }
 {
     let taken = taken(takes, sticks);
-    let stick = STICK * (lists::one_if(declared) as u64);
+    let stick = STICK * u64::from(declared);
     moved(p, gets + taken, pays + stick)
 }
 
 // The sticks that are left after a deal.
-fn sticks_after(taker: u8, sticks: u32) -> u32
+fn sticks_after(taker: Option<u8>, sticks: u32) -> u32
     ensures { result ≡ sticks_after taker sticks }
 {
-    if taker < 4 { 0 } else { sticks }
+    match taker {
+        Some(seat) if seat < 4 => 0,
+        _ => sticks,
+    }
 }
 
 // The counter after a deal.
@@ -146,21 +140,16 @@ fn counter_after(raises: bool, counter: u8) -> u8
 }
 
 // The points of the seat s after a deal that is settled so, once all sticks lie on the table.
-fn points_after(b: SeatBook, d: Deal, x: Settlement, sticks: u32, s: u8) -> i64
+fn points_after(b: SeatBook, d: Deal, x: Settlement, sticks: u32, s: usize) -> i64
     requires { Settles b x × ((sticks ≡ on_table b d) × ((sticks ≤ 4100) × (s < 4))) }
     ensures { result ≡ points_after b d x s }
 {
-    let at = s as usize;
-    let points = b.points;
-    let gets = x.gets;
-    let pays = x.pays;
-    let declared = d.declared;
     seat_after(
-        points[at],
-        gets[at],
-        pays[at],
-        x.taker == s,
-        declared[at],
+        b.points[s],
+        x.gets[s],
+        x.pays[s],
+        x.taker == Some(s as u8),
+        d.declared[s],
         sticks,
     )
 }
@@ -171,21 +160,11 @@ pub fn settle(b: SeatBook, d: Deal, x: Settlement) -> SeatBook
     ensures { result ≡ settled b d x }
 {
     let sticks = on_table(b, d);
-    let points = [
-        points_after(b, d, x, sticks, 0),
-        points_after(b, d, x, sticks, 1),
-        points_after(b, d, x, sticks, 2),
-        points_after(b, d, x, sticks, 3),
-    ];
-    let left = sticks_after(x.taker, sticks);
-    let counter = counter_after(x.raises, b.counter);
-    let deals = b.deals + 1;
-    let reserved = b.reserved;
     SeatBook {
-        points: points,
-        sticks: left,
-        deals: deals,
-        counter: counter,
-        reserved: reserved,
+        points: std::array::from_fn(|s| points_after(b, d, x, sticks, s)),
+        sticks: sticks_after(x.taker, sticks),
+        deals: b.deals + 1,
+        counter: counter_after(x.raises, b.counter),
+        reserved: b.reserved,
     }
 }

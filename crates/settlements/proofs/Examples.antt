@@ -4,13 +4,11 @@ use mathlib.Core.Bool.{Bool, true, false}
 use mathlib.Core.List.{List, [], ◌∷◌, map}
 use Prim.Native.Nat.{ℕ}
 use lib.IntN.{ℤ, pos, negsuc}
-use Rattle.scoring.specs.declared.Payment.{Payment}
 use Rattle.scoring.specs.declared.Payment.TheVariants.{Ron, DealerTsumo, Tsumo}
 use Rattle.seat_book.specs.declared.SeatBook.{SeatBook}
 use Rattle.seat_book.specs.declared.Deal.{Deal}
 use Rattle.seat_book.specs.declared.Settlement.{Settlement}
 use Rattle.seat_book.specs.Book.{new_book, settled}
-use Rattle.settlements.specs.declared.Winner.{Winner}
 use Rattle.settlements.specs.Settlements.{win_settlement, draw_settlement}
 
 -- how a deal ends: in a draw, by ron of the first seat from the second, by tsumo of a seat

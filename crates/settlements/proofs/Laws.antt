@@ -1,9 +1,10 @@
 -- What the settlements promise: each is even, who pays what in the words of the rule, what the winner is given, and when the counter rises. Assumes nothing.
-use mathlib.Core.Path.{◌≡◌, refl, ap, ap₂, ◌∙◌, sym, subst}
-use mathlib.Core.Bool.{Bool, true, false, cond, not}
+use mathlib.Core.Path.{◌≡◌, refl, ◌∙◌, subst}
+use mathlib.Core.Bool.{Bool, true, false, cond}
 use mathlib.Core.List.{List, [], ◌∷◌}
 use Prim.Native.Nat.{ℕ, ◌+◌, ◌*◌, ◌<◌}
 use native.Mathlib.Omega.{arith}
+use Rattle.std.specs.Prelude.{Some}
 use lib.Dec.{T, eqb}
 use lib.ListN.{get_or}
 use borrow.Author.Tests.{eq-eqb, ne_eqb, lt-ltb}
@@ -104,7 +105,7 @@ module _ (p : Payment) (c : ℕ) (w : Winner) (d : Deal) where
   unfolding win_settlement
   each_pays_owed s h = below_four (λ s. pays_of (win_settlement p c w d) s ≡ owes p c w d s) refl refl refl refl s h
 
-  pub winner_takes : (win_settlement p c w d).taker ≡ w.seat
+  pub winner_takes : (win_settlement p c w d).taker ≡ Some w.seat
   unfolding win_settlement
   winner_takes = refl
 

@@ -1,5 +1,5 @@
 -- Who pays whom what for a win and at a draw. p is a payment, w who won, d the deal, s a seat. These are definitions.
-use Rattle.std.specs.Prelude.{Bool, true, cond, List, [], ◌∷◌, ℕ, ◌+◌, ◌*◌, eqb}
+use Rattle.std.specs.Prelude.{Bool, true, cond, [], ◌∷◌, ℕ, ◌+◌, ◌*◌, eqb, None, Some}
 use Rattle.scoring.specs.declared.Payment.{Payment}
 use Rattle.scoring.specs.declared.Payment.TheVariants.{Ron, DealerTsumo, Tsumo}
 use Rattle.seat_book.specs.declared.Deal.{Deal}
@@ -36,14 +36,10 @@ win_settlement p counter w d =
           given (eqb 0 w.seat) (gain p counter w d) ∷ given (eqb 1 w.seat) (gain p counter w d) ∷ given (eqb 2 w.seat) (gain p counter w d)
           ∷ given (eqb 3 w.seat) (gain p counter w d) ∷ [];
       pays = owes p counter w d 0 ∷ owes p counter w d 1 ∷ owes p counter w d 2 ∷ owes p counter w d 3 ∷ [];
-      taker = w.seat;
+      taker = Some w.seat;
       raises = eqb w.seat d.dealer;
     }
 
--- no seat
-abbrev pub nobody : ℕ
-nobody = 4
-
 -- a draw: nobody gets or pays, nobody takes the sticks, and the counter rises
 unfoldable pub draw_settlement : Settlement
-draw_settlement = record { gets = 0 ∷ 0 ∷ 0 ∷ 0 ∷ []; pays = 0 ∷ 0 ∷ 0 ∷ 0 ∷ []; taker = nobody; raises = true }
+draw_settlement = record { gets = 0 ∷ 0 ∷ 0 ∷ 0 ∷ []; pays = 0 ∷ 0 ∷ 0 ∷ 0 ∷ []; taker = None; raises = true }

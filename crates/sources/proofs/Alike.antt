@@ -19,7 +19,7 @@ use Rattle.tile_yaku.specs.Tiles.{tile_yaku}
 use Rattle.dora.specs.Dora.{dora_in}
 use Rattle.checks.specs.declared.Calls.{Calls}
 use Rattle.checks.specs.Checks.{called, is_call_in}
-use Rattle.unit.specs.declared.Listing.TheVariants.{Refused, Listed}
+use Rattle.unit.specs.Listing.{Refused, Listed}
 use Rattle.unit.specs.Listing.{hand_readings, hand_records, listing_in}
 use Rattle.records.specs.Pick.{pick_at}
 use Rattle.records.proofs.Pick.{pick_map}

@@ -1,7 +1,7 @@
 // Two tables at once: a win, and the same win renamed, each scored by the unit; and whether the two answers agree.
 #![tactic(auto)]
 
-ghost use Rattle.std.specs.Prelude.{◌≡◌, true, ◌<◌};
+ghost use Rattle.std.specs.Prelude.{◌≡◌, true, ◌<◌, ◌&&◌, eqb};
 ghost use Rattle.tile.specs.Renaming.{ren, order_back, back};
 ghost use Rattle.rules.specs.Rules.{game};
 ghost use Rattle.context.specs.Context.{ren_win};
@@ -50,13 +50,8 @@ fn count_of(counts: &[u8], t: usize, by: tile::Renaming) -> u8
     requires { t < 34 }
     ensures { result ≡ held counts.now (ren by t) }
 {
-    let tile = tile::Tile((t % 256) as u8);
-    let to = tile.renamed(by);
-    let i = to.0 as usize;
-    if i < counts.len() {
-        return counts[i];
-    }
-    0
+    let to = tile::Tile(t as u8).renamed(by);
+    counts.get(usize::from(to.0)).copied().unwrap_or(0)
 }
 
 // The counts renamed: the count of a tile becomes the count of its renamed tile.
@@ -64,13 +59,7 @@ pub fn renamed_counts(counts: &[u8], by: tile::Renaming) -> [u8; 34]
     ensures { result ≡ ren_counts by counts.now }
 {
     let undo = back(by);
-    let mut renamed = [0u8; 34];
-    let mut t = 0;
-    while t < 34 {
-        renamed[t] = count_of(counts, t, undo);
-        t += 1;
-    }
-    renamed
+    std::array::from_fn(|t| count_of(counts, t, undo))
 }
 
 // The calls renamed, in their order.
@@ -78,70 +67,24 @@ pub fn renamed_calls(k: checks::Calls, by: tile::Renaming) -> checks::Calls
     ensures { result ≡ ren_calls by k }
 {
     let melds = k.melds;
-    let a = melds[0];
-    let b = melds[1];
-    let c = melds[2];
-    let d = melds[3];
     checks::Calls {
         count: k.count,
-        melds: [a.renamed(by), b.renamed(by), c.renamed(by), d.renamed(by)],
+        melds: melds.map(|m| m.renamed(by)),
     }
 }
 
-// A level as a number, different for each.
-fn level_number(level: scoring::ScoreLevel) -> u16
-    ensures { result ≡ level_number level }
+// Is it the same level?
+fn same_level(a: scoring::ScoreLevel, b: scoring::ScoreLevel) -> bool
+    ensures { result ≡ eqb (level_number a) (level_number b) }
 {
-    match level {
-        scoring::ScoreLevel::Normal => 0,
-        scoring::ScoreLevel::Mangan => 1,
-        scoring::ScoreLevel::Haneman => 2,
-        scoring::ScoreLevel::Baiman => 3,
-        scoring::ScoreLevel::Sanbaiman => 4,
-        scoring::ScoreLevel::Yakuman(n) => 5 + (n as u16),
-    }
+    a == b
 }
 
-// Which kind of settlement it is: a ron, a dealer's tsumo, another's.
-fn kind_of(p: scoring::Payment) -> u8
-    ensures { result ≡ kind_of p }
+// Is it the same kind of settlement with the same amounts?
+fn same_payment(a: scoring::Payment, b: scoring::Payment) -> bool
+    ensures { result ≡ (eqb (kind_of a) (kind_of b) && (eqb (first_amount a) (first_amount b) && eqb (second_amount a) (second_amount b))) }
 {
-    match p {
-        scoring::Payment::Ron { from_discarder: _ } => 0,
-        scoring::Payment::DealerTsumo { from_each: _ } => 1,
-        scoring::Payment::Tsumo {
-            from_dealer: _,
-            from_non_dealer: _,
-        } => 2,
-    }
-}
-
-// What the discarder, each player, or the dealer pays.
-fn first_amount(p: scoring::Payment) -> u32
-    ensures { result ≡ first_amount p }
-{
-    match p {
-        scoring::Payment::Ron { from_discarder } => from_discarder,
-        scoring::Payment::DealerTsumo { from_each } => from_each,
-        scoring::Payment::Tsumo {
-            from_dealer,
-            from_non_dealer: _,
-        } => from_dealer,
-    }
-}
-
-// What each non-dealer pays beside the dealer, else 0.
-fn second_amount(p: scoring::Payment) -> u32
-    ensures { result ≡ second_amount p }
-{
-    match p {
-        scoring::Payment::Ron { from_discarder: _ } => 0,
-        scoring::Payment::DealerTsumo { from_each: _ } => 0,
-        scoring::Payment::Tsumo {
-            from_dealer: _,
-            from_non_dealer,
-        } => from_non_dealer,
-    }
+    a == b
 }
 
 // Do two answers agree: the same number, han, dora, fu, level, basic points and payments?
@@ -152,20 +95,14 @@ fn same_answer(a: choice::ScoreAnswer, b: choice::ScoreAnswer) -> bool
     let y = b.score;
     let xd = x.dora;
     let yd = y.dora;
-    let xl = x.score_level;
-    let yl = y.score_level;
-    let xp = x.payment;
-    let yp = y.payment;
     (a.number == b.number)
         & ((x.han == y.han)
             & ((xd.regular == yd.regular)
                 & ((xd.ura == yd.ura)
                     & ((x.fu == y.fu)
-                        & ((level_number(xl) == level_number(yl))
+                        & (same_level(x.score_level, y.score_level)
                             & ((x.basic_points == y.basic_points)
-                                & ((kind_of(xp) == kind_of(yp))
-                                    & ((first_amount(xp) == first_amount(yp))
-                                        & (second_amount(xp) == second_amount(yp))))))))))
+                                & same_payment(x.payment, y.payment)))))))
 }
 
 // Scores a win of the game and the same win renamed, and says whether the two answers agree. Where each tile in the wall becomes one that is in it, the first

@@ -6,3 +6,4 @@ pub mod Readings
 pub mod Answers
 pub mod RefusalExamples
 pub mod Forty
+pub mod Same

@@ -16,7 +16,7 @@ use Rattle.checks.specs.declared.Calls.{Calls}
 use Rattle.checks.specs.Checks.{called, hand_check}
 use Rattle.checks.proofs.Passed.{few_called}
 use Rattle.unit.specs.Listing.{hand_readings, hand_records}
-use Rattle.unit.proofs.Listed.{melds_called}
+use Rattle.unit.proofs.Passes.{melds_called}
 use Rattle.records.specs.Buffer.{reading_at, readings_in, place_of}
 use Rattle.records.specs.Pick.{pick_at}
 use Rattle.records.proofs.Pick.{pick_past}

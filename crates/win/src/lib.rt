@@ -2,13 +2,14 @@
 // input what is answered.
 #![tactic(auto)]
 
-ghost use Rattle.std.specs.Prelude.{◌≡◌, true, ◌&&◌, length};
+ghost use Rattle.std.specs.Prelude.{◌≡◌, true, IfOk};
 ghost use Rattle.rules.specs.Rules.{game};
-ghost use Rattle.meld.specs.Meld.{is_open};
+ghost use Rattle.rules.specs.Refusals.{number_beside};
 ghost use Rattle.context.specs.Context.{indicators_in};
 ghost use Rattle.dora.specs.Dora.{AtMostForty};
-ghost use Rattle.checks.specs.Checks.{hand_check};
 ghost use Rattle.win.specs.Win.{is_opened, tiles_together, dora_together, in_hand, indicated_in, win_check_in, score_win_in, score_reading_in, name_waits_in, score_win, score_reading, refused_waits, name_waits};
+
+use rules::Refusal;
 
 // The answer to naming waits: number 0 and a tally for each wait, Ryanmen, Kanchan, Penchan, Shanpon, Tanki, Kokushi13; or a refusal's number alone.
 #[derive(Clone, Copy)]
@@ -17,30 +18,15 @@ pub struct WaitsAnswer {
     pub waits: [u8; 6],
 }
 
-// Is the call there, and open?
-fn is_open_call(m: meld::Meld, there: bool) -> bool
-    ensures { result ≡ (there && is_open m) }
-{
-    there & m.is_open()
-}
-
-// Is some call made from another player? Most often nothing is called.
+// Is some call made from another player?
 pub fn is_opened(k: checks::Calls) -> bool
     ensures { result ≡ is_opened k }
 {
-    let melds = k.melds;
-    let count = k.count;
-    if count == 0 {
-        return false;
-    }
-    is_open_call(melds[0], 0 < count)
-        | (is_open_call(melds[1], 1 < count)
-            | (is_open_call(melds[2], 2 < count) | is_open_call(melds[3], 3 < count)))
+    k.called().iter().any(|m| m.is_open())
 }
 
 // Is the tile in the hand?
-fn in_hand(counts: &[u8], t: u8) -> bool
-    requires { length counts.now ≡ 34 }
+fn in_hand(counts: &[u8; 34], t: u8) -> bool
     ensures { result ≡ in_hand counts.now t }
 {
     if 34 <= t {
@@ -56,45 +42,47 @@ fn is_indicated(w: context::GameContext, v: rules::Variant) -> bool
     w.has_indicators() & (v.allows_dora() | w.shows_none())
 }
 
-// The number of the first check that fails, or 0.
-fn check_win(counts: &[u8], k: checks::Calls, w: context::GameContext, v: rules::Variant) -> u8
-    ensures { result ≡ win_check_in (game v) counts.now k w }
+// The hand of a win that can be scored, or the first check that fails.
+fn check_win<'a>(
+    counts: &'a [u8],
+    k: checks::Calls,
+    w: context::GameContext,
+    v: rules::Variant,
+) -> Result<checks::CheckedHand<'a>, Refusal>
+    ensures answer { number_beside result ≡ win_check_in (game v) counts.now k w }
+    ensures hand { IfOk result (λ h. (h.counts.now ≡ counts.now) × (h.calls ≡ k)) }
 {
     let shown = is_indicated(w, v);
-    let number = checks::check_hand(counts, k, v);
-    if number != 0 {
-        return number;
-    }
+    let hand = checks::check_hand(counts, k, v)?;
     if !w.is_in_range() {
-        return 8;
+        return Err(Refusal::OutOfRange);
     }
     if !shown {
-        return 14;
+        return Err(Refusal::Indicators);
     }
-    if !in_hand(counts, w.winning_tile) {
-        return 9;
+    if !in_hand(hand.counts, w.winning_tile) {
+        return Err(Refusal::WinningTile);
     }
-    0
+    Ok(hand)
 }
 
-// What all tiles together are, of a hand that has passed the checks.
-fn tiles_together(counts: &[u8], k: checks::Calls, w: context::GameContext) -> tile_yaku::TileYaku
-    requires { hand_check counts.now k ≡ 0 }
-    ensures { result ≡ tiles_together counts.now k w }
+// What all tiles together are.
+fn tiles_together(hand: checks::CheckedHand, w: context::GameContext) -> tile_yaku::TileYaku
+    ensures { result ≡ tiles_together hand.entry.counts.now hand.entry.calls w }
 {
-    let all = checks::with_calls(counts, k);
+    let all = checks::with_calls(hand.counts, hand.calls);
     tile_yaku::tile_yaku(&all, w.winning_tile)
 }
 
-// The dora of hand and calls together, where they and the win have passed the checks. Most often none is shown.
-fn dora_together(counts: &[u8], k: checks::Calls, w: context::GameContext) -> dora::DoraCount
-    requires { (hand_check counts.now k ≡ 0) × (indicators_in w ≡ true) }
-    ensures { (result ≡ dora_together counts.now k w) × AtMostForty result }
+// The dora of hand and calls together, where the indicators are in order. Most often none is shown.
+fn dora_together(hand: checks::CheckedHand, w: context::GameContext) -> dora::DoraCount
+    requires { indicators_in w ≡ true }
+    ensures { (result ≡ dora_together hand.entry.counts.now hand.entry.calls w) × AtMostForty result }
 {
     if w.shows_none() {
         return dora::DoraCount { regular: 0, ura: 0 };
     }
-    let whole = checks::with_calls(counts, k);
+    let whole = checks::with_calls(hand.counts, hand.calls);
     dora::count_dora_detailed(&whole, w)
 }
 
@@ -107,17 +95,17 @@ pub fn score_win_in(
 ) -> choice::ScoreAnswer
     ensures { result ≡ score_win_in (game v) counts.now k w }
 {
-    let number = check_win(counts, k, w, v);
-    if number != 0 {
-        return choice::refused(number);
-    }
+    let hand = match check_win(counts, k, w, v) {
+        Ok(hand) => hand,
+        Err(refusal) => return choice::refused(u8::from(refusal)),
+    };
     let mut buffer = [0u8; hand::ALWAYS_ENOUGH];
-    let n = unit::write_all(counts, k, &mut buffer);
+    let n = unit::write_all(hand, &mut buffer);
     if n == 0 {
         return choice::refused(10);
     }
-    let d = dora_together(counts, k, w);
-    let s = tiles_together(counts, k, w);
+    let d = dora_together(hand, w);
+    let s = tiles_together(hand, w);
     choice::choose(&buffer, n, s, d, w, is_opened(k), v)
 }
 
@@ -138,20 +126,20 @@ pub fn score_reading_in(
 ) -> choice::ScoreAnswer
     ensures { result ≡ score_reading_in (game v) counts.now k w n }
 {
-    let number = check_win(counts, k, w, v);
-    if number != 0 {
-        return choice::refused(number);
-    }
+    let hand = match check_win(counts, k, w, v) {
+        Ok(hand) => hand,
+        Err(refusal) => return choice::refused(u8::from(refusal)),
+    };
     let mut buffer = [0u8; hand::ALWAYS_ENOUGH];
-    let readings = unit::write_all(counts, k, &mut buffer);
+    let readings = unit::write_all(hand, &mut buffer);
     if readings <= n {
         return choice::refused(12);
     }
     let h = records::reading_at(&buffer, records::place_of(&buffer, n));
-    let d = dora_together(counts, k, w);
+    let d = dora_together(hand, w);
     choice::scored(
         n,
-        reading_score::calculate_score(h, tiles_together(counts, k, w), d, w, is_opened(k)),
+        reading_score::calculate_score(h, tiles_together(hand, w), d, w, is_opened(k)),
     )
 }
 
@@ -187,12 +175,12 @@ pub fn name_waits_in(
 ) -> WaitsAnswer
     ensures { result ≡ name_waits_in (game v) counts.now k w n }
 {
-    let number = check_win(counts, k, w, v);
-    if number != 0 {
-        return refused_waits(number);
-    }
+    let hand = match check_win(counts, k, w, v) {
+        Ok(hand) => hand,
+        Err(refusal) => return refused_waits(u8::from(refusal)),
+    };
     let mut buffer = [0u8; hand::ALWAYS_ENOUGH];
-    let count = unit::write_all(counts, k, &mut buffer);
+    let count = unit::write_all(hand, &mut buffer);
     if count <= n {
         return refused_waits(12);
     }

@@ -26,7 +26,7 @@ use Rattle.checks.specs.Checks.{called, hand_check_in}
 use Rattle.checks.proofs.Passed.{passes_four}
 use Rattle.promises.proofs.Listing.{admitted}
 use Rattle.unit.specs.Listing.{hand_readings}
-use Rattle.unit.proofs.Listed.{melds_called}
+use Rattle.unit.proofs.Passes.{melds_called}
 use Rattle.win.specs.Win.{win_check_in, is_opened, tiles_together, score_in}
 use Rattle.win.proofs.Passed.{checked}
 use Rattle.win.proofs.Readings.{listed_short}

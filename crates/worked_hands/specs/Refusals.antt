@@ -6,7 +6,7 @@ use Rattle.context.specs.Context.{in_room}
 use Rattle.context.specs.Named.{by_ron, riichi, win, south_wins, ron, showing}
 use Rattle.hand.specs.Named.{hand}
 use Rattle.scoring.specs.declared.Payment.TheVariants.{Ron}
-use Rattle.scoring.specs.declared.PaymentAnswer.TheVariants.{Refused}
+use Rattle.scoring.specs.Payment.{Refused}
 use Rattle.played.specs.Row.{non_dealer, Row, won, asked, refuses, yakuless}
 
 -- ---- 2 more than four calls

@@ -23,14 +23,6 @@ pub fn ziwhakemo_version() -> u32
     VERSION
 }
 
-// Lists the readings of a finished hand, its calls given by value, into the lent buffer.
-fn list_values(counts: &[u8], k: checks::Calls, out: &mut [u8]) -> answers::ListingAnswer
-    ensures answer { result ≡ listing_answer (listing counts.now k (length out.old)) }
-    ensures buffer { out.new ≡ written counts.now k out.old }
-{
-    games::list_values(counts, k, rules::Variant::Yonma, out)
-}
-
 // Lists the readings of a finished hand into the lent buffer.
 pub fn ziwhakemo_list_readings(
     counts: &[u8],
@@ -40,7 +32,7 @@ pub fn ziwhakemo_list_readings(
     ensures answer { result ≡ listing_answer (listing counts.now (calls_of calls.now) (length out.old)) }
     ensures buffer { out.new ≡ written counts.now (calls_of calls.now) out.old }
 {
-    list_values(counts, lent::gather(calls), out)
+    games::list_values(counts, calls, rules::Variant::Yonma, out)
 }
 
 // The level of han and fu, with or without a yakuman.
@@ -67,13 +59,6 @@ pub fn ziwhakemo_payment(basic_points: u32, is_dealer: bool, win_type: u8) -> an
     )
 }
 
-// Scores a win, its calls given by value.
-fn win_values(counts: &[u8], k: checks::Calls, w: context::GameContext) -> answers::ScoreValues
-    ensures { result ≡ score_values (score_win counts.now k w) }
-{
-    games::win_values(counts, k, w, rules::Variant::Yonma)
-}
-
 // Scores a win: the reading with a yaku that pays most.
 pub fn ziwhakemo_score_win(
     counts: &[u8],
@@ -82,19 +67,7 @@ pub fn ziwhakemo_score_win(
 ) -> answers::ScoreValues
     ensures { result ≡ score_values (score_win counts.now (calls_of calls.now) w) }
 {
-    win_values(counts, lent::gather(calls), w)
-}
-
-// Scores reading number n, counted from 0, its calls given by value.
-fn reading_values(
-    counts: &[u8],
-    k: checks::Calls,
-    w: context::GameContext,
-    n: usize,
-) -> answers::ScoreValues
-    ensures { result ≡ score_values (score_reading counts.now k w n) }
-{
-    games::reading_values(counts, k, w, rules::Variant::Yonma, n)
+    games::win_values(counts, calls, w, rules::Variant::Yonma)
 }
 
 // Scores reading number n, counted from 0.
@@ -106,19 +79,7 @@ pub fn ziwhakemo_score_reading(
 ) -> answers::ScoreValues
     ensures { result ≡ score_values (score_reading counts.now (calls_of calls.now) w n) }
 {
-    reading_values(counts, lent::gather(calls), w, n)
-}
-
-// Names the waits of reading number n, counted from 0, its calls given by value.
-fn waits_values(
-    counts: &[u8],
-    k: checks::Calls,
-    w: context::GameContext,
-    n: usize,
-) -> answers::WaitsValues
-    ensures { result ≡ waits_values (name_waits counts.now k w n) }
-{
-    games::waits_values(counts, k, w, rules::Variant::Yonma, n)
+    games::reading_values(counts, calls, w, rules::Variant::Yonma, n)
 }
 
 // Names the waits of reading number n, counted from 0.
@@ -130,5 +91,5 @@ pub fn ziwhakemo_name_waits(
 ) -> answers::WaitsValues
     ensures { result ≡ waits_values (name_waits counts.now (calls_of calls.now) w n) }
 {
-    waits_values(counts, lent::gather(calls), w, n)
+    games::waits_values(counts, calls, w, rules::Variant::Yonma, n)
 }

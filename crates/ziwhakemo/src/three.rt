@@ -9,14 +9,6 @@ ghost use Rattle.answers.specs.Answers.{listing_answer, payment_values_at, score
 
 use crate::games;
 
-// Lists the readings of a finished hand, its calls given by value, into the lent buffer.
-fn list_values(counts: &[u8], k: checks::Calls, out: &mut [u8]) -> answers::ListingAnswer
-    ensures answer { result ≡ listing_answer (listing_in three counts.now k (length out.old)) }
-    ensures buffer { out.new ≡ written_in three counts.now k out.old }
-{
-    games::list_values(counts, k, rules::Variant::Sanma, out)
-}
-
 // Lists the readings of a finished hand into the lent buffer.
 pub fn ziwhakemo_three_list_readings(
     counts: &[u8],
@@ -26,7 +18,7 @@ pub fn ziwhakemo_three_list_readings(
     ensures answer { result ≡ listing_answer (listing_in three counts.now (calls_of calls.now) (length out.old)) }
     ensures buffer { out.new ≡ written_in three counts.now (calls_of calls.now) out.old }
 {
-    list_values(counts, lent::gather(calls), out)
+    games::list_values(counts, calls, rules::Variant::Sanma, out)
 }
 
 // Who pays what for any basic points and any win type, 0 for ron and 1 for tsumo.
@@ -43,13 +35,6 @@ pub fn ziwhakemo_three_payment(
     )
 }
 
-// Scores a win, its calls given by value.
-fn win_values(counts: &[u8], k: checks::Calls, w: context::GameContext) -> answers::ScoreValues
-    ensures { result ≡ score_values_at 3 (score_win_in three counts.now k w) }
-{
-    games::win_values(counts, k, w, rules::Variant::Sanma)
-}
-
 // Scores a win: the reading with a yaku that pays most at a table of three.
 pub fn ziwhakemo_three_score_win(
     counts: &[u8],
@@ -58,19 +43,7 @@ pub fn ziwhakemo_three_score_win(
 ) -> answers::ScoreValues
     ensures { result ≡ score_values_at 3 (score_win_in three counts.now (calls_of calls.now) w) }
 {
-    win_values(counts, lent::gather(calls), w)
-}
-
-// Scores reading number n, counted from 0, its calls given by value.
-fn reading_values(
-    counts: &[u8],
-    k: checks::Calls,
-    w: context::GameContext,
-    n: usize,
-) -> answers::ScoreValues
-    ensures { result ≡ score_values_at 3 (score_reading_in three counts.now k w n) }
-{
-    games::reading_values(counts, k, w, rules::Variant::Sanma, n)
+    games::win_values(counts, calls, w, rules::Variant::Sanma)
 }
 
 // Scores reading number n, counted from 0.
@@ -82,19 +55,7 @@ pub fn ziwhakemo_three_score_reading(
 ) -> answers::ScoreValues
     ensures { result ≡ score_values_at 3 (score_reading_in three counts.now (calls_of calls.now) w n) }
 {
-    reading_values(counts, lent::gather(calls), w, n)
-}
-
-// Names the waits of reading number n, counted from 0, its calls given by value.
-fn waits_values(
-    counts: &[u8],
-    k: checks::Calls,
-    w: context::GameContext,
-    n: usize,
-) -> answers::WaitsValues
-    ensures { result ≡ waits_values (name_waits_in three counts.now k w n) }
-{
-    games::waits_values(counts, k, w, rules::Variant::Sanma, n)
+    games::reading_values(counts, calls, w, rules::Variant::Sanma, n)
 }
 
 // Names the waits of reading number n, counted from 0.
@@ -106,5 +67,5 @@ pub fn ziwhakemo_three_name_waits(
 ) -> answers::WaitsValues
     ensures { result ≡ waits_values (name_waits_in three counts.now (calls_of calls.now) w n) }
 {
-    waits_values(counts, lent::gather(calls), w, n)
+    games::waits_values(counts, calls, w, rules::Variant::Sanma, n)
 }

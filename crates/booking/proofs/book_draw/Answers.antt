@@ -1,14 +1,7 @@
 -- `booking::book_draw` meets its contract. Assumes nothing.
 use mathlib.Core.Path.{sym, ◌∙◌}
-use borrow.Author.Tests.{lt-ltb, le-ltb, not-true, not-false}
+use borrow.Author.Tests.{lt-ltb, le-ltb}
 use Rattle.booking.specs.Booking.{draw_outcome}
-use borrow.Author.Rules.{rules}
-use Rattle.booking.proofs.book_draw.Reads as reads
-use Rattle.booking.proofs.book_draw.Lts as lts
-use Rattle.booking.proofs.refuse.Reads as refuse-reads
-use Rattle.booking.proofs.settle.Reads as settle-reads
-use Rattle.seat_book.proofs.has_room.Reads as has-room-reads
-use Rattle.settlements.proofs.draw_settlement.Reads as draw-settlement-reads
 use Rattle.booking.proofs.book_draw.Goals as goal
 
 pub returns-then-d-ge4 : goal.returns-then-d-ge4

@@ -1,17 +1,7 @@
 -- `booking::book_win` meets its contract. Assumes nothing.
 use mathlib.Core.Path.{sym, ◌∙◌}
-use borrow.Author.Tests.{not-true, not-false}
 use Rattle.booking.specs.Booking.{win_outcome}
 use Rattle.booking.proofs.Seats.{dealer_seated, winner_seated}
-use borrow.Author.Rules.{rules}
-use Rattle.booking.proofs.book_win.Reads as reads
-use Rattle.booking.proofs.book_win.Lts as lts
-use Rattle.booking.proofs.are_seats.Reads as are-seats-reads
-use Rattle.booking.proofs.book_scored.Reads as book-scored-reads
-use Rattle.booking.proofs.refuse.Reads as refuse-reads
-use Rattle.booking.proofs.seated.Reads as seated-reads
-use Rattle.seat_book.proofs.has_room.Reads as has-room-reads
-use Rattle.win.proofs.score_win.Reads as score-win-reads
 use Rattle.booking.proofs.book_win.Goals as goal
 
 pub returns-then-not-are_seats : goal.returns-then-not-are_seats

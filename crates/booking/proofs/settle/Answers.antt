@@ -7,11 +7,6 @@ use lib.Dec.{eqb}
 use borrow.Author.Tests.{eqb-false}
 use Rattle.lists.specs.Fold.{one}
 use Rattle.booking.specs.Booking.{raising}
-use borrow.Author.Rules.{rules}
-use Rattle.booking.proofs.settle.Reads as reads
-use Rattle.booking.proofs.settle.Lts as lts
-use Rattle.booking.proofs.refuse.Reads as refuse-reads
-use Rattle.seat_book.proofs.settle.Reads as settle-reads
 use Rattle.booking.proofs.settle.Goals as goal
 
 -- the counter, which is a byte, does not pass 255

@@ -1,5 +1,4 @@
 -- `seat_book::moved` meets its contract: sums and differences of points within their limits fit. Assumes nothing.
-use borrow.Author.Rules.{rules}
 use Rattle.seat_book.proofs.Magnitude.{sum_fits, rest_fits, reads_as}
 use Rattle.seat_book.proofs.moved.Goals as goal
 

@@ -1,6 +1,5 @@
 -- `agree` meets its contract: with four players every renaming keeps the wall. Assumes nothing.
 use Rattle.agreement.proofs.Demand3.{four_stays}
-use borrow.Author.Rules.{rules}
 use Rattle.twins.proofs.agree.Goals as goal
 
 pub returns : goal.returns

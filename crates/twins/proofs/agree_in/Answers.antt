@@ -1,17 +1,8 @@
 -- `agree_in` meets its contract: what it answers, and that it is yes under the conditions of the theorem. Assumes nothing.
-use mathlib.Core.Path.{sym, ap₂, ◌∙◌}
-use lib.ListN.{length-map}
+use mathlib.Core.Path.{ap₂, ◌∙◌}
 use Rattle.rules.specs.Rules.{game}
 use Rattle.twins.specs.Twins.{agrees}
 use Rattle.twins.proofs.Agreed.{calls_agree}
-use borrow.Author.Rules.{rules}
-use Rattle.twins.proofs.agree_in.Reads as reads
-use Rattle.twins.proofs.agree_in.Lts as lts
-use Rattle.context.proofs.GameContext.renamed.Reads as renamed-reads
-use Rattle.twins.proofs.renamed_calls.Reads as renamed-calls-reads
-use Rattle.twins.proofs.renamed_counts.Reads as renamed-counts-reads
-use Rattle.twins.proofs.same_answer.Reads as same-answer-reads
-use Rattle.win.proofs.score_win_in.Reads as score-win-in-reads
 use Rattle.twins.proofs.agree_in.Goals as goal
 
 pub returns : goal.returns

@@ -1,5 +1,4 @@
 -- `back` meets its contract. Assumes nothing.
-use borrow.Author.Rules.{rules}
 use Rattle.twins.proofs.back.Goals as goal
 
 pub returns : goal.returns

@@ -1,17 +1,17 @@
 -- `renamed_calls` meets its contract. Assumes nothing.
-use mathlib.Core.Path.{sym, ◌∙◌}
-use lib.ListN.{length-map}
-use borrow.Author.Rules.{rules}
-use Rattle.twins.proofs.Renamed.{calls_four_holds}
-use Rattle.twins.proofs.renamed_calls.Reads as reads
-use Rattle.twins.proofs.renamed_calls.Lts as lts
-use Rattle.meld.proofs.Meld.renamed.Reads as renamed-reads
+use Rattle.std.proofs.Common.{rules, tests, ℕ, List, length, ap, ◌≡◌}
+use Rattle.lists.proofs.Chains.{mapped}
+use Rattle.meld.specs.declared.Meld.{Meld}
+use Rattle.meld.specs.Named.{run}
+use Rattle.meld.specs.Renamed.{ren_meld}
+use Rattle.checks.specs.declared.Calls.{Calls}
 use Rattle.twins.proofs.renamed_calls.Goals as goal
 
--- src/lib.rt:72:1
 pub returns : goal.returns
 returns c =
     let k = c.args.k in
-    let long = c.well_formed.0.1.1.1.0.1.0.1 in
-    simp (c.renamed.ensures, c.renamed-2.ensures, c.renamed-3.ensures, c.renamed-4.ensures)
-    (calls_four_holds c.args.by k _ long)
+    let size : length k.melds ≡ 4 = search rules in
+    ap (λ (l : List Meld). the_calls k.count l) (mapped _ _ (ren_meld c.args.by) (λ x y q k. search (rules, tests)) k.melds c.map.result 4 (run 0) size c.map.ensures.items)
+  where
+    the_calls : ℕ → List Meld → Calls
+    the_calls n l = record { count = n; melds = l }

@@ -1,49 +1,47 @@
 -- `check_win` meets its contract: the checks are answered in the definition's order, whichever is made first. Assumes nothing.
-use mathlib.Core.Path.{sym, ◌∙◌}
+use mathlib.Core.Path.{sym, ap, ◌∙◌}
+use Rattle.std.proofs.lemmas.Result.{err_from_is_err_and}
 use Rattle.rules.specs.Rules.{game}
-use borrow.Author.Tests.{not-true, not-false}
-use Rattle.checks.proofs.Checked.{pass, refuse}
-use Rattle.checks.proofs.Passed.{passed}
-use Rattle.win.specs.Win.{win_check_in}
+use Rattle.checks.proofs.Passing.{pass, refuse}
+use Rattle.unit.proofs.Answers.{refuses}
+use Rattle.win.specs.Win.{win_check_in, in_hand}
 use Rattle.win.proofs.Checked.{or_second, refused_hand}
 use borrow.Author.Rules.{rules}
 use Rattle.win.proofs.check_win.Goals as goal
 
-pub returns-then-number-ne0 : goal.returns-then-number-ne0
-returns-then-number-ne0 c =
+pub returns-in_err-hand-clause-answer : goal.returns-in_err-hand-clause-answer
+returns-in_err-hand-clause-answer c =
     let a = c.args in
-    refused_hand (game a.v) a.counts.now a.k a.w c.check_hand-number.result c.check_hand-number.ensures c.if-number-ne0.true
+    let p = err_from_is_err_and c.from_residual.result c.from_residual.ensures.1 in
+    rw (p.1, p.2) (refused_hand (game a.v) a.counts.now a.k a.w _ c.in_err-hand.ensures.answer (refuses c.in_err-hand.field-0.0))
 
-pub returns-then-not-is_in_range : goal.returns-then-not-is_in_range
+pub returns-then-not-is_in_range-clause-answer : goal.returns-then-not-is_in_range-clause-answer
 unfolding win_check_in
-returns-then-not-is_in_range c =
-    let ok = sym c.check_hand-number.ensures ∙ c.if-number-ne0.false in
+returns-then-not-is_in_range-clause-answer c =
+    let ok = sym c.in_ok-hand.ensures.answer in
     sym (or_second _ _ ok ∙ refuse _ _ _ (sym c.is_in_range.ensures ∙ c.if-not-is_in_range.true))
 
-pub returns-then-not-shown : goal.returns-then-not-shown
+pub returns-then-not-shown-clause-answer : goal.returns-then-not-shown-clause-answer
 unfolding win_check_in
-returns-then-not-shown c =
-    let ok = sym c.check_hand-number.ensures ∙ c.if-number-ne0.false in
+returns-then-not-shown-clause-answer c =
+    let ok = sym c.in_ok-hand.ensures.answer in
     let range = sym c.is_in_range.ensures ∙ c.if-not-is_in_range.false in
     sym (or_second _ _ ok ∙ pass _ _ _ range ∙ refuse _ _ _ (sym c.is_indicated-shown.ensures ∙ c.if-not-shown.true))
 
-pub in_hand-requires : goal.in_hand-requires
-in_hand-requires c =
-    let a = c.args in
-    (passed a.counts.now a.k (sym c.check_hand-number.ensures ∙ c.if-number-ne0.false)).long
-
-pub returns-then-not-in_hand : goal.returns-then-not-in_hand
+pub returns-then-not-in_hand-clause-answer : goal.returns-then-not-in_hand-clause-answer
 unfolding win_check_in
-returns-then-not-in_hand c =
-    let ok = sym c.check_hand-number.ensures ∙ c.if-number-ne0.false in
+returns-then-not-in_hand-clause-answer c =
+    let ok = sym c.in_ok-hand.ensures.answer in
     let inside = sym c.is_in_range.ensures ∙ c.if-not-is_in_range.false in
     let shown = sym c.is_indicated-shown.ensures ∙ c.if-not-shown.false in
-    sym (or_second _ _ ok ∙ pass _ _ _ inside ∙ pass _ _ _ shown ∙ refuse _ _ _ (sym c.in_hand.ensures ∙ c.if-not-in_hand.true))
+    let held = ap (λ cs. in_hand cs c.args.w.winning_tile) (sym c.in_ok-hand.ensures.hand.0) ∙ sym c.in_hand.ensures ∙ c.if-not-in_hand.true in
+    sym (or_second _ _ ok ∙ pass _ _ _ inside ∙ pass _ _ _ shown ∙ refuse _ _ _ held)
 
-pub returns : goal.returns
+pub returns-clause-answer : goal.returns-clause-answer
 unfolding win_check_in
-returns c =
-    let ok = sym c.check_hand-number.ensures ∙ c.if-number-ne0.false in
+returns-clause-answer c =
+    let ok = sym c.in_ok-hand.ensures.answer in
     let in_range_holds = sym c.is_in_range.ensures ∙ c.if-not-is_in_range.false in
     let are-shown = sym c.is_indicated-shown.ensures ∙ c.if-not-shown.false in
-    sym (or_second _ _ ok ∙ pass _ _ _ in_range_holds ∙ pass _ _ _ are-shown ∙ pass _ _ _ (sym c.in_hand.ensures ∙ c.if-not-in_hand.false))
+    let held = ap (λ cs. in_hand cs c.args.w.winning_tile) (sym c.in_ok-hand.ensures.hand.0) ∙ sym c.in_hand.ensures ∙ c.if-not-in_hand.false in
+    sym (or_second _ _ ok ∙ pass _ _ _ in_range_holds ∙ pass _ _ _ are-shown ∙ pass _ _ _ held)

@@ -19,19 +19,21 @@ returns-then-shows_none c =
     let none = both_none a.w (sym c.shows_none.ensures ∙ c.if-shows_none.true) in
     let d = none_of a.w.dora_indicators none.0 in
     let u = none_of a.w.ura_dora_indicators none.1 in
-    (sym (none_shown_holds (together a.counts.now (called a.k)) a.w d u), (omega arith, omega arith))
+    (sym (none_shown_holds (together a.hand.counts.now (called a.hand.calls)) a.w d u), (omega arith, omega arith))
 
 pub with_calls-whole-requires : goal.with_calls-whole-requires
 with_calls-whole-requires c =
-    let h = passed c.args.counts.now c.args.k c.requires.0 in
-    (h.long, (h.four, (h.few, T→true _ h.calls)))
+    let h = c.args.hand in
+    let p = passed h.counts.now h.calls h.passed in
+    (p.four, (p.few, T→true _ p.calls))
 
 pub count_dora_detailed-requires : goal.count_dora_detailed-requires
 count_dora_detailed-requires c =
+    let h = c.args.hand in
     let all = c.with_calls-whole in
-    let h = passed c.args.counts.now c.args.k c.requires.0 in
+    let p = passed h.counts.now h.calls h.passed in
     let long : length all.result ≡ 34 = search rules in
-    (long, (four_each all.result long (λ t i. subst (λ (n : ℕ). n ≤ 4) (sym (all.ensures t)) (h.whole t i)), c.requires.1))
+    (four_each all.result long (λ t i. subst (λ (n : ℕ). n ≤ 4) (sym (all.ensures t)) (p.whole t i)), c.requires)
 
 pub returns : goal.returns
 returns c =

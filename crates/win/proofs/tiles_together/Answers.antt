@@ -9,8 +9,9 @@ use Rattle.win.proofs.tiles_together.Goals as goal
 
 pub with_calls-all-requires : goal.with_calls-all-requires
 with_calls-all-requires c =
-    let h = passed c.args.counts.now c.args.k c.requires in
-    (h.long, (h.four, (h.few, T→true _ h.calls)))
+    let h = c.args.hand in
+    let p = passed h.counts.now h.calls h.passed in
+    (p.four, (p.few, T→true _ p.calls))
 
 pub returns : goal.returns
 returns c =
