@@ -1,5 +1,5 @@
 -- The call that a word of tiles given to the program `score` means. These are definitions.
-use Rattle.std.specs.Prelude.{◌≡◌, Bool, true, ◌||◌, cond, List, ℕ, ◌+◌, ◌-◌, ◌<◌, ◌≤◌, min, eqb, ltb, get_or, set}
+use Rattle.std.specs.Prelude.{◌≡◌, Bool, true, ◌||◌, List, ℕ, ◌+◌, ◌-◌, ◌<◌, min, eqb, ltb, get_or, set, Option, Some, None}
 use Rattle.lists.specs.Fold.{all, count}
 use Rattle.tile.specs.Tile.{tiles}
 use Rattle.meld.specs.declared.Meld.{Meld}
@@ -7,25 +7,28 @@ use Rattle.meld.specs.Meld.{is_call, is_open, is_sourced, from_seat, meld, but_s
 use Rattle.hand.specs.Counts.{held}
 use Rattle.checks.specs.declared.Calls.{Calls}
 use Rattle.tile_words.specs.Words.{tiles_in}
-use Rattle.call_words.specs.declared.Found.{Found}
-use Rattle.call_words.specs.declared.Found.TheVariants.{Nothing, Call}
 
 -- the counts are exactly the tiles of the meld
 abbrev pub made_of : Meld → List ℕ → Bool
 made_of m cs = all (λ t. eqb (held cs t) (uses m t)) tiles
 
--- the meld is of the kind asked for; 0 asks for any open one
+-- the meld is of the kind asked for; where none is, any open one is asked for
 abbrev pub is_kind : ℕ → Meld → Bool
 is_kind k m = eqb m.kind k
 
-abbrev pub is_asked : ℕ → Meld → Bool
-is_asked k = cond (eqb k 0) is_open (is_kind k)
+abbrev pub is_asked : Option ℕ → Meld → Bool
+is_asked None = is_open
+is_asked (Some k) = is_kind k
 
--- the lowest tile that is there; 34 where there is none
-pub record IsLowest (cs : List ℕ) (r : ℕ) : Type 0 where
-  pub tile : r ≤ 34
-  pub there : r < 34 → 0 < held cs r
+-- the lowest tile that is there; none where no tile is
+pub record Lowest (cs : List ℕ) (r : ℕ) : Type 0 where
+  pub tile : r < 34
+  pub there : 0 < held cs r
   pub below : (t : ℕ) → t < r → held cs t ≡ 0
+
+abbrev pub IsLowest : List ℕ → Option ℕ → Type 0
+IsLowest cs None = (t : ℕ) → t < 34 → held cs t ≡ 0
+IsLowest cs (Some r) = Lowest cs r
 
 -- a call as it is taken where nothing says whom it came from: an open one from the left, from where each kind of them can come
 abbrev pub IsFromLeft : Meld → Type 0
@@ -36,18 +39,18 @@ abbrev pub CallOf : (Meld → Bool) → List ℕ → Meld → Type 0
 CallOf p cs m = (is_call m ≡ true) × ((p m ≡ true) × (made_of m cs ≡ true))
 
 -- what is found is such a call, from the left; where nothing is found, there is none, whomever it came from
-abbrev pub IsCallOf : (Meld → Bool) → List ℕ → Found → Type 0
-IsCallOf p cs Nothing = (m : Meld) → CallOf p cs m → ⊥
-IsCallOf p cs (Call m) = CallOf p cs m × IsFromLeft m
+abbrev pub IsCallOf : (Meld → Bool) → List ℕ → Option Meld → Type 0
+IsCallOf p cs None = (m : Meld) → CallOf p cs m → ⊥
+IsCallOf p cs (Some m) = CallOf p cs m × IsFromLeft m
 
 -- a call that passes the test p, and has exactly the tiles that the word names
 abbrev pub CallIn : (Meld → Bool) → List ℕ → Meld → Type 0
 CallIn p w m = (is_call m ≡ true) × ((p m ≡ true) × ((t : ℕ) → t < 34 → count (eqb t) (tiles_in w) ≡ uses m t))
 
 -- what is found is such a call, from the left; where nothing is found, there is none, whomever it came from
-abbrev pub IsCallIn : (Meld → Bool) → List ℕ → Found → Type 0
-IsCallIn p w Nothing = (m : Meld) → CallIn p w m → ⊥
-IsCallIn p w (Call m) = CallIn p w m × IsFromLeft m
+abbrev pub IsCallIn : (Meld → Bool) → List ℕ → Option Meld → Type 0
+IsCallIn p w None = (m : Meld) → CallIn p w m → ⊥
+IsCallIn p w (Some m) = CallIn p w m × IsFromLeft m
 
 -- one call more: each is counted, up to 1,000, and the first four are kept
 abbrev pub with_call : Calls → Meld → Calls

@@ -13,18 +13,35 @@ use Rattle.lists.proofs.Finite.{and_right, and_both, true→t}
 use Rattle.lists.proofs.Members.{all_append}
 use Rattle.context.specs.declared.Indicators.{Indicators}
 use Rattle.context.specs.Context.{shown, are_indicators}
+use Rattle.std.specs.Prelude.{Some, None}
+use Rattle.tile_words.specs.Chars.{below}
 use Rattle.tile_words.specs.Words.{tiles_in, tiles_of}
 use Rattle.notation.specs.Shown.{with_indicator, with_indicators}
 
-abbrev is_tile : ℕ → Bool
+abbrev pub is_tile : ℕ → Bool
 is_tile t = ltb t 34
 
 -- ---- word by word
--- a tile is one more, and what is none adds nothing
+-- a tile that is named is one more, and what is none adds nothing
+pub named :
+    (k m : Indicators) (r t : ℕ) → Some t ≡ below 34 r → m ≡ with_indicator k t → m ≡ cond (is_tile r) (with_indicator k r) k
+named k m r t e f = go (is_tile r) e
+  where
+    go : (b : Bool) → Some t ≡ cond b (Some r) None → m ≡ cond b (with_indicator k r) k
+    go true e = let same : t ≡ r = cc in f ∙ ap (with_indicator k) same
+    go false e = cc
+
+pub unnamed : (k m : Indicators) (r : ℕ) → None ≡ below 34 r → m ≡ k → m ≡ cond (is_tile r) (with_indicator k r) k
+unnamed k m r e f = go (is_tile r) e
+  where
+    go : (b : Bool) → None ≡ cond b (Some r) None → m ≡ cond b (with_indicator k r) k
+    go true e = cc
+    go false e = f
+
 pub tile_turn :
-    (k : Indicators) (t : ℕ) (ts : List ℕ)
-    → with_indicators (cond (ltb t 34) (with_indicator k t) k) (keep (λ u. ltb u 34) ts) ≡ with_indicators k (keep (λ u. ltb u 34) (t ∷ ts))
-tile_turn k t ts = go (is_tile t)
+    (k m : Indicators) (t : ℕ) (ts : List ℕ) → m ≡ cond (is_tile t) (with_indicator k t) k
+    → with_indicators m (keep is_tile ts) ≡ with_indicators k (keep is_tile (t ∷ ts))
+tile_turn k m t ts e = ap (λ (j : Indicators). with_indicators j (keep is_tile ts)) e ∙ go (is_tile t)
   where
     go : (b : Bool) → with_indicators (cond b (with_indicator k t) k) (keep is_tile ts) ≡ with_indicators k (cond b (t ∷ []) [] ++ keep is_tile ts)
     go true = refl

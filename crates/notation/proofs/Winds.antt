@@ -1,18 +1,18 @@
--- The win that the words say is in range: the winds counted from East are winds, and the setting is four or two. Assumes nothing.
-use mathlib.Core.Path.{◌≡◌, refl, ap₂}
-use mathlib.Core.Bool.{Bool, true, false, ◌&&◌, cond}
-use Prim.Native.Nat.{ℕ, ◌+◌, ◌%◌}
-use native.Mathlib.Omega.{arith}
-use lib.Dec.{ltb}
-use borrow.Author.Tests.{le-leb, lt-ltb}
+-- The win that the words say is in range: the winds are winds, and the setting is four or two. Assumes nothing.
+use Rattle.std.proofs.Common.{◌≡◌, refl, ap₂, Bool, true, false, ◌&&◌, cond, ltb, unwrap_or}
 use Rattle.lists.specs.Fold.{one}
 use Rattle.tile.specs.Tile.{is_wind}
+use Rattle.known_words.specs.declared.Wind.{Wind}
+use Rattle.known_words.specs.declared.Wind.TheVariants.{East, South, West, North}
 use Rattle.context.specs.Context.{is_setting, in_range}
 use Rattle.notation.specs.declared.said.Said.{Said}
-use Rattle.notation.specs.Said.{win_of}
+use Rattle.notation.specs.Said.{wind_tile, won_by, win_of}
 
-wind : (n : ℕ) → is_wind (27 + n % 4) ≡ true
-wind n = ap₂ ◌&&◌ (le-leb 27 (27 + n % 4) (omega arith)) (lt-ltb (27 + n % 4) 31 (omega arith))
+wind : (w : Wind) → is_wind (wind_tile w) ≡ true
+wind East = refl
+wind South = refl
+wind West = refl
+wind North = refl
 
 type_in : (b : Bool) → ltb (one b) 2 ≡ true
 type_in true = refl
@@ -24,4 +24,5 @@ setting false = refl
 
 pub in_range_holds : (s : Said) → in_range (win_of s) ≡ true
 in_range_holds s =
-    ap₂ ◌&&◌ (type_in s.tsumo) (ap₂ ◌&&◌ (wind s.round) (ap₂ ◌&&◌ (wind s.seat) (setting s.double_wind_two)))
+    ap₂ ◌&&◌ (type_in (won_by s).tsumo)
+    (ap₂ ◌&&◌ (wind (unwrap_or s.round East)) (ap₂ ◌&&◌ (wind (unwrap_or s.seat South)) (setting (unwrap_or s.double_wind_two false))))

@@ -1,6 +1,6 @@
 -- The game that the words say, and whom its calls came from. Words are taken for a table of four, where the left is three seats onward, and the calls
 -- then turned to the table of the game. These are definitions.
-use Rattle.std.specs.Prelude.{Bool, ◌&&◌, ◌||◌, cond, map, ℕ, ◌-◌, eqb, ltb, get_or}
+use Rattle.std.specs.Prelude.{Bool, true, false, ◌&&◌, ◌||◌, cond, map, ℕ, ◌-◌, eqb, ltb, get_or, Option, Some, None, unwrap_or}
 use Rattle.rules.specs.declared.Variant.{Variant}
 use Rattle.rules.specs.declared.Variant.TheVariants.{Yonma, Sanma}
 use Rattle.rules.specs.Rules.{Game}
@@ -8,9 +8,14 @@ use Rattle.meld.specs.declared.Meld.{Meld}
 use Rattle.meld.specs.Meld.{from_seat, meld}
 use Rattle.checks.specs.declared.Calls.{Calls}
 
--- three players where that was said, else four
-abbrev pub played_by : Bool → Variant
-played_by three = cond three Sanma Yonma
+-- the game that was said, else with four players; and whether three play
+abbrev pub played_by : Option Variant → Variant
+played_by said = unwrap_or said Yonma
+
+abbrev pub is_three : Option Variant → Bool
+is_three None = false
+is_three (Some Yonma) = false
+is_three (Some Sanma) = true
 
 -- a call from the player who sits across at a table of four, if the call is there; and one of the four that are kept
 abbrev pub is_across : Bool → Meld → Bool

@@ -2,8 +2,8 @@
 // Nothing is read from outside or written here.
 #![tactic(auto)]
 
+pub mod faults;
 mod indicators;
 mod pieces;
 pub mod said;
 mod seats;
-mod sources;

@@ -1,212 +1,230 @@
 // An argument is split into words at blanks, and a word of tiles into pieces at brackets.
-ghost use Rattle.std.specs.Prelude.{◌≡◌, true, ◌+◌, ◌≤◌, ◌<◌, length};
+ghost use Rattle.std.specs.Prelude.{◌≡◌, ◌+◌, ◌≤◌, ◌<◌, length};
+ghost use Rattle.std.specs.Iterator.{at_most};
 
-use tile_words::{chars, faults};
+use crate::faults::{Misread, Stop};
 
 // The most bytes of an argument.
 pub const LONGEST: usize = 512;
 
-// Is it one of four characters?
-fn is_one_of(c: u8, four: [u8; 4]) -> bool {
-    ((c == four[0]) | (c == four[1])) | ((c == four[2]) | (c == four[3]))
+// How many bytes a text has before the first behind its first that is one of these.
+fn length_before(text: &[u8], ends: &[u8]) -> usize
+    requires { 0 < length text.now }
+    ensures some { 0 < result }
+    ensures within { result ≤ length text.now }
+{
+    match text[1..].iter().position(|c| ends.contains(c)) {
+        Some(i) => i + 1,
+        None => text.len(),
+    }
 }
 
-// The first place behind another that has one of four characters; the text's length where there is none.
-fn next_of(text: &[u8], from: usize, four: [u8; 4]) -> usize
-    requires { from < length text.now }
-    ensures { (from < result) × (result ≤ length text.now) }
-{
-    let mut i = from + 1;
-    while i < text.len() {
-        if is_one_of(text[i], four) {
-            return i;
-        }
-        i += 1;
+// ---- parts of a text
+
+// A part of a text, and the place where it begins there.
+#[derive(Clone, Copy)]
+pub struct Part<'a> {
+    pub from: usize,
+    pub text: &'a [u8],
+}
+
+// What is left of a text, and the place where it begins there.
+#[derive(Drop)]
+struct Rest<'a> {
+    from: usize,
+    text: &'a [u8],
+}
+
+impl<'a> Rest<'a> {
+    // Takes the first n bytes.
+    fn take(&mut self, n: usize) -> Part<'a>
+        requires { n ≤ length self.old.text.now }
+        ensures { length self.new.text.now + n ≡ length self.old.text.now }
+    {
+        let (text, others) = self.text.split_at(n);
+        let part = Part {
+            from: self.from,
+            text,
+        };
+        self.from = self.from.saturating_add(n);
+        self.text = others;
+        part
     }
-    i
 }
 
 // ---- words of an argument
 
 // Spaces, tabs and new lines are blanks.
-const BLANKS: [u8; 4] = *b" \t\n ";
-
-// Is it a blank?
 fn is_blank(c: u8) -> bool {
-    is_one_of(c, BLANKS)
+    b" \t\n".contains(&c)
 }
 
-// The first place from here on that has no blank; the text's length where there is none.
-pub fn next_word(text: &[u8], from: usize) -> usize
-    ensures { from ≤ result }
+// How many blanks a text begins with.
+fn blanks(text: &[u8]) -> usize
+    ensures { result ≤ length text.now }
 {
-    let mut i = from;
-    while i < text.len() {
-        if !is_blank(text[i]) {
-            return i;
+    text.iter().take_while(|c| is_blank(**c)).count()
+}
+
+// Does a word go on behind its first bytes, with what follows them? A blank right behind a number does not end a word, unless
+// what stands before the blank is a known one.
+fn goes_on(start: &[u8], rest: &[u8]) -> bool {
+    let [.., last] = start else {
+        return false;
+    };
+    last.is_ascii_digit() & (blanks(rest) < rest.len()) & !known_words::is_known(start)
+}
+
+// How many bytes the word has that a text begins with. A `while` over what is left, as it goes on from one blank to the next: a `for` over all bytes
+// would have to keep in mind where the last blank was.
+fn word_length(text: &[u8]) -> usize
+    requires { 0 < length text.now }
+    ensures some { 0 < result }
+    ensures within { result ≤ length text.now }
+{
+    let mut rest = text;
+    while !rest.is_empty() {
+        let (start, others) = rest.split_at(length_before(rest, b" \t\n"));
+        if !goes_on(start, others) {
+            return text.len() - others.len();
         }
-        i += 1;
-    }
-    i
-}
-
-// Is the text from a place to an end a known word?
-fn is_known(text: &[u8], from: usize, end: usize) -> bool
-    requires { (from ≤ end) × (end ≤ length text.now) }
-{
-    known_words::is_known(&text[from..end])
-}
-
-// Does a word go on at the place `next`, behind blanks from `end` on? A blank right behind a number does not end a word, unless
-// what stands from `from` to `end` is a known one.
-fn goes_on(text: &[u8], from: usize, end: usize, next: usize) -> bool
-    requires { (from < end) × (end ≤ length text.now) }
-{
-    chars::is_number(text[end - 1]) & ((next < text.len()) & !is_known(text, from, end))
-}
-
-// The place behind the last byte of the word that begins at a place.
-pub fn word_end(text: &[u8], from: usize) -> usize
-    requires { from < length text.now }
-    ensures { (from < result) × (result ≤ length text.now) }
-{
-    let mut i = from;
-    while i < text.len() {
-        let end = next_of(text, i, BLANKS);
-        let next = next_word(text, end);
-        if !goes_on(text, i, end, next) {
-            return end;
-        }
-        i = next;
+        let (_, next) = others.split_at(blanks(others));
+        rest = next;
     }
     text.len()
 }
 
-// Puts a byte of a word behind the first n, if it is no blank and there is room. The answer is how many there are then.
-fn kept(word: &mut [u8; 512], n: usize, c: u8) -> usize
-    requires { (n ≤ 512) × (length word.old ≡ 512) }
-    ensures { (result ≤ 512) × (length word.new ≡ 512) }
-{
-    if is_blank(c) {
-        return n;
-    }
-    if 512 <= n {
-        return n;
-    }
-    word[n] = c;
-    n + 1
+// The words of an argument, one after the other.
+#[derive(Drop)]
+pub struct Words<'a> {
+    rest: Rest<'a>,
 }
 
-// Copies a word without the blanks in it, up to 512 bytes. The answer is how many there are.
-pub fn joined(text: &[u8], word: &mut [u8; 512]) -> usize
-    requires { length word.old ≡ 512 }
-    ensures { (result ≤ 512) × (length word.new ≡ 512) }
-{
-    let mut n = 0;
-    for i in 0..text.len() {
-        n = kept(word, n, text[i]);
-    }
-    n
-}
+impl<'a> Iterator for Words<'a> {
+    type Item = Part<'a>;
 
-// The place behind n bytes that are no blanks, from a place on.
-pub fn behind(text: &[u8], from: usize, n: usize) -> usize {
-    let mut i = from;
-    let mut left = n;
-    while i < text.len() {
-        if left == 0 {
-            return i;
+    ghost remaining = { λ s. at_most (length s.rest.text.now) };
+
+    fn next(&mut self) -> Option<Part<'a>> {
+        let n = blanks(self.rest.text);
+        self.rest.take(n);
+        if self.rest.text.is_empty() {
+            return None;
         }
-        if !is_blank(text[i]) {
-            left -= 1;
-        }
-        i += 1;
+        let n = word_length(self.rest.text);
+        Some(self.rest.take(n))
     }
-    i
 }
 
-// The place of the byte behind n others, blanks not counted.
-pub fn place_of(text: &[u8], from: usize, n: usize) -> usize {
-    next_word(text, behind(text, from, n))
+pub fn words_of(argument: &[u8]) -> Words<'_> {
+    Words {
+        rest: Rest {
+            from: 0,
+            text: argument,
+        },
+    }
+}
+
+// ---- places in an argument
+
+impl Part<'_> {
+    // The bytes that are no blanks, up to 512, in a buffer.
+    pub fn joined<'b>(self, buffer: &'b mut [u8; 512]) -> &'b [u8] {
+        let mut n = 0;
+        for c in self.text {
+            if !is_blank(*c) && n < 512 {
+                buffer[n] = *c;
+                n += 1;
+            }
+        }
+        &buffer[..n]
+    }
+
+    // The place of the byte behind n others of the part, blanks not counted.
+    fn place_of(self, n: usize) -> usize {
+        let place = self
+            .text
+            .iter()
+            .enumerate()
+            .filter(|(_, c)| !is_blank(**c))
+            .nth(n)
+            .map_or(self.text.len(), |(i, _)| i);
+        self.from.saturating_add(place)
+    }
+
+    // The place behind n bytes of the part, blanks not counted.
+    fn end_of(self, n: usize) -> usize {
+        match n.checked_sub(1) {
+            Some(last) => self.place_of(last).saturating_add(1),
+            None => self.from,
+        }
+    }
+
+    // A fault of the word that the part says, at its places in the argument.
+    pub fn placed(self, stop: Stop) -> Stop {
+        match stop {
+            Stop::Help => Stop::Help,
+            Stop::Misread(misread) => Stop::Misread(Misread {
+                fault: misread.fault,
+                from: self.place_of(misread.from),
+                end: self.end_of(misread.end),
+                at: self.place_of(misread.at),
+            }),
+        }
+    }
 }
 
 // ---- pieces of a word
 
-const BRACKETS: [u8; 4] = *b"()[]";
-
-// The place behind the bracket that closes the one at a place; the word's length where there is none.
-fn past_closing(word: &[u8], from: usize, bracket: u8) -> usize
-    requires { from < length word.now }
-    ensures { (from < result) × (result ≤ length word.now) }
+// How many bytes a text has up to the bracket that closes the one that it begins with.
+fn length_past(text: &[u8], bracket: u8) -> usize
+    requires { 0 < length text.now }
+    ensures some { 0 < result }
+    ensures within { result ≤ length text.now }
 {
-    let i = next_of(word, from, [bracket, bracket, bracket, bracket]);
-    if i < word.len() {
-        return i + 1;
-    }
-    i
+    let n = length_before(text, &[bracket]);
+    if n < text.len() { n + 1 } else { n }
 }
 
-// The place behind the piece that begins at a place: a call in brackets, a closing bracket that nothing opens, or tiles up to the next bracket.
-pub fn piece_end(word: &[u8], from: usize) -> usize
-    requires { from < length word.now }
-    ensures { (from < result) × (result ≤ length word.now) }
+// How many bytes the piece has that a text begins with: a call in brackets, a closing bracket that nothing opens, or tiles up to the next bracket.
+fn piece_length(text: &[u8]) -> usize
+    requires { 0 < length text.now }
+    ensures some { 0 < result }
+    ensures within { result ≤ length text.now }
 {
-    let first = word[from];
-    if first == b'(' {
-        return past_closing(word, from, b')');
+    match text[0] {
+        b'(' => length_past(text, b')'),
+        b'[' => length_past(text, b']'),
+        b')' | b']' => 1,
+        _ => length_before(text, b"()[]"),
     }
-    if first == b'[' {
-        return past_closing(word, from, b']');
-    }
-    if is_one_of(first, BRACKETS) {
-        return from + 1;
-    }
-    next_of(word, from, BRACKETS)
 }
 
-// Does a piece that begins with a bracket end with the one that closes it?
-pub fn is_closed(word: &[u8], from: usize, end: usize, round: bool) -> bool
-    requires { (from < end) × (end ≤ length word.now) }
-    ensures { result ≡ true → from + 2 ≤ end }
-{
-    if end - from < 2 {
-        return false;
-    }
-    if round {
-        return word[end - 1] == b')';
-    }
-    word[end - 1] == b']'
+// The pieces of a word, one after the other.
+#[derive(Drop)]
+pub struct Pieces<'a> {
+    rest: Rest<'a>,
 }
 
-// ---- pieces that are no tiles
+impl<'a> Iterator for Pieces<'a> {
+    type Item = Part<'a>;
 
-// Is there a number?
-fn has_number(piece: &[u8]) -> bool {
-    for i in 0..piece.len() {
-        if chars::is_number(piece[i]) {
-            return true;
+    ghost remaining = { λ s. at_most (length s.rest.text.now) };
+
+    fn next(&mut self) -> Option<Part<'a>> {
+        if self.rest.text.is_empty() {
+            return None;
         }
+        let n = piece_length(self.rest.text);
+        Some(self.rest.take(n))
     }
-    false
 }
 
-// What is wrong with a piece that has a fault as tiles. One that does not begin with a number is rather an unknown word where a character names nothing,
-// or where it has several letters and no number.
-pub fn fault_of(piece: &[u8], fault: u8) -> u8
-    requires { 0 < fault }
-    ensures { 0 < result }
-{
-    if piece.len() == 0 {
-        return fault;
+pub fn pieces_of(word: &[u8]) -> Pieces<'_> {
+    Pieces {
+        rest: Rest {
+            from: 0,
+            text: word,
+        },
     }
-    if chars::is_number(piece[0]) {
-        return fault;
-    }
-    if fault == faults::NO_LETTER {
-        return faults::UNKNOWN;
-    }
-    if (fault == faults::BARE_SUIT) & ((1 < piece.len()) & !has_number(piece)) {
-        return faults::UNKNOWN;
-    }
-    fault
 }

@@ -1,13 +1,22 @@
 // What the words say: the hand, its calls and the win.
-ghost use Rattle.std.specs.Prelude.{◌≡◌, true, false, ◌&&◌, cond, ◌+◌, ◌≤◌, ◌<◌, min, length};
+ghost use Rattle.std.specs.Prelude.{◌≡◌, true, false, ◌&&◌, cond, ◌<◌, length, IfOk, OnOk, unwrap_or};
 ghost use Rattle.context.specs.Context.{in_range};
 ghost use Rattle.call_words.specs.Calls.{with_call};
 ghost use Rattle.rules.specs.Rules.{game};
 ghost use Rattle.notation.specs.Said.{TilesAdded, WonOn, IndicatorsAdded, SourceSaid, GameSaid, win_of};
-ghost use Rattle.notation.specs.Table.{played_by, any_across, seated_at};
+ghost use Rattle.notation.specs.Table.{played_by, is_three, any_across, seated_at};
 
-use crate::{indicators, pieces, seats, sources};
-use tile_words::faults;
+use crate::faults::{Fault, Misread, Stop, Wrong, of_hand_tiles};
+use crate::pieces::{self, Part};
+use crate::{indicators, seats};
+use known_words::{Asked, Flag, Source, Wind, Word};
+
+// How and on which tile the hand was won.
+#[derive(Clone, Copy)]
+pub struct Won {
+    pub tsumo: bool,
+    pub tile: u8,
+}
 
 // What has been said so far.
 #[derive(Clone, Copy)]
@@ -18,21 +27,13 @@ pub struct Said {
     pub calls: checks::Calls,
     // of each call that is kept, whether it was said whom it came from
     pub sourced: [bool; 4],
-    pub won: bool,
-    pub tsumo: bool,
-    pub winning_tile: u8,
-    // winds, 0 for East, and whether they were said
-    pub round: u8,
-    pub round_said: bool,
-    pub seat: u8,
-    pub seat_said: bool,
-    // whether the room gives two fu for a pair that is both round and seat wind, else four, and whether that was said
-    pub double_wind_two: bool,
-    pub double_wind_said: bool,
-    // whether three play, else four, and whether that was said
-    pub three: bool,
-    pub game_said: bool,
-    // riichi, double riichi, ippatsu, rinshan, chankan, last tile, tenhou, chiihou
+    pub won: Option<Won>,
+    pub round: Option<Wind>,
+    pub seat: Option<Wind>,
+    // whether the room gives two fu for a pair that is both round and seat wind, or four
+    pub double_wind_two: Option<bool>,
+    pub game: Option<rules::Variant>,
+    // by the order of `Flag`
     pub flags: [bool; 8],
     // the word for the last tile was haitei, or houtei
     pub haitei: bool,
@@ -40,77 +41,32 @@ pub struct Said {
     // the indicators of dora, and those of ura
     pub dora: context::Indicators,
     pub ura: context::Indicators,
-    // how many tiles were said in the hand; whether how to use the program was asked for
+    // how many tiles were said in the hand
     pub tiles: usize,
-    pub help: bool,
-    // what the next word is for: 0 anything, 1 to 9 as the known words from chi to seat say, 10 riichi behind double, 11 and 12 tiles behind dora and ura
-    pub wanted: usize,
-    // the number of the last argument, and what is wrong with it, or 0
-    pub word: usize,
-    pub fault: u8,
-    // places in that argument: where the last piece looked at begins, the place behind it, and that of the character at fault. The last is
-    // where the piece begins, if the fault is about no single character
+    // what the next word is to say
+    pub wanted: Option<Asked>,
+    // the places in its argument where the last word begins and ends
     pub from: usize,
     pub end: usize,
-    pub at: usize,
 }
 
-// So many tiles and n more, 137 where there are more than 136.
-fn more_tiles(tiles: usize, n: usize) -> usize
-    ensures { result ≡ min (tiles + n) 137 }
-{
-    if 136 < n {
-        return 137;
-    }
-    if 136 - n < tiles {
-        return 137;
-    }
-    tiles + n
-}
-
-// The kind of the call behind chi, pon, kan, ankan or kakan, from 1 on.
-fn kind_of(wanted: usize) -> u8 {
-    match wanted {
-        1 => 1,
-        2 => 3,
-        3 => 5,
-        4 => 4,
-        _ => 6,
-    }
-}
-
-// What is wrong where there is no such call.
-fn no_call(wanted: usize) -> u8 {
-    match wanted {
-        1 => faults::NO_CHI,
-        2 => faults::NO_PON,
-        _ => faults::NO_KAN,
-    }
-}
-
-// The kind of a call in round or square brackets.
-fn bracket_kind(round: bool) -> u8 {
-    if round { 0 } else { 4 }
-}
-
-// What is wrong where there is no such call.
-fn no_bracket_call(round: bool) -> u8 {
-    if round {
-        faults::NO_OPEN_CALL
-    } else {
-        faults::NO_CLOSED_KAN
-    }
-}
-
-// What is wrong with the word for the last tile, or 0: haitei is drawn, houtei discarded.
-fn last_tile_fault(tsumo: bool, haitei: bool, houtei: bool) -> u8 {
+// What is wrong with the word for the last tile, if anything is: haitei is drawn, houtei discarded.
+fn last_tile_fault(tsumo: bool, haitei: bool, houtei: bool) -> Option<Fault> {
     if haitei & !tsumo {
-        return faults::HAITEI_RON;
+        return Some(Fault::HaiteiRon);
     }
     if houtei & tsumo {
-        return faults::HOUTEI_TSUMO;
+        return Some(Fault::HouteiTsumo);
     }
-    0
+    None
+}
+
+// The wind that a word names.
+fn wind_in(word: &[u8]) -> Result<Wind, Wrong> {
+    match known_words::wind_named(word) {
+        Some(wind) => Ok(wind),
+        None => Err(Wrong::from(Fault::NoWind)),
+    }
 }
 
 // The room's fu for a pair that is both round and seat wind: two, or four.
@@ -120,18 +76,8 @@ fn double_wind_fu(two: bool) -> u8
     if two { 2 } else { 4 }
 }
 
-// The game: with three players, or with four.
-fn game_of(three: bool) -> rules::Variant
-    ensures { result ≡ played_by three }
-{
-    if three {
-        return rules::Variant::Sanma;
-    }
-    rules::Variant::Yonma
-}
-
 impl Said {
-    // Before the first word: four players, round East, seat South, four fu for the pair of the double wind, no indicators.
+    // Before the first word.
     pub fn nothing() -> Said {
         let none = meld::Meld {
             tile: 0,
@@ -145,103 +91,42 @@ impl Said {
                 melds: [none, none, none, none],
             },
             sourced: [false; 4],
-            won: false,
-            tsumo: false,
-            winning_tile: 0,
-            round: 0,
-            round_said: false,
-            seat: 1,
-            seat_said: false,
-            double_wind_two: false,
-            double_wind_said: false,
-            three: false,
-            game_said: false,
+            won: None,
+            round: None,
+            seat: None,
+            double_wind_two: None,
+            game: None,
             flags: [false; 8],
             haitei: false,
             houtei: false,
             dora: indicators::none(),
             ura: indicators::none(),
             tiles: 0,
-            help: false,
-            wanted: 0,
-            word: 0,
-            fault: 0,
+            wanted: None,
             from: 0,
             end: 0,
-            at: 0,
         }
-    }
-
-    // ---- faults and their places
-
-    // The last piece has a fault.
-    pub fn faulty(mut self, fault: u8) -> Said
-        ensures { result.fault ≡ fault }
-    {
-        self.fault = fault;
-        self
-    }
-
-    // The last piece has a fault, at a character so many behind its first.
-    fn faulty_at(mut self, fault: u8, at: usize) -> Said
-        ensures { result.fault ≡ fault }
-    {
-        self.fault = fault;
-        self.at = at;
-        self
-    }
-
-    // A piece is looked at, by its places.
-    fn looking(mut self, from: usize, end: usize) -> Said {
-        self.from = from;
-        self.end = end;
-        self.at = 0;
-        self
-    }
-
-    // The places in a word that begins at `start` of an argument, and that of the character in its piece, become places in the argument.
-    fn placed(mut self, argument: &[u8], start: usize) -> Said {
-        let from = pieces::place_of(argument, start, self.from);
-        self.from = from;
-        self.end = pieces::behind(argument, start, self.end);
-        self.at = pieces::place_of(argument, from, self.at);
-        self
     }
 
     // ---- tiles, calls and the winning tile
 
-    // A piece that should be tiles of the hand and is not, with its fault as tiles.
-    fn no_tiles(self, piece: &[u8], fault: u8) -> Said
-        requires { 0 < fault }
-        ensures { 0 < result.fault }
-    {
-        let number = pieces::fault_of(piece, fault);
-        let mut at = 0;
-        if number != faults::UNKNOWN {
-            at = tile_words::fault_place(piece);
-        }
-        self.faulty_at(number, at)
-    }
-
     // Tiles of the hand.
-    fn with_tiles(self, word: &[u8]) -> Said
-        ensures { result.fault ≡ 0 → TilesAdded self word.now result }
+    fn with_tiles(self, word: &[u8]) -> Result<Said, Wrong>
+        ensures { IfOk result (λ said. TilesAdded self word.now said) }
     {
-        let fault = tile_words::check_tiles(word);
-        if fault != 0 {
-            return self.no_tiles(word, fault);
+        if let Err(bad) = tile_words::check_tiles(word) {
+            return Err(of_hand_tiles(word, bad));
         }
-        let n = tile_words::named_in(word);
-        let tiles = more_tiles(self.tiles, n);
+        let tiles = self.tiles.saturating_add(tile_words::named_in(word));
         if 136 < tiles {
-            return self.faulty(faults::TOO_MANY);
+            return Err(Wrong::from(Fault::TooMany));
         }
         let mut counts = self.counts;
         tile_words::add_tiles(&mut counts, word);
         let mut said = self;
         said.counts = counts;
         said.tiles = tiles;
-        said
+        Ok(said)
     }
 
     // A call that was found in a word.
@@ -249,383 +134,358 @@ impl Said {
         ensures { result.calls ≡ with_call self.calls m }
     {
         let calls = self.calls;
-        let more = call_words::with_call(calls, m);
         let mut said = self;
-        said.calls = more;
+        said.calls = call_words::with_call(calls, m);
         said
     }
 
     // Whom the last call came from, 1 to 3 seats onward from the player who called. It is said once of each call.
-    fn with_source(self, source: u8) -> Said
-        ensures { result.fault ≡ 0 → SourceSaid self source result }
+    fn with_source(self, source: u8) -> Result<Said, Wrong>
+        ensures { IfOk result (λ said. SourceSaid self source said) }
     {
         let calls = self.calls;
-        let sourced = self.sourced;
-        let count = calls.count;
-        if count == 0 {
-            return self.faulty(faults::NO_CALL_BEFORE);
+        let mut sourced = self.sourced;
+        if calls.count == 0 {
+            return Err(Wrong::from(Fault::NoCallBefore));
         }
-        if sources::is_said(sourced, count - 1) {
-            return self.faulty(faults::TWICE);
+        let last = calls.count - 1;
+        if sourced.get(last).copied().unwrap_or(false) {
+            return Err(Wrong::from(Fault::Twice));
         }
         if !call_words::can_come_from(calls, source) {
-            return self.faulty(faults::NO_SEAT);
+            return Err(Wrong::from(Fault::NoSeat));
         }
-        let from_there = call_words::with_source(calls, source);
-        let all_said = sources::with_said(sourced, count - 1);
+        call_words::put(&mut sourced, last, true);
         let mut said = self;
-        said.calls = from_there;
-        said.sourced = all_said;
-        said
+        said.calls = call_words::with_source(calls, source);
+        said.sourced = sourced;
+        Ok(said)
     }
 
-    // The tiles of a call of a kind, 0 for any open one; the fault is for tiles that make none.
-    fn called(self, word: &[u8], kind: u8, no_call: u8) -> Said {
-        let fault = tile_words::check_tiles(word);
-        if fault != 0 {
-            return self.faulty_at(fault, tile_words::fault_place(word));
-        }
-        let found = call_words::call_in(word, kind);
-        match found {
-            call_words::Found::Nothing => self.faulty(no_call),
-            call_words::Found::Call(m) => self.with_call(m),
+    // The tiles of a call of a kind, or of any open one; the fault is for tiles that make none.
+    fn called(self, word: &[u8], kind: Option<u8>, no_call: Fault) -> Result<Said, Wrong> {
+        tile_words::check_tiles(word)?;
+        match call_words::call_in(word, kind) {
+            Some(m) => Ok(self.with_call(m)),
+            None => Err(Wrong::from(no_call)),
         }
     }
 
     // The winning tile.
-    fn won_on(self, word: &[u8], tsumo: bool) -> Said
-        ensures { result.fault ≡ 0 → WonOn self word.now tsumo result }
+    fn won_on(self, word: &[u8], tsumo: bool) -> Result<Said, Wrong>
+        ensures { IfOk result (λ said. WonOn self word.now tsumo said) }
     {
-        let fault = tile_words::check_tiles(word);
-        if fault != 0 {
-            return self.faulty_at(fault, tile_words::fault_place(word));
-        }
+        tile_words::check_tiles(word)?;
         if tile_words::named_in(word) != 1 {
-            return self.faulty(faults::ONE_TILE);
+            return Err(Wrong::from(Fault::OneTile));
         }
+        let Some(tile) = tile_words::tile_at(word, 0) else {
+            return Err(Wrong::from(Fault::OneTile));
+        };
         let mut said = self;
-        said.won = true;
-        said.tsumo = tsumo;
-        said.winning_tile = tile_words::tile_at(word, 0);
-        said
+        said.won = Some(Won { tsumo, tile });
+        Ok(said)
     }
 
     // ---- the pieces of a word that is not known
 
-    // A call in brackets, round ones for an open call, square ones for a closed kan; `from` and `end` are its places in the word.
-    fn bracketed(self, word: &[u8], from: usize, end: usize, round: bool) -> Said
-        requires { (from < end) × (end ≤ length word.now) }
-    {
-        if !pieces::is_closed(word, from, end, round) {
-            return self.faulty(faults::UNCLOSED);
+    // A call in brackets, by the tiles between them: of a kind, or any open one.
+    fn bracketed(
+        self,
+        piece: Part,
+        tiles: &[u8],
+        kind: Option<u8>,
+        no_call: Fault,
+    ) -> Result<Said, Misread> {
+        if let Err(bad) = tile_words::check_tiles(tiles) {
+            return Err(Wrong::from(bad).in_piece(piece.from.saturating_add(1), tiles));
         }
-        let tiles = &word[from + 1..end - 1];
-        let fault = tile_words::check_tiles(tiles);
-        if fault != 0 {
-            return self
-                .looking(from + 1, end - 1)
-                .faulty_at(fault, tile_words::fault_place(tiles));
-        }
-        self.called(tiles, bracket_kind(round), no_bracket_call(round))
+        self.called(tiles, kind, no_call)
+            .map_err(|wrong| wrong.in_piece(piece.from, piece.text))
     }
 
-    // A piece of a word, from a place to an end.
-    fn with_piece(self, word: &[u8], from: usize, end: usize) -> Said
-        requires { (from < end) × (end ≤ length word.now) }
-    {
-        if self.fault != 0 {
-            return self;
+    // A piece of a word: a call in round brackets for an open call or in square ones for a closed kan, or tiles.
+    fn with_piece(self, piece: Part) -> Result<Said, Misread> {
+        match piece.text {
+            [b'(', tiles @ .., b')'] => self.bracketed(piece, tiles, None, Fault::NoOpenCall),
+            [b'[', tiles @ .., b']'] => self.bracketed(piece, tiles, Some(4), Fault::NoClosedKan),
+            [b'(' | b'[', ..] => {
+                Err(Wrong::from(Fault::Unclosed).in_piece(piece.from, piece.text))
+            }
+            [b')' | b']', ..] => Err(Wrong::from(Fault::Loose).in_piece(piece.from, piece.text)),
+            tiles => self
+                .with_tiles(tiles)
+                .map_err(|wrong| wrong.in_piece(piece.from, piece.text)),
         }
-        let first = word[from];
-        let said = self.looking(from, end);
-        if (first == b'(') | (first == b'[') {
-            return said.bracketed(word, from, end, first == b'(');
-        }
-        if (first == b')') | (first == b']') {
-            return said.faulty(faults::LOOSE);
-        }
-        said.with_tiles(&word[from..end])
     }
 
     // All pieces of a word.
-    fn with_pieces(self, word: &[u8]) -> Said {
+    fn with_pieces(self, word: &[u8]) -> Result<Said, Misread> {
         let mut said = self;
-        let mut from = 0;
-        while from < word.len() {
-            let end = pieces::piece_end(word, from);
-            said = said.with_piece(word, from, end);
-            from = end;
+        for piece in pieces::pieces_of(word) {
+            said = said.with_piece(piece)?;
         }
-        said
+        Ok(said)
     }
 
     // ---- winds, flags and other circumstances
 
-    // The wind of the seat or of the round, 0 for East.
-    fn with_wind(mut self, wind: u8, is_seat: bool) -> Said {
-        if is_seat {
-            self.seat = wind;
-            self.seat_said = true;
-        } else {
-            self.round = wind;
-            self.round_said = true;
-        }
+    // The wind of the round.
+    fn with_round(mut self, wind: Wind) -> Said {
+        self.round = Some(wind);
         self
     }
 
-    // The word for a wind.
-    fn with_wind_word(self, word: &[u8], is_seat: bool) -> Said {
-        let wind = known_words::wind(word);
-        if 4 <= wind {
-            return self.faulty(faults::NO_WIND);
-        }
-        self.with_wind(wind, is_seat)
+    // The wind of the seat.
+    fn with_seat(mut self, wind: Wind) -> Said {
+        self.seat = Some(wind);
+        self
     }
 
     // The dealer, who sits East.
-    fn as_dealer(self) -> Said {
-        if self.seat_said {
-            return self.faulty(faults::TWICE);
+    fn as_dealer(self) -> Result<Said, Wrong> {
+        if self.seat.is_some() {
+            return Err(Wrong::from(Fault::Twice));
         }
-        self.with_wind(0, true)
+        Ok(self.with_seat(Wind::East))
     }
 
     // The room's fu for the pair of the double wind: two, or four.
-    fn with_double_wind(mut self, two: bool) -> Said {
-        if self.double_wind_said {
-            return self.faulty(faults::TWICE);
+    fn with_double_wind(mut self, two: bool) -> Result<Said, Wrong> {
+        if self.double_wind_two.is_some() {
+            return Err(Wrong::from(Fault::Twice));
         }
-        self.double_wind_two = two;
-        self.double_wind_said = true;
-        self
+        self.double_wind_two = Some(two);
+        Ok(self)
     }
 
-    // The game: three players, or four. It is said once.
-    fn with_game(self, three: bool) -> Said
-        ensures { result.fault ≡ 0 → GameSaid self three result }
+    // The game. It is said once.
+    fn with_game(self, game: rules::Variant) -> Result<Said, Wrong>
+        ensures { IfOk result (λ said. GameSaid self game said) }
     {
-        if self.game_said {
-            return self.faulty(faults::TWICE);
+        if self.game.is_some() {
+            return Err(Wrong::from(Fault::Twice));
         }
         let mut said = self;
-        said.three = three;
-        said.game_said = true;
-        said
+        said.game = Some(game);
+        Ok(said)
     }
 
     // A flag. Double riichi is riichi too.
-    fn with_flag(mut self, i: usize) -> Said
-        requires { i < 8 }
-    {
-        self.flags[i] = true;
-        if i == 1 {
-            self.flags[0] = true;
+    fn with_flag(mut self, flag: Flag) -> Said {
+        self.flags[flag as usize] = true;
+        if flag == Flag::DoubleRiichi {
+            self.flags[Flag::Riichi as usize] = true;
         }
         self
     }
 
     // The last tile: haitei where it is drawn, houtei where it is discarded.
-    fn with_last_tile(mut self, drawn: bool) -> Said {
-        self.flags[5] = true;
+    fn with_last_tile(self, drawn: bool) -> Said {
+        let mut said = self.with_flag(Flag::LastTile);
         if drawn {
-            self.haitei = true;
+            said.haitei = true;
         } else {
-            self.houtei = true;
+            said.houtei = true;
         }
-        self
+        said
     }
 
     // The word behind double.
-    fn with_riichi(self, word: &[u8]) -> Said {
-        if known_words::known(word) != 9 {
-            return self.faulty(faults::NO_RIICHI);
+    fn with_riichi(self, word: &[u8]) -> Result<Said, Wrong> {
+        if known_words::known(word) != Some(Word::Flags(Flag::Riichi)) {
+            return Err(Wrong::from(Fault::NoRiichi));
         }
-        self.with_flag(1)
+        Ok(self.with_flag(Flag::DoubleRiichi))
     }
 
     // The tiles behind dora or ura: the indicators as they are shown.
-    fn with_indicators(self, word: &[u8], is_ura: bool) -> Said
-        ensures { result.fault ≡ 0 → IndicatorsAdded self word.now is_ura result }
+    fn with_indicators(self, word: &[u8], is_ura: bool) -> Result<Said, Wrong>
+        ensures { IfOk result (λ said. IndicatorsAdded self word.now is_ura said) }
     {
-        let fault = tile_words::check_tiles(word);
-        if fault != 0 {
-            return self.faulty_at(fault, tile_words::fault_place(word));
-        }
+        tile_words::check_tiles(word)?;
         let dora = self.dora;
         let ura = self.ura;
         let mut said = self;
         if is_ura {
             said.ura = indicators::with_word(ura, word);
-            return said;
+            return Ok(said);
         }
         said.dora = indicators::with_word(dora, word);
-        said
-    }
-
-    // How to use the program was asked for.
-    fn with_help(mut self) -> Said {
-        self.help = true;
-        self
+        Ok(said)
     }
 
     // ---- words
 
-    // The next word is for this.
-    fn wanting(mut self, wanted: usize) -> Said {
-        self.wanted = wanted;
-        self
+    // A word that asks for another behind it. Ron and tsumo, round and seat are said once.
+    fn asking(mut self, asked: Asked) -> Result<Said, Wrong> {
+        match asked {
+            Asked::Ron | Asked::Tsumo if self.won.is_some() => Err(Wrong::from(Fault::TwoWins)),
+            Asked::Round if self.round.is_some() => Err(Wrong::from(Fault::Twice)),
+            Asked::Seat if self.seat.is_some() => Err(Wrong::from(Fault::Twice)),
+            _ => {
+                self.wanted = Some(asked);
+                Ok(self)
+            }
+        }
     }
 
-    // A known word with another behind it. Ron and tsumo, round and seat are said once.
-    fn asking(self, i: usize) -> Said
-        requires { i < 9 }
-    {
-        if (5 <= i) & ((i < 7) & self.won) {
-            return self.faulty(faults::TWO_WINS);
-        }
-        if ((i == 7) & self.round_said) | ((i == 8) & self.seat_said) {
-            return self.faulty(faults::TWICE);
-        }
-        self.wanting(i + 1)
-    }
-
-    // A known word by its number.
-    fn with_known(self, i: usize) -> Said {
-        if i < 9 {
-            return self.asking(i);
-        }
-        if i < 17 {
-            return self.with_flag(i - 9);
-        }
-        match i {
-            17 => self.as_dealer(),
-            18 | 19 => self.with_last_tile(i == 18),
-            20..=22 => self.wanting(i - 10),
-            23 | 24 => self.with_double_wind(i == 23),
-            25 => self.with_help(),
-            27 => self.with_source(1),
-            28 => self.with_source(2),
-            29 => self.with_source(3),
-            30 | 31 => self.with_game(i == 30),
-            _ => self,
+    // A known word.
+    fn with_known(self, known: Word) -> Result<Said, Wrong> {
+        match known {
+            Word::Asks(asked) => self.asking(asked),
+            Word::Flags(flag) => Ok(self.with_flag(flag)),
+            Word::Dealer => self.as_dealer(),
+            Word::Haitei => Ok(self.with_last_tile(true)),
+            Word::Houtei => Ok(self.with_last_tile(false)),
+            Word::DoubleWindTwo => self.with_double_wind(true),
+            Word::DoubleWindFour => self.with_double_wind(false),
+            Word::CallFrom(source) => self.with_source(source as u8),
+            Word::ThreePlayers => self.with_game(rules::Variant::Sanma),
+            Word::FourPlayers => self.with_game(rules::Variant::Yonma),
+            Word::Help | Word::Nothing => Ok(self),
         }
     }
 
     // A word that may be anything.
-    fn with_any(self, word: &[u8]) -> Said {
-        let i = known_words::known(word);
-        if i < 32 {
-            return self.with_known(i);
+    fn with_any(self, word: &[u8]) -> Result<Said, Stop> {
+        match known_words::known(word) {
+            Some(Word::Help) => Err(Stop::Help),
+            Some(known) => self
+                .with_known(known)
+                .map_err(|wrong| Stop::from(wrong.in_piece(0, word))),
+            None => Ok(self.with_pieces(word)?),
         }
-        self.with_pieces(word)
     }
 
     // The word that the one before asked for.
-    fn with_wanted(self, word: &[u8], wanted: usize) -> Said {
-        if wanted < 6 {
-            return self.called(word, kind_of(wanted), no_call(wanted));
+    fn with_asked(self, word: &[u8], asked: Asked) -> Result<Said, Wrong> {
+        match asked {
+            Asked::Chi => self.called(word, Some(1), Fault::NoChi),
+            Asked::Pon => self.called(word, Some(3), Fault::NoPon),
+            Asked::Kan => self.called(word, Some(5), Fault::NoKan),
+            Asked::ClosedKan => self.called(word, Some(4), Fault::NoKan),
+            Asked::AddedKan => self.called(word, Some(6), Fault::NoKan),
+            Asked::Ron => self.won_on(word, false),
+            Asked::Tsumo => self.won_on(word, true),
+            Asked::Round => Ok(self.with_round(wind_in(word)?)),
+            Asked::Seat => Ok(self.with_seat(wind_in(word)?)),
+            Asked::Riichi => self.with_riichi(word),
+            Asked::Dora => self.with_indicators(word, false),
+            Asked::Ura => self.with_indicators(word, true),
         }
-        if wanted < 8 {
-            return self.won_on(word, wanted == 7);
-        }
-        if wanted < 10 {
-            return self.with_wind_word(word, wanted == 9);
-        }
-        if wanted == 10 {
-            return self.with_riichi(word);
-        }
-        self.with_indicators(word, wanted == 12)
     }
 
     // One word more, without blanks.
-    fn with_word(self, word: &[u8]) -> Said {
-        let wanted = self.wanted;
-        let said = self.looking(0, word.len());
-        if wanted == 0 {
-            return said.with_any(word);
-        }
-        said.wanting(0).with_wanted(word, wanted)
+    fn with_word(mut self, word: &[u8]) -> Result<Said, Stop> {
+        let Some(asked) = self.wanted else {
+            return self.with_any(word);
+        };
+        self.wanted = None;
+        self.with_asked(word, asked)
+            .map_err(|wrong| Stop::from(wrong.in_piece(0, word)))
     }
 
-    // The word of an argument from a place to an end.
-    fn take_word(self, argument: &[u8], from: usize, end: usize) -> Said
-        requires { (from < end) × (end ≤ length argument.now) }
-    {
-        if self.fault != 0 {
-            return self;
-        }
-        let mut word = [0u8; 512];
-        let n = pieces::joined(&argument[from..end], &mut word);
-        self.with_word(&word[..n]).placed(argument, from)
+    // A word of an argument.
+    fn take_word(mut self, word: Part) -> Result<Said, Stop> {
+        self.from = word.from;
+        self.end = word.from.saturating_add(word.text.len());
+        let mut buffer = [0u8; 512];
+        self.with_word(word.joined(&mut buffer))
+            .map_err(|stop| word.placed(stop))
     }
 
-    // An argument of more than 512 bytes is too long.
-    fn fitting(self, size: usize) -> Said {
-        if (pieces::LONGEST < size) & (self.fault == 0) {
-            return self.looking(0, size).faulty(faults::SIZE);
+    // One argument more, with any number of words.
+    pub fn take(self, argument: &[u8]) -> Result<Said, Stop> {
+        if pieces::LONGEST < argument.len() {
+            return Err(Stop::from(Wrong::from(Fault::TooLong).in_piece(0, argument)));
         }
-        self
-    }
-
-    // One argument more, with any number of words. After a fault nothing is looked at.
-    pub fn take(self, argument: &[u8]) -> Said {
-        let mut said = self.fitting(argument.len());
-        let mut from = pieces::next_word(argument, 0);
-        while from < argument.len() {
-            let end = pieces::word_end(argument, from);
-            said = said.take_word(argument, from, end);
-            from = pieces::next_word(argument, end);
+        let mut said = self;
+        for word in pieces::words_of(argument) {
+            said = said.take_word(word)?;
         }
-        said
+        Ok(said)
     }
 
     // After the last argument: nothing may be missing, nobody sits across where three play, and the word for the last tile fits the win.
-    pub fn finished(self) -> Said
-        ensures { result.fault ≡ 0 → (self.three && any_across self.calls) ≡ false }
+    pub fn finished(self) -> Result<Said, Stop>
+        ensures same { IfOk result (λ said. said ≡ self) }
+        ensures across { OnOk result ((is_three self.game && any_across self.calls) ≡ false) }
     {
-        if self.fault != 0 {
-            return self;
+        if self.wanted.is_some() {
+            return Err(Stop::Misread(Misread {
+                fault: Fault::Unfinished,
+                from: self.from,
+                end: self.end,
+                at: self.from,
+            }));
         }
-        if self.wanted != 0 {
-            return self.faulty(faults::UNFINISHED);
-        }
-        if !self.won {
-            return self.faulty(faults::NO_WIN);
-        }
+        let Some(won) = self.won else {
+            return Err(Stop::from(Misread::of_all(Fault::NoWin)));
+        };
         let calls = self.calls;
-        if self.three & seats::any_across(calls) {
-            return self.faulty(faults::NO_ACROSS);
+        if self.is_three() & seats::any_across(calls) {
+            return Err(Stop::from(Misread::of_all(Fault::NoAcross)));
         }
-        self.faulty(last_tile_fault(self.tsumo, self.haitei, self.houtei))
+        match last_tile_fault(won.tsumo, self.haitei, self.houtei) {
+            Some(fault) => Err(Stop::from(Misread::of_all(fault))),
+            None => Ok(self),
+        }
     }
 
-    // The game that is played.
+    // The game that is played: with four players, where none was said.
     pub fn game(self) -> rules::Variant
-        ensures { result ≡ played_by self.three }
+        ensures { result ≡ played_by self.game }
     {
-        game_of(self.three)
+        self.game.unwrap_or(rules::Variant::Yonma)
+    }
+
+    // Do three play?
+    fn is_three(self) -> bool
+        ensures { result ≡ is_three self.game }
+    {
+        matches!(self.game, Some(rules::Variant::Sanma))
     }
 
     // The calls at the table of the game.
     pub fn seated(self) -> checks::Calls
-        ensures { result ≡ seated_at (game (played_by self.three)) self.calls }
+        ensures { result ≡ seated_at (game (played_by self.game)) self.calls }
     {
         let calls = self.calls;
         seats::seated(calls, self.game())
     }
 
+    // The wind of the round: East, where none was said.
+    pub fn round_wind(self) -> Wind
+        ensures { result ≡ unwrap_or self.round Wind.East }
+    {
+        self.round.unwrap_or(Wind::East)
+    }
+
+    // The wind of the seat: South, where none was said.
+    pub fn seat_wind(self) -> Wind
+        ensures { result ≡ unwrap_or self.seat Wind.South }
+    {
+        self.seat.unwrap_or(Wind::South)
+    }
+
     // The win. Its type, its winds and the room's setting are always in range.
     pub fn win(self) -> context::GameContext
-        ensures { (result ≡ win_of self) × (in_range result ≡ true) }
+        ensures value { result ≡ win_of self }
+        ensures range { in_range result ≡ true }
     {
         let flags = self.flags;
         let dora = self.dora;
         let ura = self.ura;
+        let won = self.won.unwrap_or(Won {
+            tsumo: false,
+            tile: 0,
+        });
         context::GameContext {
-            win_type: lists::one_if(self.tsumo),
-            winning_tile: self.winning_tile,
-            round_wind: 27 + self.round % 4,
-            seat_wind: 27 + self.seat % 4,
+            win_type: u8::from(won.tsumo),
+            winning_tile: won.tile,
+            round_wind: 27 + self.round_wind() as u8,
+            seat_wind: 27 + self.seat_wind() as u8,
             is_riichi: flags[0],
             is_double_riichi: flags[1],
             is_ippatsu: flags[2],
@@ -634,7 +494,7 @@ impl Said {
             is_last_tile: flags[5],
             is_tenhou: flags[6],
             is_chiihou: flags[7],
-            double_wind_fu: double_wind_fu(self.double_wind_two),
+            double_wind_fu: double_wind_fu(self.double_wind_two.unwrap_or(false)),
             dora_indicators: dora,
             ura_dora_indicators: ura,
         }

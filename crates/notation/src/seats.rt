@@ -2,24 +2,14 @@
 // said behind the calls; then each call is turned to the table that is played at.
 ghost use Rattle.std.specs.Prelude.{◌≡◌, ◌-◌};
 ghost use Rattle.rules.specs.Rules.{game};
-ghost use Rattle.notation.specs.Table.{is_across, any_across, at_table, seated_at};
-
-// Is the call there, and from across?
-fn is_across(m: meld::Meld, there: bool) -> bool
-    ensures { result ≡ is_across there m }
-{
-    there & (m.source == 2)
-}
+ghost use Rattle.notation.specs.Table.{any_across, at_table, seated_at};
 
 // Does one of the calls that are kept come from across?
 pub fn any_across(k: checks::Calls) -> bool
     ensures { result ≡ any_across k }
 {
     let melds = k.melds;
-    let count = k.count;
-    is_across(melds[0], 0 < count)
-        | (is_across(melds[1], 1 < count)
-            | (is_across(melds[2], 2 < count) | is_across(melds[3], 3 < count)))
+    melds.iter().take(k.count).any(|m| m.source == 2)
 }
 
 // How many seats onward the player on the left sits: the last before one's own.
@@ -49,11 +39,6 @@ pub fn seated(k: checks::Calls, v: rules::Variant) -> checks::Calls
     let melds = k.melds;
     checks::Calls {
         count: k.count,
-        melds: [
-            at_table(melds[0], v),
-            at_table(melds[1], v),
-            at_table(melds[2], v),
-            at_table(melds[3], v),
-        ],
+        melds: melds.map(|m| at_table(m, v)),
     }
 }

@@ -33,159 +33,64 @@
 // The other bytes are zero.
 #![tactic(auto)]
 
-ghost use Rattle.std.specs.Prelude.{◌≡◌, ◌+◌, ◌≤◌, ◌<◌, length};
+ghost use Rattle.std.specs.Prelude.{◌<◌};
 
 use std::io;
-use std::io::Read;
 
-// ---- what a record holds
+type Tally = stored::Tally<()>;
+
+// A score, or the number of a refusal.
+type Answer = Result<stored::Scored, u32>;
+
+// ---- what the library answers
 
 // The calls of a record.
-fn called(rec: &[u8]) -> checks::Calls
-    requires { length rec.now ≡ 1024 }
-{
-    stored::calls_of(stored::wide(rec[162]), rec, 163)
+fn called(rec: &[u8; 1024]) -> checks::Calls {
+    stored::calls_of(usize::from(rec[162]), rec, 163)
 }
 
-// ---- is an answer that of a slot?
-
-// Is the score that of the slot at a place?
-fn same_score(s: &[u8], at: usize, x: reading_score::ScoringResult) -> bool
-    requires { at + 96 ≤ length s.now }
-{
-    stored::same_score(s, at, at + 53, at + 60, x)
-}
-
-// Is the answer the score of the slot, for the reading with this number?
-fn is_scored(s: &[u8], at: usize, reading: usize, a: choice::ScoreAnswer) -> bool
-    requires { at + 96 ≤ length s.now }
-{
-    let x = a.score;
-    (a.number == 0) & (a.reading == reading) & same_score(s, at, x)
-}
-
-// Is the answer a refusal with this number, and nothing else? An empty slot is what a refusal holds.
-fn is_refused(number: u8, a: choice::ScoreAnswer) -> bool {
-    let empty = [0u8; 96];
-    let x = a.score;
-    (number != 0) & (a.number == number) & (a.reading == 0) & same_score(&empty, 0, x)
-}
-
-// Are these the waits of the slot?
-fn is_named(s: &[u8], at: usize, a: win::WaitsAnswer) -> bool
-    requires { at + 96 ≤ length s.now }
-{
-    let waits = a.waits;
-    (a.number == 0) & stored::same_waits(s, at + 47, waits)
-}
-
-// Is the answer about waits a refusal with this number, and nothing else?
-fn is_unnamed(number: u8, a: win::WaitsAnswer) -> bool {
-    let empty = [0u8; 6];
-    let waits = a.waits;
-    (number != 0) & (a.number == number) & stored::same_waits(&empty, 0, waits)
-}
-
-// ---- a hand
-
-// The listing of the record's hand.
-fn list(rec: &[u8]) -> unit::Listing
-    requires { length rec.now ≡ 1024 }
-{
+// How many readings the record's hand has.
+fn listing_of(rec: &[u8; 1024]) -> Result<usize, u32> {
     let mut buf = [0u8; hand::ALWAYS_ENOUGH];
-    unit::list_readings(&rec[128..162], called(rec), &mut buf)
+    match unit::list_readings(&rec[128..162], called(rec), &mut buf) {
+        Ok(listed) => Ok(listed.readings),
+        Err(refusal) => Err(u32::from(refusal)),
+    }
 }
 
-// Does listing the readings answer what the record says?
-fn same_listing(rec: &[u8]) -> bool
-    requires { length rec.now ≡ 1024 }
-{
-    let listing = list(rec);
-    match listing {
-        unit::Listing::Refused(n) => (0 < n) & (n == rec[210]) & (rec[211] == 0),
-        unit::Listing::Listed(readings, _) => (rec[210] == 0)
-            & (readings == stored::wide(rec[211])),
+// A score.
+fn answer_of(a: choice::ScoreAnswer) -> Answer {
+    if a.number != 0 {
+        return Err(u32::from(a.number));
     }
+    Ok(stored::Scored {
+        reading: a.reading,
+        score: stored::Score::from(a.score),
+    })
 }
 
 // The score of the record's win.
-fn score_of(rec: &[u8]) -> choice::ScoreAnswer
-    requires { length rec.now ≡ 1024 }
-{
-    win::score_win(&rec[128..162], called(rec), stored::win_at(rec, 175))
+fn score_of(rec: &[u8; 1024]) -> Answer {
+    answer_of(win::score_win(&rec[128..162], called(rec), stored::win_at(rec, 175)))
 }
 
-// Does scoring the win answer what the record says?
-fn same_win(rec: &[u8]) -> bool
-    requires { length rec.now ≡ 1024 }
-{
-    let a = score_of(rec);
-    let number = rec[212];
-    let chosen = stored::wide(rec[213]);
-    if number != 0 {
-        return is_refused(number, a);
+// The score of a reading.
+fn reading_score(rec: &[u8; 1024], k: usize) -> Answer {
+    answer_of(win::score_reading(&rec[128..162], called(rec), stored::win_at(rec, 175), k))
+}
+
+// The waits of a reading.
+fn waits_of(rec: &[u8; 1024], k: usize) -> Result<[u8; 6], u32> {
+    let win = stored::win_at(rec, 175);
+    let a = win::name_waits(&rec[128..162], called(rec), win, k);
+    if a.number != 0 {
+        return Err(u32::from(a.number));
     }
-    if chosen >= 8 {
-        return false;
-    }
-    is_scored(rec, 256 + 96 * chosen, chosen, a)
+    Ok(a.waits)
 }
-
-// Are score and waits of reading number k what the record says?
-fn same_reading(rec: &[u8], k: usize) -> bool
-    requires { (length rec.now ≡ 1024) × (k < 8) }
-{
-    let calls = called(rec);
-    let w = stored::win_at(rec, 175);
-    let a = win::score_reading(&rec[128..162], calls, w, k);
-    let waits = win::name_waits(&rec[128..162], calls, w, k);
-    let at = 256 + 96 * k;
-    is_scored(rec, at, k, a) & is_named(rec, at, waits)
-}
-
-// Are the first n readings what the record says?
-fn same_readings(rec: &[u8], n: usize) -> bool
-    requires { (length rec.now ≡ 1024) × (n ≤ 8) }
-{
-    let mut k = 0;
-    while k < n {
-        if !same_reading(rec, k) {
-            return false;
-        }
-        k += 1;
-    }
-    true
-}
-
-// Is reading number n refused as the record says?
-fn same_next(rec: &[u8], n: usize) -> bool
-    requires { length rec.now ≡ 1024 }
-{
-    let calls = called(rec);
-    let w = stored::win_at(rec, 175);
-    let number = rec[215];
-    let a = win::score_reading(&rec[128..162], calls, w, n);
-    let waits = win::name_waits(&rec[128..162], calls, w, n);
-    is_refused(number, a) & is_unnamed(number, waits)
-}
-
-// Does every operation on the record's hand answer what it says?
-fn same_hand(rec: &[u8]) -> bool
-    requires { length rec.now ≡ 1024 }
-{
-    let n = stored::wide(rec[214]);
-    if n > 8 {
-        return false;
-    }
-    same_listing(rec) & same_win(rec) & same_readings(rec, n) & same_next(rec, n)
-}
-
-// ---- han, fu and basic points
 
 // The basic points of a record: given, or those of han and fu.
-fn basic_of(rec: &[u8]) -> u32
-    requires { length rec.now ≡ 1024 }
-{
+fn basic_of(rec: &[u8; 1024]) -> u32 {
     if rec[216] == 2 {
         return stored::u32_at(rec, 316);
     }
@@ -193,102 +98,80 @@ fn basic_of(rec: &[u8]) -> u32
 }
 
 // Who pays what for them.
-fn payment_of(rec: &[u8]) -> scoring::PaymentAnswer
-    requires { length rec.now ≡ 1024 }
-{
-    scoring::score_payment(basic_of(rec), rec[221] == 1, rec[220])
-}
-
-// Is the payment what the record says?
-fn same_paid(rec: &[u8]) -> bool
-    requires { length rec.now ≡ 1024 }
-{
-    let answer = payment_of(rec);
-    match answer {
-        scoring::PaymentAnswer::Refused(n) => (0 < n) & (n == rec[222]),
-        scoring::PaymentAnswer::Paid(p) => (rec[222] == 0) & stored::same_payment(rec, 320, p),
+fn payment_of(rec: &[u8; 1024]) -> Result<stored::Paid, u32> {
+    match scoring::score_payment(basic_of(rec), rec[221] == 1, rec[220]) {
+        Ok(payment) => Ok(stored::Paid::from(payment)),
+        Err(refusal) => Err(u32::from(refusal)),
     }
 }
 
-// Are level and basic points of han and fu, and the payment, what the record says?
-fn same_points(rec: &[u8]) -> bool
-    requires { length rec.now ≡ 1024 }
+// ---- is it what the record says?
+
+// Are score and waits of reading number k what the record says?
+fn same_reading(rec: &[u8; 1024], k: usize) -> bool
+    requires { k < 8 }
 {
+    (reading_score(rec, k) == Ok(stored::slot_at(rec, k)))
+        & (waits_of(rec, k) == Ok(*stored::part(stored::slot(rec, k), 47)))
+}
+
+// Is reading number n refused as the record says?
+fn same_next(rec: &[u8; 1024], n: usize) -> bool {
+    let number = u32::from(rec[215]);
+    (reading_score(rec, n) == Err(number)) & (waits_of(rec, n) == Err(number))
+}
+
+// Does every operation on the record's hand answer what it says?
+fn same_hand(rec: &[u8; 1024]) -> bool {
+    let listing = stored::answer(u32::from(rec[210]), usize::from(rec[211]));
+    let readings = usize::from(rec[214]);
+    if readings > 8 {
+        return false;
+    }
+    (listing == Some(listing_of(rec)))
+        & (stored::chosen_at(rec) == Some(score_of(rec)))
+        & (0..readings).all(|k| same_reading(rec, k))
+        & same_next(rec, readings)
+}
+
+// Are level and basic points of han and fu, and the payment, what the record says?
+fn same_points(rec: &[u8; 1024]) -> bool {
     let level = scoring::determine_score_level(rec[217], rec[218], rec[219] == 1);
-    let basic = basic_of(rec) == stored::u32_at(rec, 316);
-    let leveled = (rec[216] == 2) | stored::same_level(rec, 312, level);
-    basic & leveled & same_paid(rec)
+    let leveled = (rec[216] == 2) | (stored::Level::from(level) == stored::level_at(rec, 312));
+    let paid = match rec[222] {
+        0 => Ok(stored::paid_at(rec, 320)),
+        number => Err(u32::from(number)),
+    };
+    (basic_of(rec) == stored::u32_at(rec, 316)) & leveled & (payment_of(rec) == paid)
 }
 
 // ---- a line for each record
 
-// Writes the text of a record.
-fn print_text(rt: &impl Print, rec: &[u8]) -> io::Result<()>
-    requires { length rec.now ≡ 1024 }
-{
-    let size = stored::wide(rec[0]);
-    if size < 128 {
-        stored::print(rt, &rec[1..1 + size])?;
-    }
-    Ok(())
-}
-
-// Writes a refusal.
-fn print_refusal(rt: &impl Print, number: u8) -> io::Result<()> {
-    stored::print(rt, b"refused with ")?;
-    stored::print_number(rt, number as u64)
-}
-
-// Writes how many readings there are and which one is chosen, where there are several.
-fn print_choice(rt: &impl Print, listing: unit::Listing, chosen: usize) -> io::Result<()> {
-    let unit::Listing::Listed(readings, _) = listing else {
-        return Ok(());
+// Writes the answer to the record's win; where there are several readings, also how many and which one is chosen.
+fn print_win(rt: &impl Print, rec: &[u8; 1024]) -> io::Result<()> {
+    let scored = match score_of(rec) {
+        Ok(scored) => scored,
+        Err(number) => return print!(rt; "refused with {number}"),
     };
-    if readings > 1 {
-        stored::print_count(rt, readings as u64, b" readings, number ")?;
-        stored::print_count(rt, chosen as u64, b": ")?;
+    if let Ok(readings) = listing_of(rec)
+        && readings > 1
+    {
+        print!(rt; "{readings} readings, number {}: ", scored.reading)?;
     }
-    Ok(())
-}
-
-// Writes a score.
-fn print_score(rt: &impl Print, x: reading_score::ScoringResult) -> io::Result<()> {
-    let payment = x.payment;
-    stored::print_count(rt, x.han as u64, b" han ")?;
-    stored::print_count(rt, x.fu as u64, b" fu, ")?;
-    stored::print_number(rt, payment.total(rules::Variant::Yonma))
-}
-
-// Writes the answer to the record's win.
-fn print_win(rt: &impl Print, rec: &[u8]) -> io::Result<()>
-    requires { length rec.now ≡ 1024 }
-{
-    let a = score_of(rec);
-    if a.number != 0 {
-        return print_refusal(rt, a.number);
-    }
-    let x = a.score;
-    print_choice(rt, list(rec), a.reading)?;
-    print_score(rt, x)
+    let score = scored.score;
+    print!(rt; "{} han {} fu, {}", score.han, score.fu, score.paid.total)
 }
 
 // Writes the answer to the record's payment.
-fn print_payment(rt: &impl Print, rec: &[u8]) -> io::Result<()>
-    requires { length rec.now ≡ 1024 }
-{
-    let a = payment_of(rec);
-    match a {
-        scoring::PaymentAnswer::Refused(n) => print_refusal(rt, n),
-        scoring::PaymentAnswer::Paid(p) => stored::print_number(rt, p.total(rules::Variant::Yonma)),
+fn print_payment(rt: &impl Print, rec: &[u8; 1024]) -> io::Result<()> {
+    match payment_of(rec) {
+        Ok(paid) => print!(rt; "{}", paid.total),
+        Err(number) => print!(rt; "refused with {number}"),
     }
 }
 
 // Writes the answer to a record, and says whether each operation answers what it says.
-fn answer(rt: &impl Print, rec: &[u8]) -> io::Result<bool>
-    requires { length rec.now ≡ 1024 }
-{
-    print_text(rt, rec)?;
-    stored::print(rt, b": ")?;
+fn answer(rt: &impl Print, rec: &[u8; 1024]) -> io::Result<bool> {
     if rec[216] == 0 {
         print_win(rt, rec)?;
         return Ok(same_hand(rec));
@@ -297,46 +180,17 @@ fn answer(rt: &impl Print, rec: &[u8]) -> io::Result<bool>
     Ok(same_points(rec))
 }
 
-// The tally after a record, whose line is written.
-fn play(rt: &impl Print, rec: &[u8], t: stored::Tally) -> io::Result<stored::Tally>
-    requires { length rec.now ≡ 1024 }
-{
+// Plays a record, and writes its line: its text, and the answer.
+fn play(rt: &impl Print, rec: &[u8; 1024], tally: &mut Tally) -> io::Result<()> {
+    let size = usize::from(rec[0]);
+    if size < 128 {
+        rt.write_all(&rec[1..1 + size])?;
+    }
+    print!(rt; ": ")?;
     let agrees = answer(rt, rec)?;
-    if !agrees {
-        stored::print(rt, b" DIFFERS")?;
-    }
-    stored::print(rt, b"\n")?;
-    Ok(t.record(agrees))
-}
-
-// ---- the file
-
-// The turn after the next record of the file.
-fn step<F: Read>(rt: &impl Print, file: &mut F, t: stored::Tally) -> io::Result<stored::Turn> {
-    let mut rec = [0u8; 1024];
-    let n = stored::read_full(file, &mut rec)?;
-    if n < 1024 {
-        return Ok(stored::Turn::last(t, n));
-    }
-    Ok(stored::Turn::next(play(rt, &rec[..n], t)?))
-}
-
-// The tally of the file. Nothing says that a file ends, so the turns are counted down, from a number that no run uses up.
-fn run<F: Read>(rt: &impl Print, file: &mut F) -> io::Result<stored::Tally> {
-    let mut turn = stored::Turn::first();
-    let mut left: u64 = 1000000;
-    while turn.more && left > 0 {
-        let t = turn.tally;
-        turn = step(rt, file, t)?;
-        left -= 1;
-    }
-    Ok(turn.tally)
-}
-
-// Writes the tally.
-fn print(rt: &impl Print, t: stored::Tally) -> io::Result<()> {
-    stored::print_count(rt, t.records, b" played\n")?;
-    stored::print_count(rt, t.differ, b" differ\n")
+    println!(rt; "{}", if agrees { "" } else { " DIFFERS" })?;
+    tally.record(agrees);
+    Ok(())
 }
 
 // Opens the file, plays it and writes the tally.
@@ -344,6 +198,6 @@ fn main(rt: HostRuntime) -> io::Result<()> {
     let Some(mut file) = stored::open(&rt, "hands") else {
         return Ok(());
     };
-    let t = run(&rt, &mut file)?;
-    print(&rt, t)
+    let tally = stored::run(&mut file, |rec, tally| play(&rt, rec, tally))?;
+    println!(rt; "{} played\n{} differ", tally.records, tally.differ)
 }

@@ -1,26 +1,7 @@
 // What is lent to the operations, whether their answers are the stored ones, and what is counted.
-ghost use Rattle.std.specs.Prelude.{◌≡◌, ◌+◌, ◌≤◌, ◌<◌, length};
+ghost use Rattle.std.specs.Prelude.{◌+◌, ◌≤◌, length};
 
-use std::io;
-
-// The operations, by number. So many more is the number of their answers that differ.
-pub const LIST: usize = 0;
-
-pub const WIN: usize = 1;
-
-pub const READING: usize = 2;
-
-pub const WAITS: usize = 3;
-
-const LEVEL: usize = 4;
-
-const BASIC: usize = 5;
-
-const PAYMENT: usize = 6;
-
-const VERSION: usize = 7;
-
-const DIFFER: usize = 8;
+use std::{fmt, io};
 
 // The version of the interface that is asked here.
 const WRITTEN_FOR: u32 = 8;
@@ -34,42 +15,28 @@ pub const FILLED: u8 = 165;
 pub fn lent(count: usize) -> usize
     ensures { result ≤ 5 }
 {
-    if count > 5 {
-        return 5;
-    }
-    count
+    count.min(5)
 }
 
 // The four melds in twelve bytes, the last of them twice.
 pub fn five_at(s: &[u8], at: usize) -> [meld::Meld; 5]
     requires { at + 12 ≤ length s.now }
 {
-    [
-        stored::meld_at(s, at),
-        stored::meld_at(s, at + 3),
-        stored::meld_at(s, at + 6),
-        stored::meld_at(s, at + 9),
-        stored::meld_at(s, at + 9),
-    ]
+    let [a, b, c, d] = stored::melds_at(s, at);
+    [a, b, c, d, d]
 }
 
 // ---- is an answer the stored one?
 
-// A byte as an answer's number.
-pub fn number(x: u8) -> u32 {
-    x as u32
-}
-
-// The settlement beside an answer's number: none beside a refusal, else by win type and seat 1 ron, 2 tsumo of the dealer, 3 tsumo of
-// another.
+// The interface's number of the settlement beside an answer's number: none beside a refusal, else by win type and seat 1 ron, 2 tsumo of
+// the dealer, 3 tsumo of another.
 pub fn settlement(number: u8, dealer: bool, win_type: u8) -> u32 {
-    if number != 0 {
-        return 0;
+    match (number, win_type, dealer) {
+        (0, 0, _) => 1,
+        (0, _, true) => 2,
+        (0, _, false) => 3,
+        _ => 0,
     }
-    if win_type == 0 {
-        return 1;
-    }
-    if dealer { 2 } else { 3 }
 }
 
 // The same of a win.
@@ -77,70 +44,82 @@ pub fn settlement_of(number: u8, w: context::GameContext) -> u32 {
     settlement(number, w.seat_wind == 27, w.win_type)
 }
 
-// Are these the level and how many times a yakuman counts?
-fn same_level(s: &[u8], at: usize, level: u8, count: u8) -> bool
-    requires { at + 2 ≤ length s.now }
-{
-    (level == s[at]) & (count == s[at + 1])
+// The answer about a win or a reading, in the plain numbers of the C interface. A refusal has its number alone.
+#[derive(Clone, Copy, PartialEq, Eq, Default)]
+pub struct Values {
+    pub number: u32,
+    pub settlement: u32,
+    pub scored: stored::Scored,
 }
 
-// Are these the amounts, of each non-dealer, of the dealer, of the discarder, and the total?
-fn same_amounts(
-    s: &[u8],
-    at: usize,
-    non_dealer: u32,
-    dealer: u32,
-    discarder: u32,
-    total: u64,
-) -> bool
-    requires { at + 16 ≤ length s.now }
-{
-    (non_dealer == stored::u32_at(s, at))
-        & (dealer == stored::u32_at(s, at + 4))
-        & (discarder == stored::u32_at(s, at + 8))
-        & (total == stored::u32_at(s, at + 12) as u64)
+impl Values {
+    // The refusal with this number.
+    pub fn refused(number: u32) -> Values {
+        Values {
+            number,
+            settlement: 0,
+            scored: stored::Scored::default(),
+        }
+    }
 }
 
-// Are these the values of a score, with this settlement? `at` is the place of the tallies, `numbers` that of han, fu, yakuman, level and
-// dora, and `points` that of basic points and payment.
-pub fn same_values(
-    s: &[u8],
-    at: usize,
-    numbers: usize,
-    points: usize,
-    settlement: u32,
-    v: answers::ScoreValues,
-) -> bool
-    requires { (at + 47 ≤ length s.now) × ((numbers + 7 ≤ length s.now) × (points + 20 ≤ length s.now)) }
-{
-    let tallies = v.tallies;
-    (v.settlement == settlement)
-        & stored::same_tallies(s, at, tallies)
-        & stored::same_numbers(s, numbers, v.han, v.fu, v.is_yakuman)
-        & same_level(s, numbers + 3, v.level, v.yakuman_count)
-        & stored::same_dora(s, numbers + 5, v.regular_dora, v.ura_dora)
-        & (v.basic_points == stored::u32_at(s, points))
-        & same_amounts(
-            s,
-            points + 4,
-            v.from_non_dealer,
-            v.from_dealer,
-            v.from_discarder,
-            v.total,
-        )
+impl From<answers::ScoreValues> for Values {
+    fn from(v: answers::ScoreValues) -> Values {
+        let tallies = v.tallies;
+        let score = stored::Score {
+            tallies,
+            han: v.han,
+            fu: v.fu,
+            is_yakuman: v.is_yakuman,
+            level: stored::Level {
+                place: v.level,
+                times: v.yakuman_count,
+            },
+            regular_dora: v.regular_dora,
+            ura_dora: v.ura_dora,
+            basic_points: v.basic_points,
+            paid: stored::Paid {
+                from_non_dealer: v.from_non_dealer,
+                from_dealer: v.from_dealer,
+                from_discarder: v.from_discarder,
+                total: v.total,
+            },
+        };
+        Values {
+            number: v.number,
+            settlement: v.settlement,
+            scored: stored::Scored {
+                reading: v.reading,
+                score,
+            },
+        }
+    }
+}
+
+// The payment of an answer.
+fn paid_of(p: answers::PaymentValues) -> stored::Paid {
+    stored::Paid {
+        from_non_dealer: p.from_non_dealer,
+        from_dealer: p.from_dealer,
+        from_discarder: p.from_discarder,
+        total: p.total,
+    }
 }
 
 // Are these the waits, beside this number?
-pub fn same_waits(s: &[u8], at: usize, number: u8, v: answers::WaitsValues) -> bool
-    requires { at + 6 ≤ length s.now }
-{
-    let waits = v.waits;
-    (v.number == number as u32) & stored::same_waits(s, at, waits)
+pub fn same_waits(waits: [u8; 6], number: u8, v: answers::WaitsValues) -> bool {
+    (v.number == u32::from(number)) & (v.waits == waits)
 }
 
-// Is this the length of a record: seven pairs, thirteen orphans, or melds and a pair?
-fn is_length(size: usize) -> bool {
-    (size == 11) | (size == 5) | (size == hand::STANDARD_BYTES)
+// The length of the first record of a listing, in its first two bytes: that of seven pairs, of thirteen orphans, or of melds and a pair.
+fn record_length(listing: &[u8]) -> Option<usize> {
+    let [low, high, ..] = listing else {
+        return None;
+    };
+    let length = usize::from(u16::from_le_bytes([*low, *high]));
+    [11, 5, hand::STANDARD_BYTES]
+        .contains(&length)
+        .then_some(length)
 }
 
 // Does the buffer hold the records of so many readings in so many bytes, one after the other, each with its length first, and is the byte
@@ -149,145 +128,145 @@ pub fn same_records(buf: &[u8; hand::ALWAYS_ENOUGH + 1], readings: usize, bytes:
     if bytes > hand::ALWAYS_ENOUGH {
         return false;
     }
-    let mut at = 0;
-    let mut n = 0;
-    while n < readings {
-        if at + 2 > bytes {
+    let mut rest = &buf[..bytes];
+    for _ in 0..readings {
+        let Some(length) = record_length(rest) else {
             return false;
-        }
-        let size = stored::u16_at(buf, at);
-        if !is_length(size) {
+        };
+        let Some(next) = rest.get(length..) else {
             return false;
-        }
-        at += size;
-        n += 1;
+        };
+        rest = next;
     }
-    (at == bytes) & (buf[bytes] == FILLED)
+    rest.is_empty() & (buf[bytes] == FILLED)
 }
 
 // ---- what is counted
 
-// Writes the name of an operation.
-fn print_operation(rt: &impl Print, operation: usize) -> io::Result<()> {
-    match operation {
-        LIST => stored::print(rt, b"ziwhakemo_list_readings"),
-        WIN => stored::print(rt, b"ziwhakemo_score_win"),
-        READING => stored::print(rt, b"ziwhakemo_score_reading"),
-        WAITS => stored::print(rt, b"ziwhakemo_name_waits"),
-        LEVEL => stored::print(rt, b"ziwhakemo_score_level"),
-        BASIC => stored::print(rt, b"ziwhakemo_basic_points"),
-        PAYMENT => stored::print(rt, b"ziwhakemo_payment"),
-        _ => stored::print(rt, b"ziwhakemo_version"),
+// The operations.
+#[derive(Clone, Copy)]
+pub enum Operation {
+    List,
+    Win,
+    Reading,
+    Waits,
+    Level,
+    Basic,
+    Payment,
+    Version,
+}
+
+impl Operation {
+    const ALL: [Operation; 8] = [
+        Operation::List,
+        Operation::Win,
+        Operation::Reading,
+        Operation::Waits,
+        Operation::Level,
+        Operation::Basic,
+        Operation::Payment,
+        Operation::Version,
+    ];
+}
+
+impl fmt::Display for Operation {
+    fn fmt<W: fmt::Write>(&self, f: &mut fmt::Formatter<W>) -> fmt::Result {
+        f.write_str(match self {
+            Operation::List => "ziwhakemo_list_readings",
+            Operation::Win => "ziwhakemo_score_win",
+            Operation::Reading => "ziwhakemo_score_reading",
+            Operation::Waits => "ziwhakemo_name_waits",
+            Operation::Level => "ziwhakemo_score_level",
+            Operation::Basic => "ziwhakemo_basic_points",
+            Operation::Payment => "ziwhakemo_payment",
+            Operation::Version => "ziwhakemo_version",
+        })
     }
 }
 
-// The tally after an operation answered what is stored, or something else: then the row is named.
-pub fn count(
-    rt: &impl Print,
-    t: stored::Tally,
-    operation: usize,
-    agrees: bool,
-    row: &[u8],
-) -> io::Result<stored::Tally>
-    requires { operation < 8 }
-{
-    let asked = t.kind(operation);
-    if agrees {
-        return Ok(asked);
-    }
-    print_operation(rt, operation)?;
-    stored::print(rt, b" differs: ")?;
-    stored::print(rt, row)?;
-    stored::print(rt, b", record ")?;
-    stored::print_count(rt, asked.records, b"\n")?;
-    Ok(asked.kind(operation + DIFFER).answer(false))
+// How often an operation was asked, and how many of its answers differ.
+#[derive(Clone, Copy, Default)]
+pub struct Asked {
+    times: u64,
+    differ: u64,
 }
 
-// The tally after it is asked who pays what for the stored basic points.
-pub fn ask_payment(
-    rt: &impl Print,
-    s: &[u8],
-    points: usize,
-    number: u8,
-    dealer: bool,
-    win_type: u8,
-    row: &[u8],
-    t: stored::Tally,
-) -> io::Result<stored::Tally>
-    requires { points + 20 ≤ length s.now }
-{
-    let p = ziwhakemo::ziwhakemo_payment(stored::u32_at(s, points), dealer, win_type);
-    let agrees = (p.number == number as u32)
-        & (p.settlement == settlement(number, dealer, win_type))
-        & same_amounts(
-            s,
-            points + 4,
-            p.from_non_dealer,
-            p.from_dealer,
-            p.from_discarder,
-            p.total,
-        );
-    count(rt, t, PAYMENT, agrees, row)
-}
-
-// The tally after level and basic points of han, fu and yakuman are asked. `numbers` is their place, `levels` that of the level, and
-// `points` that of basic points.
-pub fn ask_level(
-    rt: &impl Print,
-    s: &[u8],
-    numbers: usize,
-    levels: usize,
-    points: usize,
-    row: &[u8],
-    t: stored::Tally,
-) -> io::Result<stored::Tally>
-    requires { (numbers + 3 ≤ length s.now) × ((levels + 2 ≤ length s.now) × (points + 4 ≤ length s.now)) }
-{
-    let yakuman = s[numbers + 2] == 1;
-    let level = ziwhakemo::ziwhakemo_score_level(s[numbers], s[numbers + 1], yakuman);
-    let basic = ziwhakemo::ziwhakemo_basic_points(s[numbers], s[numbers + 1], yakuman);
-    let leveled = count(
-        rt,
-        t,
-        LEVEL,
-        same_level(s, levels, level.level, level.count),
-        row,
-    )?;
-    count(rt, leveled, BASIC, basic == stored::u32_at(s, points), row)
-}
-
-// The tally after the version is asked.
-pub fn ask_version(rt: &impl Print, t: stored::Tally) -> io::Result<stored::Tally> {
-    count(
-        rt,
-        t,
-        VERSION,
-        ziwhakemo::ziwhakemo_version() == WRITTEN_FOR,
-        b"the version",
-    )
-}
-
-// Writes how often an operation was asked and how often its answer differs.
-fn print_kind(rt: &impl Print, kinds: [u64; 16], operation: usize) -> io::Result<()>
-    requires { operation < 8 }
-{
-    print_operation(rt, operation)?;
-    stored::print(rt, b": ")?;
-    stored::print_count(rt, kinds[operation], b" asked, ")?;
-    stored::print_count(rt, kinds[operation + DIFFER], b" differ\n")
-}
+// What is counted of each operation.
+pub type Tally = stored::Tally<[Asked; 8]>;
 
 // Writes the tally.
-pub fn print(rt: &impl Print, t: stored::Tally, what: &[u8]) -> io::Result<()> {
-    let kinds = t.kinds;
-    stored::print_count(rt, t.records, what)?;
-    print_kind(rt, kinds, LIST)?;
-    print_kind(rt, kinds, WIN)?;
-    print_kind(rt, kinds, READING)?;
-    print_kind(rt, kinds, WAITS)?;
-    print_kind(rt, kinds, LEVEL)?;
-    print_kind(rt, kinds, BASIC)?;
-    print_kind(rt, kinds, PAYMENT)?;
-    print_kind(rt, kinds, VERSION)?;
-    stored::print_count(rt, t.differ, b" answers differ\n")
+pub fn print(rt: &impl Print, tally: &Tally, what: &str) -> io::Result<()> {
+    println!(rt; "{} {what}", tally.records)?;
+    for (operation, asked) in Operation::ALL.iter().zip(&tally.kinds) {
+        println!(rt;
+            "{operation}: {} asked, {} differ",
+            asked.times, asked.differ
+        )?;
+    }
+    println!(rt; "{} answers differ", tally.differ)
+}
+
+// A row that is played: its name, where a difference is written, and the tally.
+#[derive(Drop)]
+pub struct Row<'a, R> {
+    pub rt: &'a R,
+    pub name: &'a [u8],
+    pub tally: &'a mut Tally,
+}
+
+impl<R: Print> Row<'_, R> {
+    // Counts the answer of an operation. Where it differs, the row is named.
+    pub fn count(&mut self, operation: Operation, agrees: bool) -> io::Result<()> {
+        let asked = &mut self.tally.kinds[operation as usize];
+        stored::count(&mut asked.times, true);
+        stored::count(&mut asked.differ, !agrees);
+        self.tally.answer(agrees);
+        if agrees {
+            return Ok(());
+        }
+        print!(self.rt; "{operation} differs: ")?;
+        self.rt.write_all(self.name)?;
+        println!(self.rt; ", record {}", self.tally.records)
+    }
+
+    // Asks who pays what for the stored basic points.
+    pub fn ask_payment(
+        &mut self,
+        points: &[u8; 20],
+        number: u8,
+        dealer: bool,
+        win_type: u8,
+    ) -> io::Result<()> {
+        let p = ziwhakemo::ziwhakemo_payment(stored::u32_at(points, 0), dealer, win_type);
+        let agrees = (p.number == u32::from(number))
+            & (p.settlement == settlement(number, dealer, win_type))
+            & (paid_of(p) == stored::paid_at(points, 4));
+        self.count(Operation::Payment, agrees)
+    }
+
+    // Asks the level and the basic points of a han, a fu and a yakuman.
+    pub fn ask_level(
+        &mut self,
+        numbers: &[u8; 3],
+        level: stored::Level,
+        basic: u32,
+    ) -> io::Result<()> {
+        let [han, fu, yakuman] = *numbers;
+        let a = ziwhakemo::ziwhakemo_score_level(han, fu, yakuman == 1);
+        let answer = stored::Level {
+            place: a.level,
+            times: a.count,
+        };
+        self.count(Operation::Level, answer == level)?;
+        let points = ziwhakemo::ziwhakemo_basic_points(han, fu, yakuman == 1);
+        self.count(Operation::Basic, points == basic)
+    }
+
+    // Asks the version.
+    pub fn ask_version(&mut self) -> io::Result<()> {
+        self.count(
+            Operation::Version,
+            ziwhakemo::ziwhakemo_version() == WRITTEN_FOR,
+        )
+    }
 }

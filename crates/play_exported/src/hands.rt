@@ -1,208 +1,121 @@
 // The hands of `play`, whose main says what the bytes of a record are.
-ghost use Rattle.std.specs.Prelude.{◌≡◌, ◌+◌, ◌≤◌, ◌<◌, length};
+ghost use Rattle.std.specs.Prelude.{◌<◌};
 
 use crate::asked;
+use crate::asked::{FILLED, Operation, Row, Tally, Values};
 use std::io;
 
-// The tally after the readings of a record's hand are listed, into room for every listing and one byte more.
-fn list_hand(rt: &impl Print, rec: &[u8], row: &[u8], t: stored::Tally) -> io::Result<stored::Tally>
-    requires { length rec.now ≡ 1024 }
-{
-    let mut buf = [asked::FILLED; hand::ALWAYS_ENOUGH + 1];
-    let calls = asked::lent(stored::wide(rec[162]));
+// Lists the readings of a record's hand, into room for every listing and one byte more.
+fn list_hand<R: Print>(row: &mut Row<'_, R>, rec: &[u8; 1024]) -> io::Result<()> {
+    let mut buf = [FILLED; hand::ALWAYS_ENOUGH + 1];
+    let calls = asked::lent(usize::from(rec[162]));
     let a = lending::list(&rec[128..162], asked::five_at(rec, 163), calls, &mut buf);
-    let agrees = (a.number == asked::number(rec[210]))
-        & (a.readings == stored::wide(rec[211]))
+    let agrees = (a.number == u32::from(rec[210]))
+        & (a.readings == usize::from(rec[211]))
         & asked::same_records(&buf, a.readings, a.bytes);
-    asked::count(rt, t, asked::LIST, agrees, row)
+    row.count(Operation::List, agrees)
 }
 
 // What the three operations on a win answer to a record's win and the reading with this number.
-fn ask_hand(rec: &[u8], k: usize) -> lending::Asked
-    requires { length rec.now ≡ 1024 }
-{
-    let calls = asked::lent(stored::wide(rec[162]));
+fn ask_hand(rec: &[u8; 1024], k: usize) -> lending::Asked {
+    let calls = asked::lent(usize::from(rec[162]));
     let win = stored::win_at(rec, 175);
     lending::ask(&rec[128..162], asked::five_at(rec, 163), calls, win, k)
 }
 
-// Are these values the score in the slot, for the reading with this number?
-fn is_scored(rec: &[u8], at: usize, k: usize, v: answers::ScoreValues) -> bool
-    requires { (length rec.now ≡ 1024) × (at + 96 ≤ 1024) }
-{
+// Are these values this score?
+fn is_scored(rec: &[u8; 1024], scored: stored::Scored, v: answers::ScoreValues) -> bool {
     let settlement = asked::settlement_of(0, stored::win_at(rec, 175));
-    (v.number == 0)
-        & (v.reading == k)
-        & asked::same_values(rec, at, at + 53, at + 60, settlement, v)
+    Values::from(v)
+        == Values {
+            number: 0,
+            settlement,
+            scored,
+        }
 }
 
-// Are they a refusal with this number, and nothing else? An empty slot is what a refusal holds.
-fn is_refused(number: u8, v: answers::ScoreValues) -> bool {
-    let empty = [0u8; 96];
-    (number != 0)
-        & (v.number == number as u32)
-        & (v.reading == 0)
-        & asked::same_values(&empty, 0, 53, 60, 0, v)
+// Are they a refusal with this number, and nothing else?
+fn is_refused(number: u32, v: answers::ScoreValues) -> bool {
+    (number != 0) & (Values::from(v) == Values::refused(number))
 }
 
 // Is the answer to a record's win the stored one?
-fn same_win(rec: &[u8], v: answers::ScoreValues) -> bool
-    requires { length rec.now ≡ 1024 }
-{
-    let number = rec[212];
-    let chosen = stored::wide(rec[213]);
-    if number != 0 {
-        return is_refused(number, v);
+fn same_win(rec: &[u8; 1024], v: answers::ScoreValues) -> bool {
+    match stored::chosen_at(rec) {
+        Some(Ok(scored)) => is_scored(rec, scored, v),
+        Some(Err(number)) => is_refused(number, v),
+        None => false,
     }
-    if chosen >= 8 {
-        return false;
-    }
-    is_scored(rec, 256 + 96 * chosen, chosen, v)
 }
 
-// The tally after the win of a record is scored, and the reading after the last, whose number is k, is refused.
-fn ask_next(
-    rt: &impl Print,
-    rec: &[u8],
-    k: usize,
-    row: &[u8],
-    t: stored::Tally,
-) -> io::Result<stored::Tally>
-    requires { length rec.now ≡ 1024 }
-{
-    let empty = [0u8; 6];
+// Scores the win of a record, and the reading after the last, whose number is k and which is refused.
+fn ask_next<R: Print>(row: &mut Row<'_, R>, rec: &[u8; 1024], k: usize) -> io::Result<()> {
     let a = ask_hand(rec, k);
-    let win = a.win;
-    let reading = a.reading;
-    let waits = a.waits;
-    let number = rec[215];
-    let won = asked::count(rt, t, asked::WIN, same_win(rec, win), row)?;
-    let read = asked::count(rt, won, asked::READING, is_refused(number, reading), row)?;
-    asked::count(
-        rt,
-        read,
-        asked::WAITS,
-        asked::same_waits(&empty, 0, number, waits),
-        row,
-    )
-}
-
-// The tally after level, basic points and payment are asked of the score in a slot.
-fn ask_points(
-    rt: &impl Print,
-    rec: &[u8],
-    at: usize,
-    row: &[u8],
-    t: stored::Tally,
-) -> io::Result<stored::Tally>
-    requires { (length rec.now ≡ 1024) × (at + 96 ≤ 1024) }
-{
-    let win = stored::win_at(rec, 175);
-    let leveled = asked::ask_level(rt, rec, at + 53, at + 56, at + 60, row, t)?;
-    asked::ask_payment(
-        rt,
-        rec,
-        at + 60,
-        0,
-        win.seat_wind == 27,
-        win.win_type,
-        row,
-        leveled,
-    )
-}
-
-// The tally after reading number k of a record is scored and its waits are named, and level, points and payment are asked of its score.
-fn ask_reading(
-    rt: &impl Print,
-    rec: &[u8],
-    k: usize,
-    row: &[u8],
-    t: stored::Tally,
-) -> io::Result<stored::Tally>
-    requires { (length rec.now ≡ 1024) × (k < 8) }
-{
-    let a = ask_hand(rec, k);
-    let reading = a.reading;
-    let waits = a.waits;
-    let at = 256 + 96 * k;
-    let read = asked::count(rt, t, asked::READING, is_scored(rec, at, k, reading), row)?;
-    let named = asked::count(
-        rt,
-        read,
-        asked::WAITS,
-        asked::same_waits(rec, at + 47, 0, waits),
-        row,
+    row.count(Operation::Win, same_win(rec, a.win))?;
+    row.count(
+        Operation::Reading,
+        is_refused(u32::from(rec[215]), a.reading),
     )?;
-    ask_points(rt, rec, at, row, named)
+    row.count(
+        Operation::Waits,
+        asked::same_waits([0; 6], rec[215], a.waits),
+    )
 }
 
-// The tally after each of the first n readings.
-fn ask_readings(
-    rt: &impl Print,
-    rec: &[u8],
-    n: usize,
-    row: &[u8],
-    t: stored::Tally,
-) -> io::Result<stored::Tally>
-    requires { (length rec.now ≡ 1024) × (n ≤ 8) }
+// Scores reading number k of a record and names its waits, and asks level, points and payment of its score.
+fn ask_reading<R: Print>(row: &mut Row<'_, R>, rec: &[u8; 1024], k: usize) -> io::Result<()>
+    requires { k < 8 }
 {
-    let mut tally = t;
-    let mut k = 0;
-    while k < n {
-        tally = ask_reading(rt, rec, k, row, tally)?;
-        k += 1;
+    let a = ask_hand(rec, k);
+    let scored = is_scored(rec, stored::slot_at(rec, k), a.reading);
+    row.count(Operation::Reading, scored)?;
+    let slot = stored::slot(rec, k);
+    let named = asked::same_waits(*stored::part(slot, 47), 0, a.waits);
+    row.count(Operation::Waits, named)?;
+    let win = stored::win_at(rec, 175);
+    let (level, basic) = (stored::level_at(slot, 56), stored::u32_at(slot, 60));
+    row.ask_level(stored::part(slot, 53), level, basic)?;
+    row.ask_payment(stored::part(slot, 60), 0, win.seat_wind == 27, win.win_type)
+}
+
+// Plays a record of a hand.
+fn play_hand<R: Print>(row: &mut Row<'_, R>, rec: &[u8; 1024]) -> io::Result<()> {
+    let readings = usize::from(rec[214]);
+    if readings > 8 {
+        row.tally.answer(false);
+        return Ok(());
     }
-    Ok(tally)
-}
-
-// The tally after a record of a hand.
-fn play_hand(rt: &impl Print, rec: &[u8], row: &[u8], t: stored::Tally) -> io::Result<stored::Tally>
-    requires { length rec.now ≡ 1024 }
-{
-    let n = stored::wide(rec[214]);
-    if n > 8 {
-        return Ok(t.answer(false));
+    list_hand(row, rec)?;
+    for k in 0..readings {
+        ask_reading(row, rec, k)?;
     }
-    let listed = list_hand(rt, rec, row, t)?;
-    let read = ask_readings(rt, rec, n, row, listed)?;
-    ask_next(rt, rec, n, row, read)
+    ask_next(row, rec, readings)
 }
 
-// The tally after a record of han and fu, or of basic points.
-fn play_points(
-    rt: &impl Print,
-    rec: &[u8],
-    row: &[u8],
-    t: stored::Tally,
-) -> io::Result<stored::Tally>
-    requires { length rec.now ≡ 1024 }
-{
-    let dealer = rec[221] == 1;
-    if rec[216] == 2 {
-        return asked::ask_payment(rt, rec, 316, rec[222], dealer, rec[220], row, t);
+// Plays a record of han and fu, or of basic points.
+fn play_points<R: Print>(row: &mut Row<'_, R>, rec: &[u8; 1024]) -> io::Result<()> {
+    if rec[216] != 2 {
+        row.ask_level(
+            stored::part(rec, 217),
+            stored::level_at(rec, 312),
+            stored::u32_at(rec, 316),
+        )?;
     }
-    let leveled = asked::ask_level(rt, rec, 217, 312, 316, row, t)?;
-    asked::ask_payment(rt, rec, 316, rec[222], dealer, rec[220], row, leveled)
+    row.ask_payment(stored::part(rec, 316), rec[222], rec[221] == 1, rec[220])
 }
 
-// The length of a text, at most 127.
-fn text_length(x: u8) -> usize
-    ensures { result ≤ 127 }
-{
-    if x > 127 {
-        return 127;
-    }
-    x as usize
-}
-
-// The tally after a record. Its text names the row.
-pub fn play(rt: &impl Print, rec: &[u8], t: stored::Tally) -> io::Result<stored::Tally>
-    requires { length rec.now ≡ 1024 }
-{
-    let size = text_length(rec[0]);
-    let next = t.record(true);
+// Plays a record. Its text names the row.
+pub fn play<R: Print>(rt: &R, rec: &[u8; 1024], tally: &mut Tally) -> io::Result<()> {
+    tally.record(true);
+    let size = usize::from(rec[0]).min(127);
+    let mut row = Row {
+        rt,
+        name: &rec[1..1 + size],
+        tally,
+    };
     if rec[216] == 0 {
-        return play_hand(rt, rec, &rec[1..1 + size], next);
+        play_hand(&mut row, rec)
+    } else {
+        play_points(&mut row, rec)
     }
-    play_points(rt, rec, &rec[1..1 + size], next)
 }

@@ -32,12 +32,18 @@ fn say_meld_part(rt: &impl Print, m: meld::Meld, n: u8, first: bool) -> io::Resu
 }
 
 // Writes which melds have fu, and how much, in brackets; nothing where none has.
-fn say_melds(rt: &impl Print, h: structure::Hand, w: context::GameContext) -> io::Result<()> {
-    let melds = h.melds;
-    let mut first = say_meld_part(rt, melds[0], explained::breakdown::meld_fu(h, w, 0), true)?;
-    first = say_meld_part(rt, melds[1], explained::breakdown::meld_fu(h, w, 1), first)?;
-    first = say_meld_part(rt, melds[2], explained::breakdown::meld_fu(h, w, 2), first)?;
-    first = say_meld_part(rt, melds[3], explained::breakdown::meld_fu(h, w, 3), first)?;
+fn say_melds(
+    rt: &impl Print,
+    h: structure::HandStructure,
+    w: context::GameContext,
+) -> io::Result<()> {
+    let structure::HandStructure::Standard { pair: _, melds } = h else {
+        return Ok(());
+    };
+    let mut first = true;
+    for (i, m) in melds.iter().enumerate() {
+        first = say_meld_part(rt, *m, explained::breakdown::meld_fu(h, w, i), first)?;
+    }
     if !first {
         text::say(rt, b")")?;
     }
@@ -63,7 +69,7 @@ fn say_exception(
 fn say_standard(
     rt: &impl Print,
     p: explained::breakdown::FuBreakdown,
-    h: structure::Hand,
+    h: structure::HandStructure,
     w: context::GameContext,
     fu: u8,
 ) -> io::Result<()> {
@@ -83,16 +89,19 @@ fn say_standard(
 // Writes the parts of the fu of a reading.
 pub fn say_parts(
     rt: &impl Print,
-    h: structure::Hand,
+    h: structure::HandStructure,
     w: context::GameContext,
     opened: bool,
     fu: u8,
 ) -> io::Result<()> {
     let p = explained::breakdown::fu_breakdown(h, w, opened);
-    let s = h.structure;
-    match s {
-        structure::HandStructure::Standard { pair: _ } => say_standard(rt, p, h, w, fu),
-        structure::HandStructure::Chiitoitsu => say_part(rt, p.base, b" for seven pairs"),
+    match h {
+        structure::HandStructure::Standard { pair: _, melds: _ } => say_standard(rt, p, h, w, fu),
+        structure::HandStructure::Chiitoitsu { pairs: _ } => say_part(
+            rt,
+            p.base,
+            b" for seven pairs",
+        ),
         structure::HandStructure::Kokushi { pair: _ } => {
             say_part(rt, p.base, b" for thirteen orphans")
         }

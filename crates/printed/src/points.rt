@@ -19,8 +19,8 @@ fn say_wait(rt: &impl Print, i: usize, tally: u8, first: bool) -> io::Result<boo
 // Writes the waits.
 fn say_waits(rt: &impl Print, tallies: [u8; 6]) -> io::Result<()> {
     let mut first = true;
-    for i in 0..6 {
-        first = say_wait(rt, i, tallies[i], first)?;
+    for (i, tally) in tallies.iter().enumerate() {
+        first = say_wait(rt, i, *tally, first)?;
     }
     text::say_none(rt, first)
 }
@@ -40,8 +40,8 @@ fn say_yaku(rt: &impl Print, i: usize, tally: u8, opened: bool, first: bool) -> 
 // Writes the yaku.
 fn say_all_yaku(rt: &impl Print, tallies: [u8; 47], opened: bool) -> io::Result<()> {
     let mut first = true;
-    for i in 0..47 {
-        first = say_yaku(rt, i, tallies[i], opened, first)?;
+    for (i, tally) in tallies.iter().enumerate() {
+        first = say_yaku(rt, i, *tally, opened, first)?;
     }
     text::say_none(rt, first)
 }
@@ -191,7 +191,7 @@ pub fn say_score(
     rt: &impl Print,
     x: reading_score::ScoringResult,
     waits: [u8; 6],
-    h: structure::Hand,
+    h: structure::HandStructure,
     w: context::GameContext,
     opened: bool,
     v: rules::Variant,

@@ -128,15 +128,10 @@ fn say_pairs(rt: &impl Print, pairs: [u8; 7]) -> io::Result<()> {
 }
 
 // Writes a reading.
-pub fn say_reading(rt: &impl Print, h: structure::Hand) -> io::Result<()> {
-    let s = h.structure;
-    match s {
-        structure::HandStructure::Standard { pair } => {
-            let melds = h.melds;
-            say_standard(rt, pair.0, melds)
-        }
-        structure::HandStructure::Chiitoitsu => {
-            let pairs = h.pairs;
+pub fn say_reading(rt: &impl Print, h: structure::HandStructure) -> io::Result<()> {
+    match h {
+        structure::HandStructure::Standard { pair, melds } => say_standard(rt, pair.0, melds),
+        structure::HandStructure::Chiitoitsu { pairs } => {
             text::say(rt, b"seven pairs")?;
             say_pairs(rt, pairs)
         }

@@ -28,12 +28,6 @@ pub fn say_points(rt: &impl Print, n: u64) -> io::Result<()> {
     say_number(rt, n % 10)
 }
 
-// Writes a row of a table without the spaces at its end.
-pub fn say_row(rt: &impl Print, row: &[u8]) -> io::Result<()> {
-    let n = known_words::row_length(row);
-    say(rt, &row[..n])
-}
-
 // Writes a comma before each entry of a list but the first.
 pub fn say_comma(rt: &impl Print, first: bool) -> io::Result<()> {
     if !first {
@@ -52,11 +46,10 @@ pub fn say_none(rt: &impl Print, empty: bool) -> io::Result<()> {
 
 // Writes bytes that came from outside: one that cannot be printed as a question mark.
 pub fn say_plain(rt: &impl Print, b: &[u8]) -> io::Result<()> {
-    for i in 0..b.len() {
-        if (b' ' <= b[i]) & (b[i] <= b'~') {
-            say_byte(rt, b[i])?;
-        } else {
-            say_byte(rt, b'?')?;
+    for c in b {
+        match c {
+            b' '..=b'~' => say_byte(rt, *c)?,
+            _ => say_byte(rt, b'?')?,
         }
     }
     Ok(())

@@ -18,83 +18,85 @@
 // The other bytes are zero.
 #![tactic(auto)]
 
-ghost use Rattle.std.specs.Prelude.{◌≡◌, length};
-
 use std::io;
-use std::io::Read;
+use structure::HandStructure;
 
-// The kind of readings with a yakuman.
-const YAKUMAN: usize = 0;
-
-// The kind of readings without any han.
-const WITHOUT: usize = 1;
-
-// The reading of a record.
-fn reading_of(rec: &[u8]) -> structure::Hand
-    requires { length rec.now ≡ 160 }
-{
-    let kind = rec[0];
-    let pair = tile::Tile(rec[1]);
-    if kind == 1 {
-        return structure::Hand::chiitoitsu([
-            rec[14], rec[15], rec[16], rec[17], rec[18], rec[19], rec[20],
-        ]);
-    }
-    if kind == 2 {
-        return structure::Hand::kokushi(pair);
-    }
-    structure::Hand::standard(pair, stored::melds_at(rec, 2))
+// What is counted: the readings with a yakuman, and those without any han.
+#[derive(Clone, Copy, Default)]
+struct Kinds {
+    yakuman: u64,
+    without: u64,
 }
 
-// The tally after a record.
-fn replay(rec: &[u8], t: stored::Tally) -> stored::Tally
-    requires { length rec.now ≡ 160 }
-{
+type Tally = stored::Tally<Kinds>;
+
+// An answer about a reading.
+#[derive(Clone, Copy, PartialEq, Eq)]
+struct Answer {
+    tallies: [u8; 47],
+    waits: [u8; 6],
+    han: u8,
+    fu: u8,
+    is_yakuman: bool,
+}
+
+// The answer of the record.
+fn stored_answer(rec: &[u8; 160]) -> Answer {
+    Answer {
+        tallies: *stored::part(rec, 91),
+        waits: *stored::part(rec, 138),
+        han: rec[144],
+        fu: rec[145],
+        is_yakuman: rec[146] == 1,
+    }
+}
+
+// The reading of a record.
+fn reading_of(rec: &[u8; 160]) -> HandStructure {
+    let pair = tile::Tile(rec[1]);
+    let melds = stored::melds_at(rec, 2);
+    let pairs = *stored::part(rec, 14);
+    match rec[0] {
+        1 => HandStructure::Chiitoitsu { pairs },
+        2 => HandStructure::Kokushi { pair },
+        _ => HandStructure::Standard { pair, melds },
+    }
+}
+
+// The answer of the library.
+fn answer_of(rec: &[u8; 160]) -> Answer {
     let hand = reading_of(rec);
     let win = stored::win_at(rec, 55);
     let opened = rec[90] == 1;
-    let tiles = tile_yaku::tile_yaku(&rec[21..55], win.winning_tile);
+    let tiles = tile_yaku::tile_yaku(stored::part(rec, 21), win.winning_tile);
     let found = yaku::detect_yaku_with_context(hand, tiles, win, opened);
     let tallies = found.tallies;
     let waits = wait::detect_wait_types(hand, tile::Tile(win.winning_tile));
-    let fu = fu::calculate_fu(hand, win, opened);
-    let agrees = stored::same_tallies(rec, 91, tallies)
-        & stored::same_waits(rec, 138, waits)
-        & stored::same_numbers(rec, 144, found.han, fu, found.is_yakuman);
-    t.record(agrees)
-        .kind_if(YAKUMAN, found.is_yakuman)
-        .kind_if(WITHOUT, found.han == 0)
+    Answer {
+        tallies,
+        waits,
+        han: found.han,
+        fu: fu::calculate_fu(hand, win, opened),
+        is_yakuman: found.is_yakuman,
+    }
 }
 
-// The turn after the next record of the file.
-fn step<F: Read>(file: &mut F, t: stored::Tally) -> io::Result<stored::Turn> {
-    let mut rec = [0u8; 160];
-    let n = stored::read_full(file, &mut rec)?;
-    if n < 160 {
-        return Ok(stored::Turn::last(t, n));
-    }
-    Ok(stored::Turn::next(replay(&rec[..n], t)))
-}
-
-// The tally of the file. Nothing says that a file ends, so the turns are counted down, from a number that no run uses up.
-fn run<F: Read>(file: &mut F) -> io::Result<stored::Tally> {
-    let mut turn = stored::Turn::first();
-    let mut left: u64 = 1000000;
-    while turn.more && left > 0 {
-        let t = turn.tally;
-        turn = step(file, t)?;
-        left -= 1;
-    }
-    Ok(turn.tally)
+// Replays a record.
+fn replay(rec: &[u8; 160], tally: &mut Tally) {
+    let answer = answer_of(rec);
+    stored::count(&mut tally.kinds.yakuman, answer.is_yakuman);
+    stored::count(&mut tally.kinds.without, answer.han == 0);
+    tally.record(answer == stored_answer(rec));
 }
 
 // Writes the tally.
-fn print(rt: &impl Print, t: stored::Tally) -> io::Result<()> {
-    let kinds = t.kinds;
-    stored::print_count(rt, t.records, b" readings replayed: ")?;
-    stored::print_count(rt, kinds[YAKUMAN], b" with a yakuman, ")?;
-    stored::print_count(rt, kinds[WITHOUT], b" with 0 han\n")?;
-    stored::print_count(rt, t.differ, b" differ\n")
+fn print(rt: &impl Print, tally: &Tally) -> io::Result<()> {
+    let kinds = &tally.kinds;
+    print!(rt;
+        "{} readings replayed: {} with a yakuman, ",
+        tally.records, kinds.yakuman
+    )?;
+    println!(rt; "{} with 0 han\n{} differ", kinds.without, tally.differ)
 }
 
 // Opens the file, replays it and writes the tally.
@@ -102,6 +104,9 @@ fn main(rt: HostRuntime) -> io::Result<()> {
     let Some(mut file) = stored::open(&rt, "scores") else {
         return Ok(());
     };
-    let t = run(&mut file)?;
-    print(&rt, t)
+    let tally = stored::run(&mut file, |rec, tally| {
+        replay(rec, tally);
+        Ok(())
+    })?;
+    print(&rt, &tally)
 }

@@ -19,115 +19,112 @@
 // the dealer and the discarder pays, and the total. A refusal has its number alone.
 #![tactic(auto)]
 
-ghost use Rattle.std.specs.Prelude.{◌≡◌, ◌+◌, ◌≤◌, length};
+ghost use Rattle.std.specs.Prelude.{◌+◌, ◌≤◌};
 
 use std::io;
-use std::io::Read;
 
-// The kind of wins that are scored. Kinds 1 to 11 and 14 are the refusals of a win.
-const SCORED: usize = 0;
+// What is counted: the wins that are scored, the refusals of a win, 1 to 11 without 7, and 14, the readings that are scored by their number,
+// and the numbers that no reading has.
+#[derive(Clone, Copy, Default)]
+struct Kinds {
+    scored: u64,
+    refused: stored::Refusals,
+    readings: u64,
+    missing: u64,
+}
 
-// The kind of numbers that no reading has.
-const MISSING: usize = 12;
+type Tally = stored::Tally<Kinds>;
 
-// The kind of readings that are scored by their number.
-const READINGS: usize = 13;
+// The number that refuses a reading which there is not.
+const NO_READING: u32 = 12;
+
+// A score, or the number of a refusal.
+type Answer = Result<stored::Scored, u32>;
+
+// The library's answer about a win or a reading.
+fn answer_of(a: choice::ScoreAnswer) -> Answer {
+    if a.number != 0 {
+        return Err(u32::from(a.number));
+    }
+    Ok(stored::Scored {
+        reading: a.reading,
+        score: stored::Score::from(a.score),
+    })
+}
+
+// The library's answer about waits.
+fn waits_of(a: win::WaitsAnswer) -> Result<[u8; 6], u32> {
+    if a.number != 0 {
+        return Err(u32::from(a.number));
+    }
+    Ok(a.waits)
+}
 
 // Is the answer the one at a place: its number, that of the reading, and the score?
-fn same_answer(rec: &[u8], at: usize, a: choice::ScoreAnswer) -> bool
-    requires { at + 76 ≤ length rec.now }
+fn same_answer(rec: &[u8; 256], at: usize, answer: Answer) -> bool
+    requires { at + 76 ≤ 256 }
 {
-    let score = a.score;
-    let reading = stored::wide(rec[at + 1]);
-    (a.number == rec[at])
-        & (a.reading == reading)
-        & stored::same_score(rec, at + 2, at + 49, at + 56, score)
+    stored::answer(u32::from(rec[at]), stored::scored_at(rec, at + 1)) == Some(answer)
 }
 
-// The tally after the win of a record is scored.
-fn ask_win(rec: &[u8], counts: &[u8], t: stored::Tally) -> stored::Tally
-    requires { length rec.now ≡ 256 }
-{
+// Scores the win of a record.
+fn ask_win(rec: &[u8; 256], counts: &[u8], tally: &mut Tally) {
     let calls = stored::calls_at(rec, 41);
-    let a = win::score_win(counts, calls, stored::win_at(rec, 55));
-    let agrees = same_answer(rec, 92, a);
-    t.kind(stored::wide(a.number)).record(agrees)
+    let answer = answer_of(win::score_win(counts, calls, stored::win_at(rec, 55)));
+    match answer {
+        Ok(_) => stored::count(&mut tally.kinds.scored, true),
+        Err(number) => tally.kinds.refused.count(number),
+    }
+    tally.record(same_answer(rec, 92, answer));
 }
 
-// The tally after its reading is scored by its number.
-fn ask_reading(rec: &[u8], counts: &[u8], t: stored::Tally) -> stored::Tally
-    requires { length rec.now ≡ 256 }
-{
+// Scores its reading by its number.
+fn ask_reading(rec: &[u8; 256], counts: &[u8], tally: &mut Tally) {
     let n = stored::u16_at(rec, 90);
     let calls = stored::calls_at(rec, 41);
-    let a = win::score_reading(counts, calls, stored::win_at(rec, 55), n);
-    let agrees = same_answer(rec, 168, a);
-    t.kind_if(READINGS, a.number == 0)
-        .kind_if(MISSING, a.number == 12)
-        .answer(agrees)
+    let answer = answer_of(win::score_reading(counts, calls, stored::win_at(rec, 55), n));
+    stored::count(&mut tally.kinds.readings, answer.is_ok());
+    stored::count(&mut tally.kinds.missing, answer == Err(NO_READING));
+    tally.answer(same_answer(rec, 168, answer));
 }
 
-// The tally after the waits of that reading are named.
-fn ask_waits(rec: &[u8], counts: &[u8], t: stored::Tally) -> stored::Tally
-    requires { length rec.now ≡ 256 }
-{
+// Names the waits of that reading.
+fn ask_waits(rec: &[u8; 256], counts: &[u8], tally: &mut Tally) {
     let n = stored::u16_at(rec, 90);
     let calls = stored::calls_at(rec, 41);
-    let a = win::name_waits(counts, calls, stored::win_at(rec, 55), n);
-    let waits = a.waits;
-    t.answer((a.number == rec[244]) & stored::same_waits(rec, 245, waits))
+    let answer = waits_of(win::name_waits(counts, calls, stored::win_at(rec, 55), n));
+    let waits: [u8; 6] = *stored::part(rec, 245);
+    tally.answer(stored::answer(u32::from(rec[244]), waits) == Some(answer));
 }
 
-// The tally after a record. One with a length out of range differs, and nothing is asked.
-fn replay(rec: &[u8], t: stored::Tally) -> stored::Tally
-    requires { length rec.now ≡ 256 }
-{
-    let size = stored::wide(rec[0]);
+// Replays a record. One with a length out of range differs, and nothing is asked.
+fn replay(rec: &[u8; 256], tally: &mut Tally) {
+    let size = usize::from(rec[0]);
     if size > 40 {
-        return t.answer(false);
+        tally.answer(false);
+        return;
     }
-    let won = ask_win(rec, &rec[1..1 + size], t);
-    let read = ask_reading(rec, &rec[1..1 + size], won);
-    ask_waits(rec, &rec[1..1 + size], read)
+    let counts = &rec[1..1 + size];
+    ask_win(rec, counts, tally);
+    ask_reading(rec, counts, tally);
+    ask_waits(rec, counts, tally);
 }
 
-// The turn after the next record of the file.
-fn step<F: Read>(file: &mut F, t: stored::Tally) -> io::Result<stored::Turn> {
-    let mut rec = [0u8; 256];
-    let n = stored::read_full(file, &mut rec)?;
-    if n < 256 {
-        return Ok(stored::Turn::last(t, n));
-    }
-    Ok(stored::Turn::next(replay(&rec[..n], t)))
-}
-
-// The tally of the file. Nothing says that a file ends, so the turns are counted down, from a number that no run uses up.
-fn run<F: Read>(file: &mut F) -> io::Result<stored::Tally> {
-    let mut turn = stored::Turn::first();
-    let mut left: u64 = 1000000;
-    while turn.more && left > 0 {
-        let t = turn.tally;
-        turn = step(file, t)?;
-        left -= 1;
-    }
-    Ok(turn.tally)
-}
-
-// Writes the tally: of the refusals, those of a win, 1 to 11 without 7, and 14.
-fn print(rt: &impl Print, t: stored::Tally) -> io::Result<()> {
-    let kinds = t.kinds;
-    stored::print_count(rt, t.records, b" wins replayed: ")?;
-    stored::print_count(rt, kinds[SCORED], b" scored\nrefused: ")?;
-    stored::print_kinds(rt, kinds, 11, 7)?;
-    stored::print(rt, b", 14: ")?;
-    stored::print_count(rt, kinds[14], b"\n")?;
-    stored::print_count(
-        rt,
-        kinds[READINGS],
-        b" readings scored by their numbers, with their waits; ",
+// Writes the tally.
+fn print(rt: &impl Print, tally: &Tally) -> io::Result<()> {
+    let kinds = &tally.kinds;
+    print!(rt;
+        "{} wins replayed: {} scored\nrefused: ",
+        tally.records, kinds.scored
     )?;
-    stored::print_count(rt, kinds[MISSING], b" numbers of no reading\n")?;
-    stored::print_count(rt, t.differ, b" answers differ\n")
+    kinds
+        .refused
+        .print(rt, &[1, 2, 3, 4, 5, 6, 8, 9, 10, 11, 14])?;
+    println!(rt;
+        "\n{} readings scored by their numbers, with their waits; {} numbers of no reading",
+        kinds.readings, kinds.missing
+    )?;
+    println!(rt; "{} answers differ", tally.differ)
 }
 
 // Opens the file, replays it and writes the tally.
@@ -135,6 +132,9 @@ fn main(rt: HostRuntime) -> io::Result<()> {
     let Some(mut file) = stored::open(&rt, "wins") else {
         return Ok(());
     };
-    let t = run(&mut file)?;
-    print(&rt, t)
+    let tally = stored::run(&mut file, |rec, tally| {
+        replay(rec, tally);
+        Ok(())
+    })?;
+    print(&rt, &tally)
 }

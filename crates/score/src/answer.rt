@@ -10,7 +10,7 @@ fn used(m: meld::Meld, there: bool, t: u8) -> u64
     ensures { result < 256 }
 {
     if there {
-        return hand::wide(m.uses(t));
+        return u64::from(m.uses(t));
     }
     0
 }
@@ -29,7 +29,7 @@ fn called(k: checks::Calls, t: u8) -> u64
 
 // How many of a tile hand and calls hold, from how many the hand holds.
 fn held(count: u8, k: checks::Calls, t: u8) -> u64 {
-    hand::wide(count) + called(k, t)
+    u64::from(count) + called(k, t)
 }
 
 // How many of a tile there are: four, or none where it is not in the wall.

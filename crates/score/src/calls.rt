@@ -1,21 +1,18 @@
 // The calls in words that can be given again, with whom they came from.
-ghost use Rattle.std.specs.Prelude.{◌<◌};
-
 use crate::hand_line;
-use notation::said;
+use known_words::{Asked, Word};
+use notation::said::Said;
 use printed::{print, text};
 use std::io;
 
-// The number of the known word for the kind of a call.
-fn word_of_kind(kind: u8) -> usize
-    ensures { result < 17 }
-{
+// The known word for the kind of a call.
+fn word_of_kind(kind: u8) -> Word {
     match kind {
-        1 => 0,
-        3 => 1,
-        5 => 2,
-        4 => 3,
-        _ => 4,
+        1 => Word::Asks(Asked::Chi),
+        3 => Word::Asks(Asked::Pon),
+        5 => Word::Asks(Asked::Kan),
+        4 => Word::Asks(Asked::ClosedKan),
+        _ => Word::Asks(Asked::AddedKan),
     }
 }
 
@@ -83,7 +80,7 @@ fn say_unsaid(
 }
 
 // Writes which calls are taken as called from the left, as nothing was said of it.
-pub fn say_assumed(rt: &impl Print, s: said::Said) -> io::Result<()> {
+pub fn say_assumed(rt: &impl Print, s: Said) -> io::Result<()> {
     let k = s.calls;
     let melds = k.melds;
     let count = k.count;
@@ -94,18 +91,17 @@ pub fn say_assumed(rt: &impl Print, s: said::Said) -> io::Result<()> {
     first = say_unsaid(rt, melds[3], 3 < count, said[3], first)?;
     if !first {
         text::say(rt, b" called from the left; say ")?;
-        say_seats(rt, s.three)?;
+        say_seats(rt, s.game())?;
         text::say(rt, b" behind a call; the score is the same\n")?;
     }
     Ok(())
 }
 
 // Writes the words for whom a call can come from: nobody sits across where three play.
-fn say_seats(rt: &impl Print, three: bool) -> io::Result<()> {
-    if three {
-        text::say(rt, b"left or right")
-    } else {
-        text::say(rt, b"left, across or right")
+fn say_seats(rt: &impl Print, v: rules::Variant) -> io::Result<()> {
+    match v {
+        rules::Variant::Sanma => text::say(rt, b"left or right"),
+        rules::Variant::Yonma => text::say(rt, b"left, across or right"),
     }
 }
 

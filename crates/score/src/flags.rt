@@ -1,8 +1,7 @@
 // What was said and does not count: flags, and indicators of ura.
-ghost use Rattle.std.specs.Prelude.{◌<◌};
-
 use crate::hand_line;
 use explained::flags::Uncounted;
+use known_words::{Flag, Word};
 use printed::text;
 use std::io;
 
@@ -29,15 +28,13 @@ fn is_reason(why: Uncounted) -> bool {
 }
 
 // Writes that a flag does not count, and why; nothing where it counts or was not said.
-fn say_flag(rt: &impl Print, w: context::GameContext, opened: bool, i: usize) -> io::Result<()>
-    requires { i < 8 }
-{
-    let why = explained::flags::why_uncounted(w, opened, i);
+fn say_flag(rt: &impl Print, w: context::GameContext, opened: bool, flag: Flag) -> io::Result<()> {
+    let why = explained::flags::why_uncounted(w, opened, flag as usize);
     if !is_reason(why) {
         return Ok(());
     }
     text::say(rt, b"note:")?;
-    hand_line::say_word(rt, i + 9)?;
+    hand_line::say_word(rt, Word::Flags(flag))?;
     text::say(rt, b" does not count: ")?;
     say_reason(rt, why)?;
     text::say_byte(rt, b'\n')
@@ -45,8 +42,8 @@ fn say_flag(rt: &impl Print, w: context::GameContext, opened: bool, i: usize) ->
 
 // Writes which flags do not count.
 fn say_flags(rt: &impl Print, w: context::GameContext, opened: bool) -> io::Result<()> {
-    for i in 0..8 {
-        say_flag(rt, w, opened, i)?;
+    for flag in Flag::ALL {
+        say_flag(rt, w, opened, flag)?;
     }
     Ok(())
 }

@@ -1,41 +1,31 @@
 // The hand as it was understood, in words that can be given again.
-ghost use Rattle.std.specs.Prelude.{◌<◌};
-
 use crate::calls;
-use notation::said;
+use known_words::{Flag, Word};
+use notation::said::{Said, Won};
 use printed::{print, text};
 use std::io;
 
 // Writes a known word, a space before it.
-pub fn say_word(rt: &impl Print, i: usize) -> io::Result<()>
-    requires { i < 17 }
-{
-    let row = known_words::word_row(i);
+pub fn say_word(rt: &impl Print, word: Word) -> io::Result<()> {
     text::say_byte(rt, b' ')?;
-    text::say_row(rt, &row)
+    text::say(rt, word.text())
 }
 
 // Writes how it was won, and on which tile.
-fn say_won(rt: &impl Print, s: said::Said) -> io::Result<()> {
-    if s.tsumo {
+fn say_won(rt: &impl Print, won: Won) -> io::Result<()> {
+    if won.tsumo {
         text::say(rt, b" tsumo ")?;
     } else {
         text::say(rt, b" ron ")?;
     }
-    print::say_alike(rt, s.winning_tile, 1)
-}
-
-// Writes a wind.
-fn say_wind(rt: &impl Print, wind: u8) -> io::Result<()> {
-    let row = known_words::wind_row((wind % 4) as usize);
-    text::say_row(rt, &row)
+    print::say_alike(rt, won.tile, 1)
 }
 
 // Writes the flags.
 fn say_flags(rt: &impl Print, flags: [bool; 8]) -> io::Result<()> {
-    for i in 0..8 {
-        if flags[i] {
-            say_word(rt, i + 9)?;
+    for flag in Flag::ALL {
+        if flags[flag as usize] {
+            say_word(rt, Word::Flags(flag))?;
         }
     }
     Ok(())
@@ -50,11 +40,11 @@ fn say_double_wind(rt: &impl Print, two: bool) -> io::Result<()> {
 }
 
 // Writes that three play; where four do there is nothing to say.
-fn say_game(rt: &impl Print, three: bool) -> io::Result<()> {
-    if three {
-        text::say(rt, b" three")?;
+fn say_game(rt: &impl Print, v: rules::Variant) -> io::Result<()> {
+    match v {
+        rules::Variant::Sanma => text::say(rt, b" three"),
+        rules::Variant::Yonma => Ok(()),
     }
-    Ok(())
 }
 
 // Writes indicators behind their word, in their order; nothing where none is shown.
@@ -83,7 +73,7 @@ fn say_opened(rt: &impl Print, k: checks::Calls) -> io::Result<()> {
 }
 
 // Are there more calls or indicators than are kept: four, and ten of each sort?
-fn has_lost(s: said::Said) -> bool {
+fn has_lost(s: Said) -> bool {
     let calls = s.calls;
     let dora = s.dora;
     let ura = s.ura;
@@ -92,7 +82,7 @@ fn has_lost(s: said::Said) -> bool {
 
 // Writes the hand as it was understood, and what was assumed of its calls; nothing where a call or an indicator was not kept, as such a line could
 // not be given again.
-pub fn say_hand(rt: &impl Print, s: said::Said) -> io::Result<()> {
+pub fn say_hand(rt: &impl Print, s: Said) -> io::Result<()> {
     let counts = s.counts;
     let k = s.calls;
     let flags = s.flags;
@@ -104,14 +94,16 @@ pub fn say_hand(rt: &impl Print, s: said::Said) -> io::Result<()> {
     text::say(rt, b"hand:")?;
     print::say_counts(rt, &counts)?;
     calls::say_calls(rt, k)?;
-    say_won(rt, s)?;
+    if let Some(won) = s.won {
+        say_won(rt, won)?;
+    }
     text::say(rt, b" round ")?;
-    say_wind(rt, s.round)?;
+    text::say(rt, s.round_wind().name())?;
     text::say(rt, b" seat ")?;
-    say_wind(rt, s.seat)?;
+    text::say(rt, s.seat_wind().name())?;
     say_flags(rt, flags)?;
-    say_double_wind(rt, s.double_wind_two)?;
-    say_game(rt, s.three)?;
+    say_double_wind(rt, s.double_wind_two.unwrap_or(false))?;
+    say_game(rt, s.game())?;
     say_indicators(rt, b" dora ", dora)?;
     say_indicators(rt, b" ura ", ura)?;
     text::say_byte(rt, b'\n')?;

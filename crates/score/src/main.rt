@@ -12,7 +12,8 @@ mod hand_line;
 mod readings;
 mod usage;
 
-use notation::said;
+use notation::faults::{Fault, Misread, Stop};
+use notation::said::Said;
 use printed::text;
 use std::env::{Env, FillError};
 use std::io;
@@ -28,31 +29,28 @@ fn arg_count(rt: &impl Env) -> usize {
 }
 
 // Takes the argument with a number. One that is empty says nothing.
-fn take_argument(rt: &impl Env, s: said::Said, i: usize) -> said::Said {
-    if s.fault != 0 {
-        return s;
-    }
-    let mut word = [0u8; 512];
-    let mut next = s;
-    next.word = i;
-    match rt.arg(i, &mut word) {
-        Ok(n) => next.take(&word[..n]),
-        Err(FillError::TooLong) => next.faulty(tile_words::faults::SIZE),
-        Err(FillError::NotPresent) => next.take(b""),
+fn take_argument(rt: &impl Env, said: Said, i: usize) -> Result<Said, Stop> {
+    let mut argument = [0u8; 512];
+    match rt.arg(i, &mut argument) {
+        Ok(n) => said.take(&argument[..n]),
+        Err(FillError::TooLong) => Err(Stop::from(Misread::of_all(Fault::TooLong))),
+        Err(FillError::NotPresent) => Ok(said),
     }
 }
 
-// Takes all arguments.
-fn take_arguments(rt: &impl Env, count: usize) -> said::Said {
-    let mut s = said::Said::nothing();
+// Takes all arguments. Where they cannot be taken, the number of the argument at fault stands beside the reason.
+fn take_arguments(rt: &impl Env, count: usize) -> Result<Said, (usize, Stop)> {
+    let mut said = Said::nothing();
+    let mut last = 0;
     for i in 1..count {
-        s = take_argument(rt, s, i);
+        said = take_argument(rt, said, i).map_err(|stop| (i, stop))?;
+        last = i;
     }
-    s.finished()
+    said.finished().map_err(|stop| (last, stop))
 }
 
 // Writes all there is to say about a finished hand.
-fn show(rt: &impl Print, s: said::Said) -> io::Result<()> {
+fn show(rt: &impl Print, s: Said) -> io::Result<()> {
     let counts = s.counts;
     let k = s.seated();
     let v = s.game();
@@ -80,13 +78,12 @@ fn main(rt: HostRuntime) -> io::Result<()> {
             b"bad input: no hand: type its tiles, then ron or tsumo and the winning tile\n",
         );
     }
-    let s = take_arguments(&rt, count);
-    if s.help {
-        usage::say_usage(&rt)?;
-        return text::say(&rt, b"help: nothing was scored\n");
+    match take_arguments(&rt, count) {
+        Ok(said) => show(&rt, said),
+        Err((_, Stop::Help)) => {
+            usage::say_usage(&rt)?;
+            text::say(&rt, b"help: nothing was scored\n")
+        }
+        Err((argument, Stop::Misread(misread))) => faults::say_bad_input(&rt, argument, misread),
     }
-    if s.fault != 0 {
-        return faults::say_bad_input(&rt, s);
-    }
-    show(&rt, s)
 }

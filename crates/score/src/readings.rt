@@ -38,7 +38,7 @@ fn say_which(rt: &impl Print, i: usize, chosen: usize) -> io::Result<()> {
 // Writes a reading with its waits and its score.
 fn say_reading(
     rt: &impl Print,
-    h: structure::Hand,
+    h: structure::HandStructure,
     i: usize,
     chosen: usize,
     counts: &[u8; 34],
@@ -189,12 +189,12 @@ pub fn say_all(
     v: rules::Variant,
     scored: choice::ScoreAnswer,
 ) -> io::Result<()> {
-    if checks::check_hand(counts, k, v) != 0 {
+    let Ok(hand) = checks::check_hand(counts, k, v) else {
         return Ok(());
-    }
+    };
     let chosen = chosen_of(scored);
     let mut buffer = [0u8; hand::ALWAYS_ENOUGH];
-    let n = unit::write_all(counts, k, &mut buffer);
+    let n = unit::write_all(hand, &mut buffer);
     say_readings(rt, &buffer, n, chosen, counts, k, w, v)?;
     text::say_byte(rt, b'\n')?;
     if 1 < n {

@@ -1,6 +1,10 @@
 -- The characters of words of tiles, by their ASCII numbers: 48 to 57 are 0 to 9, 97 to 122 are a to z, and a capital stands 32 before its
 -- small letter. The number 0 is no character. These are definitions.
-use Rattle.std.specs.Prelude.{Bool, ◌&&◌, ◌||◌, not, cond, ℕ, ◌+◌, ◌-◌, ◌*◌, eqb, leb, ltb}
+use Rattle.std.specs.Prelude.{Bool, ◌&&◌, ◌||◌, not, cond, ℕ, ◌+◌, ◌-◌, ◌*◌, eqb, leb, ltb, Option, Some, None}
+
+-- a number below m; none where it is not: so are suits below 4 and tiles below 34
+abbrev pub below : ℕ → ℕ → Option ℕ
+below m n = cond (ltb n m) (Some n) None
 
 -- one of 0 to 9
 abbrev pub is_number : ℕ → Bool

@@ -1,10 +1,5 @@
-use mathlib.Core.Path.{sym, ◌∙◌, ◌≡◌}
-use Prim.Native.Nat.{◌+◌, ◌-◌}
-use lib.ListN.{length, drop}
-use borrow.Author.Tests.{not-true, not-false}
+use Rattle.std.proofs.Common.{sym, ◌∙◌, arith}
 use Rattle.tile_words.proofs.Places.{good_next, good_stop, good_end}
-use Rattle.tile_words.specs.Words.{good_length, char_before}
-use borrow.Author.Rules.{rules}
 use Rattle.tile_words.proofs.good_length.Goals as goal
 
 pub returns-then-not-is_good_at : goal.returns-then-not-is_good_at
@@ -20,4 +15,6 @@ loop-i-preserved c =
 pub returns : goal.returns
 returns c =
     let l = c.loop-i in
-    good_end c.args.word.now l.i c.loop-i-test.false ∙ l.invariant
+    let rest = good_end c.args.word.now l.i c.loop-i-test.false in
+    let all = l.invariant in
+    omega arith

@@ -1,15 +1,16 @@
 -- `say_all` is safe: the buffer has room for the records of every hand that passes the checks.
-use Rattle.std.proofs.Common.{rules, ◌≡◌, sym, ◌∙◌, length}
+use Rattle.std.proofs.Common.{rules, ◌≡◌, sym, ap, ap₂, ◌∙◌, length}
 use Rattle.rules.specs.Rules.{game}
-use Rattle.checks.proofs.Passed.{passes_four}
+use Rattle.checks.specs.declared.Calls.{Calls}
+use Rattle.checks.specs.Checks.{hand_check_in}
 use Rattle.promises.proofs.Listing.{room}
 use Rattle.score.proofs.readings.say_all.Goals as goal
 
 pub write_all-n-requires : goal.write_all-n-requires
 write_all-n-requires g c =
-    let cs = c.args.counts.now in
-    let k = c.args.k in
+    let h = c.in-Ok.hand in
+    let same = c.in-Ok.ensures.hand in
     let v = game c.args.v in
-    let in_game = sym c.check_hand.ensures ∙ c.if-check_hand-ne0.false in
-    let four : length k.melds ≡ 4 = search rules in
-    (passes_four v cs k in_game, room v cs k four in_game)
+    let in_game : hand_check_in v h.counts.now h.calls ≡ 0 = ap₂ (hand_check_in v) same.0 same.1 ∙ sym c.in-Ok.ensures.answer in
+    let four : length c.args.k.melds ≡ 4 = search rules in
+    room v h.counts.now h.calls (ap (λ (k : Calls). length k.melds) same.1 ∙ four) in_game
