@@ -34,9 +34,9 @@
  * every one of its 40 bytes is a field's, and memcmp is fine on books.
  *
  * No function keeps anything between calls or allocates memory, so any number of threads may call
- * at the same time. Of stack, the deepest calls on a million random hands used 3,449 bytes in
- * ziwhakemo_book_win, 3,369 in ziwhakemo_score_win, 3,257 in ziwhakemo_score_reading, 2,805 in
- * ziwhakemo_name_waits, 885 in ziwhakemo_list_readings and 40 in ziwhakemo_book_draw. This is
+ * at the same time. Of stack, the deepest calls on a million random hands used 3,616 bytes in
+ * ziwhakemo_book_win, 3,616 in ziwhakemo_score_win, 3,360 in ziwhakemo_score_reading, 2,833 in
+ * ziwhakemo_name_waits, 865 in ziwhakemo_list_readings and 61 in ziwhakemo_book_draw. This is
  * measured and not proved: leave some room.
  */
 #ifndef ZIWHAKEMO_H
