@@ -11,6 +11,8 @@ ghost use Rattle.meld_yaku.specs.Melds.{set_of};
 ghost use Rattle.meld_yaku.specs.Standard.{of_standard};
 ghost use Rattle.end_yaku.specs.Ends.{end_run, chanta, junchan};
 
+use structure::{all_melds, any_meld};
+
 // Is it 123 or 789?
 fn is_end_run(m: meld::Meld) -> bool
     ensures { result ≡ end_run m }
@@ -18,28 +20,18 @@ fn is_end_run(m: meld::Meld) -> bool
     m.is_sequence() & ((m.tile % 9 == 0) | (m.tile % 9 == 6))
 }
 
-// Is one of the melds a sequence?
-fn any_sequence(ms: [meld::Meld; 4]) -> bool
-    ensures { result ≡ any is_sequence ms }
-{
-    ms.iter().any(|m| m.is_sequence())
-}
-
-// Does each group hold a tile that passes the test? So the pair is of one, and each meld is 123, 789, or a triplet or kan of one.
-fn each_holds<F: Fn(tile::Tile) -> bool>(ms: [meld::Meld; 4], pair: tile::Tile, test: F) -> bool
-    requires { F.IsAlwaysCallable test }
-    ensures groups { (q : ℕ → Bool) → ((t : Tile) (b : Bool) → F.post test t b → b ≡ q t.0) → result ≡ (q pair.0 && all (λ m. end_run m || set_of q m) ms) }
-{
-    test(pair)
-        && ms.iter().all(|m| is_end_run(*m) | (m.is_triplet_or_kan() & test(tile::Tile(m.tile))))
-}
-
-// Does each group, and is one of the melds a sequence?
+// Does each group hold a tile that passes the test, and is one of the melds a sequence? So the pair is of one, and each meld is 123, 789, or a
+// triplet or kan of one.
 fn has_ends<F: Fn(tile::Tile) -> bool>(ms: [meld::Meld; 4], pair: tile::Tile, test: F) -> bool
     requires { F.IsAlwaysCallable test }
     ensures ends { (q : ℕ → Bool) → ((t : Tile) (b : Bool) → F.post test t b → b ≡ q t.0) → result ≡ (q pair.0 && (any is_sequence ms && all (λ m. end_run m || set_of q m) ms)) }
 {
-    each_holds(ms, pair, test) && any_sequence(ms)
+    let sequence = any_meld(ms, |m| m.is_sequence());
+    let each = all_melds(
+        ms,
+        |m| is_end_run(m) | (m.is_triplet_or_kan() & test(tile::Tile(m.tile))),
+    );
+    test(pair) & (sequence & each)
 }
 
 // Chanta: a terminal or honor in each group, and not Junchan.

@@ -47,8 +47,7 @@ pub fn pair_fu(pair: u8, w: context::GameContext) -> u8
 fn any_close(ms: [meld::Meld; 4], t: u8) -> bool
     ensures { result ≡ (any (closed_run edge t) ms || any (closed_run middle t) ms) }
 {
-    ms.iter()
-        .any(|m| wait::is_penchan(*m, t) | wait::is_kanchan(*m, t))
+    structure::any_meld(ms, |m| wait::is_penchan(m, t) | wait::is_kanchan(m, t))
 }
 
 // The fu of the wait: 2 on the pair, on an edge or in the middle.

@@ -10,6 +10,7 @@ ghost use Rattle.meld_yaku.specs.Standard.{of_standard};
 ghost use Rattle.honor_yaku.specs.Honors.{yakuhai_of, dragons, winds, shousangen, daisangen, shousuushii, daisuushii};
 
 use meld_yaku::{has_set, is_set_of};
+use structure::any_meld;
 use wait::count_melds;
 
 // How many triplets and kans of dragons there are.
@@ -43,8 +44,10 @@ pub fn check_yakuhai(h: structure::HandStructure, w: context::GameContext, t: u8
 fn has_honor_set(ms: [meld::Meld; 4]) -> bool
     ensures { result ≡ any (set_of is_honor) ms }
 {
-    ms.iter()
-        .any(|m| m.is_triplet_or_kan() & tile::Tile(m.tile).is_honor())
+    any_meld(
+        ms,
+        |m| m.is_triplet_or_kan() & tile::Tile(m.tile).is_honor(),
+    )
 }
 
 // The tallies of the seven honors.

@@ -1,11 +1,12 @@
 -- What an iterator's chain answers, in the words of `Fold`: the library's tests, sums and counts over a list are those. Assumes nothing.
 use denote.Param.Members.{Mut}
+use mathlib.Core.Bool.{and-true, or-false, and_assoc, or_assoc}
 use native.Mathlib.Decide.{ℕ_discrete}
 use Rattle.std.proofs.Common.{ℕ, zero, suc, ◌+◌, ◌<◌, ◌≤◌, ◌≡◌, Bool, true, false, cond, ◌||◌, ◌&&◌, List, [], ◌∷◌, map, length, get_or, refl, ap, sym, subst, ◌∙◌, arith}
 use Rattle.std.proofs.lemmas.List.{ext_get_or, length-map}
 use Rattle.std.specs.Array.{IsMapOf, MapsFrom}
 use Rattle.std.specs.Fn.{Called}
-use Rattle.std.specs.List.{list_any, list_all, sum_by, filter}
+use Rattle.std.specs.List.{list_any, list_all, sum_by, filter, fold}
 use Rattle.std.proofs.lemmas.List.Recursion.{is_sum_by}
 use Rattle.std.specs.Int.{from_bool}
 use Rattle.lists.specs.Fold.{any, all, sum, count, one}
@@ -30,6 +31,16 @@ module _ {A : Type 0} where
   pub count_is : (p : A → Bool) (l : List A) → length (filter p l) ≡ count p l
   count_is p [] = refl
   count_is p (a ∷ l) = one_more (p a) a (filter p l) ∙ ap (λ n. one (p a) + n) (count_is p l)
+
+-- a fold that asks each element, with no jump between them
+module _ {A : Type 0} (p : A → Bool) where
+  pub fold_or : (b : Bool) (l : List A) → fold (λ b a. b || p a) b l ≡ (b || any p l)
+  fold_or b [] = sym (or-false b)
+  fold_or b (a ∷ l) = fold_or (b || p a) l ∙ or_assoc b (p a) (any p l)
+
+  pub fold_and : (b : Bool) (l : List A) → fold (λ b a. b && p a) b l ≡ (b && all p l)
+  fold_and b [] = sym (and-true b)
+  fold_and b (a ∷ l) = fold_and (b && p a) l ∙ and_assoc b (p a) (all p l)
 
 -- `u8::from` of a yes or no
 pub one_is : (b : Bool) → from_bool b ≡ one b

@@ -16,7 +16,7 @@ pub fn is_set_of(m: meld::Meld, t: u8) -> bool
 pub fn has_set(ms: [meld::Meld; 4], t: u8) -> bool
     ensures { result ≡ any (set_of (eqb t)) ms }
 {
-    ms.iter().any(|m| is_set_of(*m, t))
+    structure::any_meld(ms, |m| is_set_of(m, t))
 }
 
 // The tiles of the tile's number in man, pin and sou.

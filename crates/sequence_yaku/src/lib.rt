@@ -21,7 +21,7 @@ fn is_run_from(m: meld::Meld, t: u8) -> bool
 fn has_run(ms: [meld::Meld; 4], t: u8) -> bool
     ensures { result ≡ any (run_from t) ms }
 {
-    ms.iter().any(|m| is_run_from(*m, t))
+    structure::any_meld(ms, |m| is_run_from(m, t))
 }
 
 // Are two melds the same sequence, from a tile where one can start?

@@ -11,6 +11,7 @@ ghost use Rattle.meld_yaku.specs.Standard.{of_standard};
 ghost use Rattle.set_yaku.specs.Sets.{toitoi, kans, san_ankou, sanshoku_doukou, suuankou};
 
 use meld_yaku::{has_set, three_suits};
+use structure::all_melds;
 use wait::count_melds;
 
 // How many triplets and kans are concealed; with `kept` a triplet of the ron tile too.
@@ -37,7 +38,7 @@ pub fn check_toitoi(h: structure::HandStructure) -> bool
     let structure::HandStructure::Standard { pair: _, melds } = h else {
         return false;
     };
-    melds.iter().all(|m| m.is_triplet_or_kan())
+    all_melds(melds, |m| m.is_triplet_or_kan())
 }
 
 // Is there a triplet or kan of the tile's number in each suit?

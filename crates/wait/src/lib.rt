@@ -8,13 +8,19 @@ ghost use Rattle.structure.specs.Structure.{reading_of};
 ghost use Rattle.wait.specs.Wait.{within, two_sided, edge, middle, closed_run, closed_triplet, waits, weight, pinfu};
 ghost use Rattle.wait.specs.Concealed.{spared, concealed};
 
-// How many of the four melds pass the test.
+use structure::{all_melds, any_meld};
+
+// How many of the four melds pass the test. All four are asked, with no jump between them: `filter` with `count` takes longer.
 pub fn count_melds<F: Fn(meld::Meld) -> bool>(ms: [meld::Meld; 4], test: F) -> u8
     requires { F.IsAlwaysCallable test }
     ensures tally { (p : Meld → Bool) → ((m : Meld) (b : Bool) → F.post test m b → b ≡ p m) → result ≡ count p ms }
     ensures bound { result ≤ 4 }
 {
-    ms.iter().filter(|m| test(**m)).count() as u8
+    let mut n = 0;
+    for m in ms {
+        n += u8::from(test(m));
+    }
+    n
 }
 
 // The tile that a closed sequence starts at; for any other meld a number above every tile.
@@ -69,7 +75,7 @@ fn holds(m: meld::Meld, t: u8) -> bool
 pub fn winning_tile_in_closed_sequence(ms: [meld::Meld; 4], w: context::GameContext) -> bool
     ensures { result ≡ spared w ms }
 {
-    ms.iter().any(|m| holds(*m, w.winning_tile))
+    any_meld(ms, |m| holds(m, w.winning_tile))
 }
 
 // Is it a closed kan, or a closed triplet that no ron completed? With `kept` a triplet of the ron tile counts too.
@@ -122,6 +128,6 @@ pub fn is_pinfu(h: structure::HandStructure, w: context::GameContext, opened: bo
     };
     let t = w.winning_tile;
     !opened
-        & (melds.iter().all(|m| m.is_sequence())
-            & ((weight(w, pair.0) == 0) & melds.iter().any(|m| is_ryanmen(*m, t))))
+        & (all_melds(melds, |m| m.is_sequence())
+            & ((weight(w, pair.0) == 0) & any_meld(melds, |m| is_ryanmen(m, t))))
 }

@@ -2,7 +2,6 @@
 use Rattle.std.proofs.Common.{rules, tests, ◌≡◌, Bool, true, false, ◌||◌, List, [], ◌∷◌, refl, ap, ◌∙◌}
 use Rattle.lists.specs.Fold.{any}
 use Rattle.meld.specs.declared.Meld.{Meld}
-use Rattle.structure.proofs.Asked.{any_asked}
 use Rattle.wait.specs.Wait.{closed_run, edge, middle}
 use Rattle.fu.proofs.any_close.Goals as goal
 
@@ -19,5 +18,5 @@ either p q (m ∷ l) = ap (λ b. p m || q m || b) (either p q l) ∙ between (p 
 pub returns : goal.returns
 returns c =
     let t = c.args.t in
-    any_asked (λ m. closed_run edge t m || closed_run middle t m) c.args.ms (cc) c.any.ensures.ran (λ x b q k. search (rules, tests))
+    c.any_meld.ensures (λ m. closed_run edge t m || closed_run middle t m) (λ m b k. search (rules, tests))
     ∙ either (closed_run edge t) (closed_run middle t) c.args.ms

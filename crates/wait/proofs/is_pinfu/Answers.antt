@@ -1,7 +1,6 @@
 -- `is_pinfu` meets its contract: it asks the definition's question of a standard reading and answers no of another.
 -- Assumes nothing.
 use Rattle.std.proofs.Common.{rules, tests, ◌≡◌, refl, false}
-use Rattle.structure.proofs.Asked.{any_asked, all_asked}
 use Rattle.structure.proofs.Cases.{otherwise}
 use Rattle.meld.specs.Meld.{is_sequence}
 use Rattle.wait.specs.Wait.{pinfu, closed_run, two_sided}
@@ -10,12 +9,11 @@ use Rattle.wait.proofs.is_pinfu.Goals as goal
 pub returns : goal.returns
 unfolding pinfu
 returns c =
-    let ms = c.in-Standard.melds in
     simp (
       c.in-Standard.is,
-      all_asked is_sequence ms (cc) c.all.ensures.ran (λ x b q k. search (rules, tests)),
+      c.all_melds.ensures is_sequence (λ m b k. search (rules, tests)),
       c.weight.ensures.0,
-      any_asked (closed_run two_sided c.args.w.winning_tile) ms (cc) c.any.ensures.ran (λ x b q k. search (rules, tests)),
+      c.any_meld.ensures (closed_run two_sided c.args.w.winning_tile) (λ m b k. search (rules, tests)),
     )
 
 pub returns-in_default : goal.returns-in_default
