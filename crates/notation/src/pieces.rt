@@ -129,7 +129,9 @@ pub fn words_of(argument: &[u8]) -> Words<'_> {
 
 impl Part<'_> {
     // The bytes that are no blanks, up to 512, in a buffer.
-    pub fn joined<'b>(self, buffer: &'b mut [u8; 512]) -> &'b [u8] {
+    pub fn joined<'b>(self, buffer: &'b mut [u8; 512]) -> &'b [u8]
+        ensures few { length result.now ≤ 512 }
+    {
         let mut n = 0;
         for c in self.text {
             if !is_blank(*c) && n < 512 {

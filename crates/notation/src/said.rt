@@ -1,9 +1,9 @@
 // What the words say: the hand, its calls and the win.
-ghost use Rattle.std.specs.Prelude.{◌≡◌, true, false, ◌&&◌, cond, ◌<◌, length, IfOk, OnOk, unwrap_or};
+ghost use Rattle.std.specs.Prelude.{◌≡◌, true, false, ◌&&◌, cond, ◌+◌, ◌%◌, ◌<◌, length, IfOk, OnOk, unwrap_or};
 ghost use Rattle.context.specs.Context.{in_range};
 ghost use Rattle.call_words.specs.Calls.{with_call};
 ghost use Rattle.rules.specs.Rules.{game};
-ghost use Rattle.notation.specs.Said.{TilesAdded, WonOn, IndicatorsAdded, SourceSaid, GameSaid, win_of};
+ghost use Rattle.notation.specs.Said.{TilesAdded, WonOn, IndicatorsAdded, SourceSaid, GameSaid, wind_tile, win_of};
 ghost use Rattle.notation.specs.Table.{played_by, is_three, any_across, seated_at};
 
 use crate::faults::{Fault, Misread, Stop, Wrong, of_hand_tiles};
@@ -66,6 +66,18 @@ fn wind_in(word: &[u8]) -> Result<Wind, Wrong> {
     match known_words::wind_named(word) {
         Some(wind) => Ok(wind),
         None => Err(Wrong::from(Fault::NoWind)),
+    }
+}
+
+// The wind of a number, 0 for East; past North it begins anew. So a caller that holds a byte for the round or the seat can say it, whatever the byte.
+pub fn wind_of(n: u8) -> Wind
+    ensures { wind_tile result ≡ 27 + n % 4 }
+{
+    match n % 4 {
+        0 => Wind::East,
+        1 => Wind::South,
+        2 => Wind::West,
+        _ => Wind::North,
     }
 }
 

@@ -137,7 +137,8 @@ fn is_good_at(word: &[u8], i: usize) -> bool
 
 // How many good characters a word begins with.
 fn good_length(word: &[u8]) -> usize
-    ensures { result ≡ good_length 0 word.now }
+    ensures good { result ≡ good_length 0 word.now }
+    ensures within { result ≤ length word.now }
 {
     for i in 0..word.len() {
         if !is_good_at(word, i) {
@@ -175,12 +176,12 @@ fn fault_of(text: &[u8]) -> Fault {
     }
 }
 
-// The place of the character at fault, where the first that is not good stands at i: a strange one behind numbers, else that one.
-fn fault_place(word: &[u8], i: usize) -> usize
-    requires good { i ≡ good_length 0 word.now }
-    requires within { i ≤ length word.now }
+// The place of the character at fault in a word of tiles; the word's length where it is good. A strange character behind numbers is at fault, else the
+// first that is not good.
+pub fn fault_place(word: &[u8]) -> usize
     ensures { result ≡ fault_place word.now }
 {
+    let i = good_length(word);
     let next = i + leading(&word[i..]);
     if chars::is_strange(char_at(word, next)) {
         return next;
@@ -199,6 +200,6 @@ pub fn check_tiles(word: &[u8]) -> Result<(), BadTiles>
     }
     Err(BadTiles {
         fault: fault_of(&word[i..]),
-        at: fault_place(word, i),
+        at: fault_place(word),
     })
 }
