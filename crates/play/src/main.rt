@@ -58,35 +58,32 @@ fn listing_of(rec: &[u8; 1024]) -> Result<usize, u32> {
     }
 }
 
-// A score.
-fn answer_of(a: choice::ScoreAnswer) -> Answer {
-    if a.number != 0 {
-        return Err(u32::from(a.number));
-    }
-    Ok(stored::Scored {
-        reading: a.reading,
-        score: stored::Score::from(a.score),
-    })
+// A score; none where a value stands beside a refusal.
+fn answer_of(a: choice::ScoreAnswer) -> Option<Answer> {
+    stored::answer(
+        u32::from(a.number),
+        stored::Scored {
+            reading: a.reading,
+            score: stored::Score::from(a.score),
+        },
+    )
 }
 
 // The score of the record's win.
-fn score_of(rec: &[u8; 1024]) -> Answer {
+fn score_of(rec: &[u8; 1024]) -> Option<Answer> {
     answer_of(win::score_win(&rec[128..162], called(rec), stored::win_at(rec, 175)))
 }
 
 // The score of a reading.
-fn reading_score(rec: &[u8; 1024], k: usize) -> Answer {
+fn reading_score(rec: &[u8; 1024], k: usize) -> Option<Answer> {
     answer_of(win::score_reading(&rec[128..162], called(rec), stored::win_at(rec, 175), k))
 }
 
-// The waits of a reading.
-fn waits_of(rec: &[u8; 1024], k: usize) -> Result<[u8; 6], u32> {
+// The waits of a reading; none where a value stands beside a refusal.
+fn waits_of(rec: &[u8; 1024], k: usize) -> Option<Result<[u8; 6], u32>> {
     let win = stored::win_at(rec, 175);
     let a = win::name_waits(&rec[128..162], called(rec), win, k);
-    if a.number != 0 {
-        return Err(u32::from(a.number));
-    }
-    Ok(a.waits)
+    stored::answer(u32::from(a.number), a.waits)
 }
 
 // The basic points of a record: given, or those of han and fu.
@@ -111,14 +108,14 @@ fn payment_of(rec: &[u8; 1024]) -> Result<stored::Paid, u32> {
 fn same_reading(rec: &[u8; 1024], k: usize) -> bool
     requires { k < 8 }
 {
-    (reading_score(rec, k) == Ok(stored::slot_at(rec, k)))
-        & (waits_of(rec, k) == Ok(*stored::part(stored::slot(rec, k), 47)))
+    (reading_score(rec, k) == Some(Ok(stored::slot_at(rec, k))))
+        & (waits_of(rec, k) == Some(Ok(*stored::part(stored::slot(rec, k), 47))))
 }
 
 // Is reading number n refused as the record says?
 fn same_next(rec: &[u8; 1024], n: usize) -> bool {
     let number = u32::from(rec[215]);
-    (reading_score(rec, n) == Err(number)) & (waits_of(rec, n) == Err(number))
+    (reading_score(rec, n) == Some(Err(number))) & (waits_of(rec, n) == Some(Err(number)))
 }
 
 // Does every operation on the record's hand answer what it says?
@@ -128,8 +125,9 @@ fn same_hand(rec: &[u8; 1024]) -> bool {
     if readings > 8 {
         return false;
     }
+    let chosen = score_of(rec);
     (listing == Some(listing_of(rec)))
-        & (stored::chosen_at(rec) == Some(score_of(rec)))
+        & (chosen.is_some() & (stored::chosen_at(rec) == chosen))
         & (0..readings).all(|k| same_reading(rec, k))
         & same_next(rec, readings)
 }
@@ -150,8 +148,9 @@ fn same_points(rec: &[u8; 1024]) -> bool {
 // Writes the answer to the record's win; where there are several readings, also how many and which one is chosen.
 fn print_win(rt: &impl Print, rec: &[u8; 1024]) -> io::Result<()> {
     let scored = match score_of(rec) {
-        Ok(scored) => scored,
-        Err(number) => return print!(rt; "refused with {number}"),
+        Some(Ok(scored)) => scored,
+        Some(Err(number)) => return print!(rt; "refused with {number}"),
+        None => return print!(rt; "refused, with a value beside it"),
     };
     if let Ok(readings) = listing_of(rec)
         && readings > 1

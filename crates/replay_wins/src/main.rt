@@ -41,30 +41,28 @@ const NO_READING: u32 = 12;
 // A score, or the number of a refusal.
 type Answer = Result<stored::Scored, u32>;
 
-// The library's answer about a win or a reading.
-fn answer_of(a: choice::ScoreAnswer) -> Answer {
-    if a.number != 0 {
-        return Err(u32::from(a.number));
-    }
-    Ok(stored::Scored {
-        reading: a.reading,
-        score: stored::Score::from(a.score),
-    })
+// The library's answer about a win or a reading; none where a value stands beside a refusal.
+fn answer_of(a: choice::ScoreAnswer) -> Option<Answer> {
+    stored::answer(
+        u32::from(a.number),
+        stored::Scored {
+            reading: a.reading,
+            score: stored::Score::from(a.score),
+        },
+    )
 }
 
-// The library's answer about waits.
-fn waits_of(a: win::WaitsAnswer) -> Result<[u8; 6], u32> {
-    if a.number != 0 {
-        return Err(u32::from(a.number));
-    }
-    Ok(a.waits)
+// The library's answer about waits; none where a value stands beside a refusal.
+fn waits_of(a: win::WaitsAnswer) -> Option<Result<[u8; 6], u32>> {
+    stored::answer(u32::from(a.number), a.waits)
 }
 
 // Is the answer the one at a place: its number, that of the reading, and the score?
-fn same_answer(rec: &[u8; 256], at: usize, answer: Answer) -> bool
+fn same_answer(rec: &[u8; 256], at: usize, answer: Option<Answer>) -> bool
     requires { at + 76 ≤ 256 }
 {
-    stored::answer(u32::from(rec[at]), stored::scored_at(rec, at + 1)) == Some(answer)
+    let said = stored::answer(u32::from(rec[at]), stored::scored_at(rec, at + 1));
+    answer.is_some() & (said == answer)
 }
 
 // Scores the win of a record.
@@ -72,8 +70,9 @@ fn ask_win(rec: &[u8; 256], counts: &[u8], tally: &mut Tally) {
     let calls = stored::calls_at(rec, 41);
     let answer = answer_of(win::score_win(counts, calls, stored::win_at(rec, 55)));
     match answer {
-        Ok(_) => stored::count(&mut tally.kinds.scored, true),
-        Err(number) => tally.kinds.refused.count(number),
+        Some(Ok(_)) => stored::count(&mut tally.kinds.scored, true),
+        Some(Err(number)) => tally.kinds.refused.count(number),
+        None => (),
     }
     tally.record(same_answer(rec, 92, answer));
 }
@@ -83,8 +82,8 @@ fn ask_reading(rec: &[u8; 256], counts: &[u8], tally: &mut Tally) {
     let n = stored::u16_at(rec, 90);
     let calls = stored::calls_at(rec, 41);
     let answer = answer_of(win::score_reading(counts, calls, stored::win_at(rec, 55), n));
-    stored::count(&mut tally.kinds.readings, answer.is_ok());
-    stored::count(&mut tally.kinds.missing, answer == Err(NO_READING));
+    stored::count(&mut tally.kinds.readings, matches!(answer, Some(Ok(_))));
+    stored::count(&mut tally.kinds.missing, answer == Some(Err(NO_READING)));
     tally.answer(same_answer(rec, 168, answer));
 }
 
@@ -94,7 +93,8 @@ fn ask_waits(rec: &[u8; 256], counts: &[u8], tally: &mut Tally) {
     let calls = stored::calls_at(rec, 41);
     let answer = waits_of(win::name_waits(counts, calls, stored::win_at(rec, 55), n));
     let waits: [u8; 6] = *stored::part(rec, 245);
-    tally.answer(stored::answer(u32::from(rec[244]), waits) == Some(answer));
+    let said = stored::answer(u32::from(rec[244]), waits);
+    tally.answer(answer.is_some() & (said == answer));
 }
 
 // Replays a record. One with a length out of range differs, and nothing is asked.
