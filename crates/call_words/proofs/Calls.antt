@@ -1,5 +1,5 @@
 -- Calls by their tiles: there is one of a kind at most, but for its source, and those of the tiles counted are those of the tiles that the word names. Assumes nothing.
-use mathlib.Core.Path.{◌≡◌, refl, sym, ap, ap₂, ◌∙◌}
+use mathlib.Core.Path.{◌≡◌, refl, sym, ap, ap₂, ◌∙◌, subst}
 use mathlib.Core.Bool.{Bool, true, false}
 use mathlib.Core.List.{List, [], ◌∷◌}
 use Prim.Native.Nat.{ℕ, ◌<◌, ◌≤◌}
@@ -54,6 +54,14 @@ pub tried : (cs : List ℕ) (r k : ℕ) (l : Meld) → l ≡ meld r k → is_cal
 tried cs r k l is call same = ((call, (ap (is_kind k) is ∙ eq-eqb k k refl, same)), is ∙ sym (ap but_source is))
 
 -- ---- open calls
+-- what was found by one test passes a weaker one
+pub weaker :
+    (p q : Meld → Bool) → ((m : Meld) → p m ≡ true → q m ≡ true) → (cs : List ℕ) (f : Option Meld) (m : Meld) → f ≡ Some m
+    → IsCallOf p cs f → IsCallOf q cs f
+weaker p q g cs f m e x =
+    let y = subst (IsCallOf p cs) e x in
+    subst (IsCallOf q cs) (sym e) ((y.0.0, (g m y.0.1.0, y.0.1.1)), y.1)
+
 -- kans, triplets and sequences that were called are open
 pub open_kind : (k : ℕ) → is_open (meld 0 k) ≡ true → (m : Meld) → is_kind k m ≡ true → is_open m ≡ true
 open_kind k e m h = ap (λ (n : ℕ). is_open (meld 0 n)) (eqb-true m.kind k h) ∙ e

@@ -1,8 +1,8 @@
 -- The lowest of a call's tiles is the call's own. Assumes nothing.
-use mathlib.Core.Path.{◌≡◌, refl}
+use mathlib.Core.Path.{◌≡◌, refl, ap}
 use mathlib.Core.Bool.{Bool, true, false, cond}
 use mathlib.Core.List.{List}
-use Prim.Native.Nat.{ℕ, ◌<◌, ◌≤◌}
+use Prim.Native.Nat.{ℕ, ◌<◌, ◌≤◌, ◌+◌}
 use native.Mathlib.Omega.{arith}
 use lib.Dec.{eqb, ltb, eqb→eq}
 use borrow.Author.Tests.{eq-eqb, ne_eqb, ltb-true, ltb-false}
@@ -18,6 +18,18 @@ use Rattle.hand.specs.Counts.{held}
 use Rattle.hand.proofs.Lowest.{run_in, run_before}
 use Rattle.checks.proofs.Turns.{test_at}
 use Rattle.call_words.specs.Calls.{made_of, Lowest, IsLowest}
+use native.Mathlib.Decide.{ℕ_discrete}
+
+-- ---- tile by tile: none of those below u is there
+abbrev pub Clear : List ℕ → ℕ → Type 0
+Clear cs u = (t : ℕ) → t < u → held cs t ≡ 0
+
+pub clear_next : (cs : List ℕ) (u : ℕ) → held cs u ≤ 0 → Clear cs u → Clear cs (u + 1)
+clear_next cs u z f t h = go (ℕ_discrete t u)
+  where
+    go : Dec (t ≡ u) → held cs t ≡ 0
+    go (yes e) = let k = ap (held cs) e in omega arith
+    go (no n) = f t (omega arith)
 
 -- ---- the first count above 0 is that of the lowest tile
 pub first_is_lowest :

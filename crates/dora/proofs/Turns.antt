@@ -1,15 +1,18 @@
--- What the proofs of the code use: the table of dora is the definition's, and a number above 33 stays. Assumes nothing.
-use mathlib.Core.Path.{◌≡◌, refl}
+-- What the proofs of the code use: the table of dora is the definition's, a number above 33 stays, and what one indicator adds to a count. Assumes nothing.
+use mathlib.Core.Path.{◌≡◌, refl, ap, ◌∙◌}
 use mathlib.Core.Bool.{Bool, true, false, ◌&&◌}
-use mathlib.Core.List.{map}
-use Prim.Native.Nat.{ℕ, ◌<◌, ◌≤◌}
+use mathlib.Core.List.{map, List, [], ◌∷◌}
+use Prim.Native.Nat.{ℕ, ◌<◌, ◌≤◌, ◌+◌}
 use native.Mathlib.Omega.{arith}
 use lib.Dec.{eqb, ltb, eqb→eq}
-use lib.ListN.{get_or}
+use lib.ListN.{get_or, length, take}
 use borrow.Author.Tests.{le-ltb}
 use Rattle.lists.proofs.Finite.{at}
 use Rattle.tile.specs.Tile.{tiles}
-use Rattle.dora.specs.Dora.{dora_of}
+use Rattle.dora.specs.Dora.{dora_of, count_of}
+use native.Mathlib.Numerals.{add-one}
+use lib.Seq.{take-suc}
+use Rattle.lists.proofs.Sums.{sum_append}
 
 -- the table that has the dora of each tile at its place
 pub at_table : (t : ℕ) → t < 34 → get_or (map dora_of tiles) t 0 ≡ dora_of t
@@ -28,3 +31,12 @@ dora_above t h =
     and_no : (b : Bool) → (b && false) ≡ false
     and_no true = refl
     and_no false = refl
+
+-- one indicator more
+pub count_next :
+    (c : ℕ → ℕ) (ts : List ℕ) (i : ℕ) → i < length ts → count_of c (take (i + 1) ts) ≡ count_of c (take i ts) + c (dora_of (get_or ts i 0))
+count_next c ts i h =
+    ap (λ (n : ℕ). count_of c (take n ts)) (add-one i)
+    ∙ ap (count_of c) (take-suc ts i 0 h)
+    ∙ sum_append (λ t. c (dora_of t)) (take i ts) (get_or ts i 0 ∷ [])
+    ∙ omega arith

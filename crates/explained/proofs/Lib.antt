@@ -1,4 +1,5 @@
 pub mod Numbers
+pub mod Places
 pub mod Rounded
 pub mod Parts
 pub mod PartsExamples

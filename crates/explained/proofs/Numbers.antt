@@ -1,5 +1,17 @@
 -- Numbers below a bound, one by one. Assumes nothing.
-use Prim.Native.Nat.{ℕ, zero, suc}
+use mathlib.Core.Path.{◌≡◌}
+use Prim.Native.Nat.{ℕ, zero, suc, ◌≤◌}
+use native.Mathlib.Omega.{arith}
+
+-- a match on the numbers below k took none of their arms
+abbrev NoArm : ℕ → ℕ → Type 0
+NoArm zero n = Unit {0}
+NoArm (suc k) n = NoArm k n × (n ≡ k → ⊥)
+
+-- so the number is not below k
+pub past : (k n : ℕ) → NoArm k n → k ≤ n
+past zero n h = omega arith
+past (suc k) n h = let before = past k n h.0 in omega (arith, h.1)
 
 -- what holds of 0 to 7 and of every number from 8 on holds of every number
 pub eight :

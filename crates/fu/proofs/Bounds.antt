@@ -1,7 +1,7 @@
 -- Bounds of fu: at most 170, and those of the parts. Assumes nothing.
 use mathlib.Core.Bool.{Bool, true, false}
 use mathlib.Core.List.{List}
-use Prim.Native.Nat.{ℕ, ◌+◌, ◌<◌, ◌≤◌, max}
+use Prim.Native.Nat.{ℕ, ◌+◌, ◌<◌, ◌≤◌, max, ◌*◌}
 use native.Mathlib.Omega.{arith}
 use lib.Dec.{lit≤, lit<}
 use lib.ListN.{length}
@@ -19,6 +19,11 @@ use Rattle.wait.specs.Wait.{pinfu}
 use Rattle.wait.specs.Concealed.{concealed, spared}
 use Rattle.fu.specs.Fu.{set_fu, meld_fu, pair_fu, close_wait, wait_fu, win_fu, base_fu, round_up_to10, pinfu_fu, standard_fu, fu}
 use Rattle.fu.proofs.DoubleWind.{pair_fu_le}
+use native.Mathlib.Nat.{mul-le-mul}
+
+-- the products of a triplet's or a kan's fu are bytes
+pub set_fits : (base kan closed : ℕ) → base ≤ 4 → kan ≤ 4 → closed ≤ 2 → (kan * closed ≤ 8) × (base * (kan * closed) ≤ 32)
+set_fits base kan closed b k c = let inner = mul-le-mul k c in (inner, mul-le-mul b inner)
 
 set_fu_le_holds : (outer kan hidden : Bool) → set_fu outer kan hidden ≤ 32
 set_fu_le_holds false false false = lit≤ tt

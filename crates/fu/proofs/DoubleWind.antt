@@ -88,6 +88,13 @@ pair_fu_le w p =
     by_wind w p (λ (n : ℕ). n ≤ 4) (λ h. cond_le (eqb w.double_wind_fu 2) _ _ 4 (lit≤ tt) (lit≤ tt))
     (λ h. let k = at_most_twice_holds w p h in omega arith)
 
+-- what is answered by a question b that is this one: of both winds what the room gives, of another pair twice how often it counts
+pub pair_fu_is :
+    (w : GameContext) (p r : ℕ) (b : Bool) → double_wind w p ≡ b → r ≡ cond b (double_wind_fu w) (2 * weight w p) → (r ≡ pair_fu w p) × (r ≤ 4)
+pair_fu_is w p r b h e =
+    let is : r ≡ pair_fu w p = rw h e in
+    (is, (let k = pair_fu_le w p in omega arith))
+
 -- none for a pair that does not count
 pub no_pair_fu : (w : GameContext) (p : ℕ) → weight w p ≡ 0 → pair_fu w p ≡ 0
 no_pair_fu w p e =

@@ -1,3 +1,4 @@
+pub mod Otherwise
 pub mod Renamed
 pub mod Few
 pub mod Laws

@@ -1,6 +1,6 @@
 -- A run of stores from a place on: one store, and the rest; what it makes of a list; and a copy, which is such a run. Assumes nothing.
 use borrow.Rule.Slice.PartMut.{put_mid}
-use mathlib.Core.Path.{◌≡◌, refl, sym, ap, ◌∙◌}
+use mathlib.Core.Path.{◌≡◌, refl, sym, ap, ◌∙◌, ap₂}
 use mathlib.Core.List.{List, ◌++◌, append-nil, append_assoc}
 use Prim.Native.Nat.{ℕ, suc, ◌+◌, ◌-◌, ◌<◌, ◌≤◌}
 use native.Mathlib.Numerals.{add-one}
@@ -17,6 +17,18 @@ module _ (d s : List ℕ) where
       ap (sets d p) (drop-cons s i 0 h)
       ∙ ap (λ (k : ℕ). sets (set d p (get_or s i 0)) k (drop (suc i) s)) (sym (add-one p))
       ∙ ap (λ (k : ℕ). sets (set d p (get_or s i 0)) (p + 1) (drop k s)) (sym (add-one i))
+
+  -- where nothing is stored yet, the whole of s is left
+  pub sets_start : (at i : ℕ) → i ≡ 0 → sets d (at + i) (drop i s) ≡ sets d at s
+  sets_start at i h =
+      let e : at + i ≡ at = omega (arith, h) in
+      ap₂ (λ (k j : ℕ). sets d k (drop j s)) e h
+
+  -- the whole of s is stored from at on
+  pub sets_turn : (at i : ℕ) → i < length s → sets d (at + i) (drop i s) ≡ sets (set d (at + i) (get_or s i 0)) (at + (i + 1)) (drop (i + 1) s)
+  sets_turn at i h =
+      let e : at + i + 1 ≡ at + (i + 1) = omega arith in
+      sets_next (at + i) i h ∙ ap (λ (k : ℕ). sets (set d (at + i) (get_or s i 0)) k (drop (i + 1) s)) e
 
   -- stored from the first place on, s stands first, and behind it what d had there
   pub sets_first : length s ≤ length d → sets d 0 s ≡ s ++ drop (length s) d

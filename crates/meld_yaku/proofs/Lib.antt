@@ -1,3 +1,4 @@
+pub mod Otherwise
 pub mod Lines
 pub mod Renamed
 pub mod Few

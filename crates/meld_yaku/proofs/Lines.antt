@@ -8,7 +8,7 @@ use Prim.Native.Nat.{ℕ, zero, suc, ◌+◌, ◌%◌, ◌<◌, ◌≤◌}
 use native.Mathlib.Omega.{arith}
 use native.Mathlib.Decide.{ℕ_discrete}
 use lib.Dec.{T, eqb, ltb, eqb→eq, ltb→lt, lt→ltb}
-use lib.ListN.{length, take}
+use lib.ListN.{length, take, get_or}
 use Rattle.lists.specs.Fold.{all, any, up_from}
 use Rattle.lists.proofs.Finite.{and_left, and_right, and_both, or_elim, or_left, or_right, T-eq}
 use Rattle.meld.specs.declared.Meld.{Meld}
@@ -136,3 +136,11 @@ set_own t m h = eqb→eq t m.tile (and_right (is_triplet_or_kan m) _ h)
 -- ---- the line of a number in the three suits
 pub of_number : (k : ℕ) → k < 9 → Line (λ t. t % 9) k k (k + 9) (k + 18)
 of_number k h = (omega arith, omega arith, omega arith, omega arith, omega arith)
+
+-- ---- the tiles of the first two melds
+module _ (ms : List Meld) (m : Meld) where
+  abbrev pub first : ℕ
+  first = (get_or ms 0 m).tile
+
+  abbrev pub second : ℕ
+  second = (get_or ms 1 m).tile

@@ -1,7 +1,7 @@
 -- What the code's parts read, over plain numbers: the reading by its kind, and the place of a record one step on. Assumes nothing.
 use mathlib.Core.Path.{◌≡◌, sym, ap, ap₂}
 use mathlib.Core.List.{List, [], ◌∷◌, map}
-use Prim.Native.Nat.{ℕ, suc, ◌+◌, ◌-◌, ◌*◌, ◌<◌}
+use Prim.Native.Nat.{ℕ, suc, ◌+◌, ◌-◌, ◌*◌, ◌<◌, ◌≤◌}
 use native.Mathlib.Omega.{arith}
 use borrow.Author.Tests.{eq-eqb, ne_eqb}
 use Rattle.lists.specs.Fold.{up_from}
@@ -33,7 +33,15 @@ module _ (b : List ℕ) (i : ℕ) where
       at e = ap (meld_at b) e
 
 -- ---- the place of a record
+-- all records are left
+pub place_start : (b : List ℕ) (n at : ℕ) → place_of b (n - 0) at ≡ place_of b n at
+place_start b n at = let e : n - 0 ≡ n = omega arith in ap (λ (m : ℕ). place_of b m at) e
+
 module _ (b : List ℕ) (n i at : ℕ) where
   -- one record on
   pub place_next : i < n → place_of b (n - (i + 1)) (at + byte_at b at) ≡ place_of b (n - i) at
   place_next h = let e : n - i ≡ suc (n - (i + 1)) = omega arith in sym (ap (λ (m : ℕ). place_of b m at) e)
+
+  -- no record is left
+  pub place_end : n ≤ i → place_of b (n - i) at ≡ at
+  place_end h = let e : n - i ≡ 0 = omega arith in ap (λ (m : ℕ). place_of b m at) e

@@ -5,6 +5,7 @@ use Rattle.lists.proofs.Elements.{four}
 use Rattle.meld.specs.declared.Meld.{Meld}
 use Rattle.hand.specs.Records.{standard_bytes}
 use Rattle.search.specs.Slots.{put, meld_of, slot_bytes, slot_record}
+use Prim.Native.Nat.{◌/◌, ◌%◌}
 
 -- the lower and the higher of two numbers
 lower : (x y : ℕ) → cond (leb x y) x y ≡ min x y
@@ -30,6 +31,16 @@ put_is x y z w p q r s l h e f g i j k m =
     cc
 
 -- the bytes of a record, slot by slot
+pub four_bytes : (p : ℕ) (l : List ℕ) → length l ≡ 4
+    → slot_record p l ≡ standard_bytes ∷ 0 ∷ 3 ∷ 0 ∷ p
+    ∷ get_or l 0 0 / 32 % 256 ∷ get_or l 0 0 / 4 % 8 ∷ get_or l 0 0 % 4
+    ∷ get_or l 1 0 / 32 % 256 ∷ get_or l 1 0 / 4 % 8 ∷ get_or l 1 0 % 4
+    ∷ get_or l 2 0 / 32 % 256 ∷ get_or l 2 0 / 4 % 8 ∷ get_or l 2 0 % 4
+    ∷ get_or l 3 0 / 32 % 256 ∷ get_or l 3 0 / 4 % 8 ∷ get_or l 3 0 % 4 ∷ []
+unfolding slot_record slot_bytes
+four_bytes p l e = ap (slot_record p) (four l 0 e)
+
+-- four melds that are those of the slots, byte by byte, are the record's bytes
 pub record_is :
     (p : ℕ) (l : List ℕ) → length l ≡ 4 → (a b c d : Meld)
     → a ≡ meld_of (get_or l 0 0) → b ≡ meld_of (get_or l 1 0) → c ≡ meld_of (get_or l 2 0) → d ≡ meld_of (get_or l 3 0)

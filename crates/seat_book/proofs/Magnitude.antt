@@ -37,6 +37,9 @@ read n = to_z w64 n
 pub stands : (z : ℤ) → mag z < 2 ^ 63 → to_z w64 (of_z w64 z) ≡ z
 stands z h = to_z-of_z w64 z (record { sfits = h })
 
+pub within_at : (z : ℤ) {r : Bool} → r ≡ is_within (to_z w64 (of_z w64 z)) → mag z < 2 ^ 63 → r ≡ is_within z
+within_at z e h = e ∙ ap is_within (stands z h)
+
 -- as do points within their limits
 pub stands_within : (p : ℤ) → is_within p ≡ true → to_z w64 (of_z w64 p) ≡ p
 stands_within p h = stands p (omega (arith, within_mag p h))

@@ -1,15 +1,16 @@
--- A loop over the tiles that writes some of them: the tiles from i on, and what one turn writes. Assumes nothing.
+-- Loops over the tiles: the tiles from i on, and what one turn does to a test or to a list over them. Assumes nothing.
 use mathlib.Core.Path.{◌≡◌, refl, sym, ap, ◌∙◌}
-use mathlib.Core.Bool.{Bool, true, false, cond}
-use mathlib.Core.List.{List, [], ◌∷◌, ◌++◌}
+use mathlib.Core.Bool.{Bool, true, false, cond, ◌&&◌}
+use mathlib.Core.List.{List, [], ◌∷◌, ◌++◌, Memᴰ}
 use Prim.Native.Nat.{ℕ, ◌+◌, ◌-◌, ◌≤◌, ◌<◌}
 use native.Mathlib.Numerals.{add-one}
 use native.Mathlib.Omega.{arith}
 use lib.ListN.{length, set, length-set}
 use lib.Seq.{sets}
-use Rattle.lists.specs.Fold.{keep, up_from}
+use Rattle.lists.specs.Fold.{keep, up_from, all}
 use Rattle.tile.specs.Tile.{tiles}
 use Rattle.hand.proofs.Sums.{up_from_next_holds, up_from_end_holds}
+use Rattle.lists.proofs.Ranges.{in_up_from_holds}
 
 -- the tiles from i on
 unfoldable pub rest : ℕ → List ℕ
@@ -27,7 +28,24 @@ pub rest_end : (i : ℕ) → 34 ≤ i → rest i ≡ []
 unfolding rest
 rest_end i h = up_from_end_holds i 34 h
 
+pub rest_on : (i : ℕ) {t : ℕ} → Memᴰ t (rest i) → i ≤ t
+unfolding rest
+rest_on i {t} m = (in_up_from_holds (34 - i) i t m).0
+
 module _ (p : ℕ → Bool) where
+  -- ---- a test at each tile
+  all_next : (i : ℕ) → i < 34 → all p (rest i) ≡ p i && all p (rest (i + 1))
+  all_next i h = ap (λ (l : List ℕ). all p l) (rest_next i h)
+
+  pub all_pass : (i : ℕ) → i < 34 → p i ≡ true → all p (rest i) ≡ all p (rest (i + 1))
+  all_pass i h e = all_next i h ∙ ap (λ (b : Bool). b && all p (rest (i + 1))) e
+
+  pub all_fail : (i : ℕ) → i < 34 → p i ≡ false → all p (rest i) ≡ false
+  all_fail i h e = all_next i h ∙ ap (λ (b : Bool). b && all p (rest (i + 1))) e
+
+  pub all_end : (i : ℕ) → 34 ≤ i → all p (rest i) ≡ true
+  all_end i h = ap (λ (l : List ℕ). all p l) (rest_end i h)
+
   -- ---- the tiles that pass a test
   keep_next : (i : ℕ) → i < 34 → keep p (rest i) ≡ cond (p i) (i ∷ []) [] ++ keep p (rest (i + 1))
   keep_next i h = ap (λ (l : List ℕ). keep p l) (rest_next i h)

@@ -2,7 +2,7 @@
 use mathlib.Core.Path.{◌≡◌, refl, sym, ap, ◌∙◌, subst}
 use mathlib.Core.Bool.{Bool, true, false, ◌&&◌, ◌||◌, not, cond, and-true, and-false}
 use mathlib.Core.List.{List, [], ◌∷◌, ◌++◌, map, append-nil, Memᴰ}
-use Prim.Native.Nat.{ℕ, ◌+◌, ◌%◌, ◌<◌}
+use Prim.Native.Nat.{ℕ, ◌+◌, ◌%◌, ◌<◌, suc, ◌≤◌}
 use native.Mathlib.Omega.{arith}
 use native.Mathlib.Numerals.{add-four}
 use lib.Dec.{T, eqb, eqb→eq}
@@ -27,6 +27,7 @@ use Rattle.hand.proofs.Tests.{seven_twos, orphans_exact, one_doubled}
 use Rattle.special.specs.Doubled.{doubled_in}
 use Rattle.special.specs.Kinds.{kinds_word}
 use Rattle.special.proofs.Words.{there, ones_kinds}
+use Rattle.special.proofs.Loops.{rest, keep_end, rest_on}
 
 -- ---- seven pairs
 
@@ -94,6 +95,10 @@ module _ (c : ℕ → ℕ) (p : ℕ) (h : T (is_orphans c p)) where
   orphan_kinds =
       ap total (map_members (λ t. one (there c t)) (λ t. one (is_terminal_or_honor t)) tiles (λ t m. ap one (orphan_there t m)))
 
+none_later : (c : ℕ → ℕ) (p : ℕ) → T (is_orphans c p) → p < 34 → keep (is_orphans c) (rest (p + 1)) ≡ []
+none_later c p h l =
+    keep_none (is_orphans c) (rest (p + 1)) (λ q m k. absurd (omega (arith, rest_on (p + 1) m, one_doubled c p q l h k)))
+
 module _ (c : ℕ → ℕ) where
   -- another number of kinds than thirteen
   pub orphans_none : (kinds : ℕ) → kinds ≡ kinds_word c → (ones kinds ≡ 13 → ⊥) → thirteen_orphans c ≡ []
@@ -113,12 +118,27 @@ module _ (c : ℕ → ℕ) where
       doubled None = refl
       doubled (Some p) = refl
 
+  -- nor is there one where none of the tiles is left
+  module _ (p : ℕ) (left : keep (is_orphans c) tiles ≡ keep (is_orphans c) (rest p)) where
+    pub orphans_end : 34 ≤ p → thirteen_orphans c ≡ []
+    unfolding thirteen_orphans
+    orphans_end l = ap (map orphans) (left ∙ keep_end (is_orphans c) p l)
+
 -- what is found among the tiles is one
 pub found_tile : (q : ℕ → Bool) (r : Option Tile) → option_map (λ (p : Tile). p.0) r ≡ find q tiles → IfSome r (λ p. p.0 < 34)
 found_tile q None e = tt
 found_tile q (Some p) e = tile_lt (find_in q tiles e)
 
 -- ---- records
+
+pub head_written :
+    (out : List ℕ) (at size kind : ℕ)
+    → set (set (set (set out at size) (at + 1) 0) (at + 2) kind) (at + 3) 0 ≡ sets out at (size ∷ 0 ∷ kind ∷ 0 ∷ [])
+head_written out at size kind =
+    let e : at + 1 ≡ suc at = omega arith in
+    let f : at + 2 ≡ suc (suc at) = omega arith in
+    let g : at + 3 ≡ suc (suc (suc at)) = omega arith in
+    rw (e, f, g)
 
 pub orphans_written :
     (out out' : List ℕ) (at p : ℕ) → out' ≡ sets out at (5 ∷ 0 ∷ 2 ∷ 0 ∷ []) → set out' (at + 4) p ≡ sets out at (record_of (orphans p))

@@ -1,3 +1,4 @@
+pub mod Four
 pub mod Asked
 pub mod Seven
 pub mod Cases

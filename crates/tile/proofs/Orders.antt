@@ -33,7 +33,7 @@ small true b x y z p q r = p
 small false true x y z p q r = q
 small false false x y z p q r = r
 
--- a place is at most 2, whatever number is asked for
+-- a place is at most 2, whatever number is asked for; and so is the answer of `Order::of`
 pub order_small : (o : Order) (s : ℕ) → order_to o s ≤ 2
 order_small Abc s = small (eqb s 0) (eqb s 1) _ _ _ (omega arith) (omega arith) (omega arith)
 order_small Acb s = small (eqb s 0) (eqb s 1) _ _ _ (omega arith) (omega arith) (omega arith)
@@ -41,6 +41,9 @@ order_small Bac s = small (eqb s 0) (eqb s 1) _ _ _ (omega arith) (omega arith) 
 order_small Bca s = small (eqb s 0) (eqb s 1) _ _ _ (omega arith) (omega arith) (omega arith)
 order_small Cab s = small (eqb s 0) (eqb s 1) _ _ _ (omega arith) (omega arith) (omega arith)
 order_small Cba s = small (eqb s 0) (eqb s 1) _ _ _ (omega arith) (omega arith) (omega arith)
+
+pub order_bound : (o : Order) (s r : ℕ) → r ≡ order_to o s → r ≤ 2
+order_bound o s r e = rw e (order_small o s)
 
 -- it is undone by the order that says so, and that by it
 pub order_undone : (o : Order) (s : ℕ) → s < 3 → order_to (order_back o) (order_to o s) ≡ s

@@ -4,10 +4,15 @@ use mathlib.Core.List.{List}
 use Prim.Native.Nat.{ℕ, ◌+◌, ◌<◌, ◌≤◌}
 use native.Mathlib.Omega.{arith}
 use lib.Dec.{eqb}
-use lib.ListN.{length, drop}
+use lib.ListN.{length, drop, set}
 use Rattle.lists.specs.Fold.{one, count}
 use Rattle.tile_words.specs.Words.{read_at, tiles_from, add_to, char_before}
 use Rattle.tile_words.proofs.Places.{count_here, count_end}
+use mathlib.Core.Bool.{cond}
+use native.Mathlib.Decide.{ℕ_discrete}
+use borrow.Author.Tests.{eq-eqb, ne_eqb}
+use Rattle.hand.specs.Counts.{held}
+use Rattle.checks.proofs.Added.{more}
 
 -- nothing more
 pub add_zero : (n : ℕ) → n ≡ add_to n 0
@@ -24,6 +29,29 @@ add_few n m e h = omega arith
 -- and back
 pub few_added : (n m : ℕ) → n ≡ m → m ≤ 4 → add_to 0 n ≡ m
 few_added n m e h = omega arith
+
+other : (cs : List ℕ) (t u : ℕ) → (u ≡ t → ⊥) → held cs u ≡ add_to (held cs u) (one (eqb u t))
+other cs t u f = rw (ne_eqb u t f) (add_zero (held cs u))
+
+-- a tile that is none
+pub add_none : (cs : List ℕ) (t u : ℕ) → 34 ≤ t → u < 34 → held cs u ≡ add_to (held cs u) (one (eqb u t))
+add_none cs t u h k = other cs t u (λ e. omega arith)
+
+-- a tile of which there are 255
+pub add_full : (cs : List ℕ) (t u : ℕ) → 255 ≤ held cs t → held cs u ≡ add_to (held cs u) (one (eqb u t))
+add_full cs t u h = go (ℕ_discrete u t)
+  where
+    go : Dec (u ≡ t) → held cs u ≡ add_to (held cs u) (one (eqb u t))
+    go (yes e) = let k = ap (held cs) e in rw (eq-eqb u t e) (omega arith)
+    go (no f) = other cs t u f
+
+-- any other tile
+pub add_next : (cs : List ℕ) (t u : ℕ) → t < length cs → held cs t < 255 → held (set cs t (held cs t + 1)) u ≡ add_to (held cs u) (one (eqb u t))
+add_next cs t u h k = more cs t 1 u h ∙ go (ℕ_discrete u t)
+  where
+    go : Dec (u ≡ t) → held cs u + cond (eqb u t) 1 0 ≡ add_to (held cs u) (one (eqb u t))
+    go (yes e) = let j = ap (held cs) e in rw (eq-eqb u t e) (omega arith)
+    go (no f) = rw (ne_eqb u t f) (omega arith)
 
 -- ---- the tiles of a word, one place after the other
 -- m is n with the tile of this place

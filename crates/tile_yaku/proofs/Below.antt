@@ -17,7 +17,10 @@ some_below zero p = false
 some_below (suc n) p = p n || some_below n p
 
 module _ (p : ℕ → Bool) where
-  -- ---- each number passes: not where one does not
+  -- ---- each number passes: one more, and one that does not pass
+  pub all_on : (i : ℕ) → all_below i p ≡ true → p i ≡ true → all_below (i + 1) p ≡ true
+  all_on i e f = rw add-one (ap₂ ◌&&◌ f e)
+
   pub all_bad : (n i : ℕ) → i < n → p i ≡ false → all_below n p ≡ false
   all_bad n i h f = go (all_below n p) refl
     where

@@ -9,7 +9,7 @@ use Rattle.lists.specs.Fold.{all, any, sum, all_below}
 use Rattle.lists.proofs.Finite.{at, true→t}
 use Rattle.tile.specs.Tile.{is_honor, is_suited, tiles}
 use Rattle.tile_yaku.specs.Tiles.{some, one_suit, suits, chinitsu, gate, nine_gates}
-use Rattle.tile_yaku.proofs.Below.{all_bad, all_tiles, some_of, some_none}
+use Rattle.tile_yaku.proofs.Below.{all_bad, all_tiles, some_of, some_none, all_on}
 use Rattle.tile_yaku.proofs.Questions.{only_not}
 use Rattle.tile_yaku.proofs.Suits.{there_at, present, one_suit_by}
 
@@ -24,10 +24,24 @@ gate_at_holds c of s n h k =
     let l : ltb (s * 9 + n) 27 ≡ true = lt-ltb (s * 9 + n) 27 (omega arith) in
     rw (d, m, l)
 
--- ---- the walk: a tile that does not fit, and the end
+-- ---- the walk: a tile that fits, one that does not, the next suit, and the end
+module _ (c : ℕ → ℕ) (of s n : ℕ) (b : Bool) (h : s < 3) (k : n < 9) where
+  pub fits : b ≡ gate_at c of s n → b ≡ true → all_below (s * 9 + n) (gate c of) ≡ true → all_below (s * 9 + (n + 1)) (gate c of) ≡ true
+  fits e f so =
+      let q : (s * 9 + n) + 1 ≡ s * 9 + (n + 1) = omega arith in
+      subst (λ (i : ℕ). all_below i (gate c of) ≡ true) q (all_on (gate c of) (s * 9 + n) so (sym (gate_at_holds c of s n h k) ∙ sym e ∙ f))
+
 pub misfit :
     (c : ℕ → ℕ) (of s n : ℕ) (b : Bool) → s < 3 → n < 9 → b ≡ gate_at c of s n → b ≡ false → false ≡ all_below 27 (gate c of)
 misfit c of s n b h k e f = sym (all_bad (gate c of) 27 (s * 9 + n) (omega arith) (sym (gate_at_holds c of s n h k) ∙ sym e ∙ f))
+
+pub first_number : (c : ℕ → ℕ) (of s : ℕ) → all_below (s * 9) (gate c of) ≡ true → all_below (s * 9 + 0) (gate c of) ≡ true
+first_number c of s so = let q : s * 9 ≡ s * 9 + 0 = omega arith in subst (λ (i : ℕ). all_below i (gate c of) ≡ true) q so
+
+pub next_suit :
+    (c : ℕ → ℕ) (of s n : ℕ) → 9 ≤ n → n ≤ 9 → all_below (s * 9 + n) (gate c of) ≡ true → all_below ((s + 1) * 9) (gate c of) ≡ true
+next_suit c of s n h k so =
+    let q : s * 9 + n ≡ (s + 1) * 9 = omega arith in subst (λ (i : ℕ). all_below i (gate c of) ≡ true) q so
 
 pub all_suits : (c : ℕ → ℕ) (of s : ℕ) → 3 ≤ s → s ≤ 3 → all_below (s * 9) (gate c of) ≡ true → true ≡ all_below 27 (gate c of)
 all_suits c of s h k so =

@@ -10,7 +10,12 @@ use Rattle.hand.specs.Records.{record_of, records}
 use Rattle.hand.specs.Readings.{is_pairs, seven_pairs, thirteen_orphans, twos, uncalled}
 use Rattle.hand.proofs.Lowest.{flat_append}
 use Rattle.special.specs.Doubled.{doubled_in}
-use Rattle.unit.specs.FirstPass.{orphan_records, seven_records}
+use Rattle.unit.specs.FirstPass.{orphan_records, seven_records, put_call}
+use Prim.Native.Nat.{zero, suc, ◌≤◌}
+use lib.Dec.{ltb}
+use lib.ListN.{take, get_or}
+use Rattle.meld.specs.Meld.{key, meld}
+use Rattle.search.specs.Slots.{put_all, slots_of}
 
 -- ---- nothing called
 pub none_of : {A : Type 0} (l : List A) → length l ≡ 0 → l ≡ []
@@ -64,3 +69,22 @@ nothing_called_holds k e l = ap (λ (c : List Meld). uncalled c l) (none_of k e)
 pub something_called : (k : List Meld) → (length k ≡ 0 → ⊥) → (l : List Reading) → uncalled k l ≡ []
 something_called [] e l = absurd (e refl)
 something_called (m ∷ k) e l = refl
+
+-- ---- the calls in slots
+pub slots_are : (n : ℕ) (ms : List Meld) → length ms ≡ 4 → n ≤ 4 → slots_of (take n ms)
+    ≡ put_call (ltb 3 n) (key (get_or ms 3 (meld 0 0)))
+    (put_call (ltb 2 n) (key (get_or ms 2 (meld 0 0)))
+    (put_call (ltb 1 n) (key (get_or ms 1 (meld 0 0)))
+    (put_call (ltb 0 n) (key (get_or ms 0 (meld 0 0))) (65535 ∷ 65535 ∷ 65535 ∷ 65535 ∷ []))))
+unfolding slots_of put_all
+slots_are n [] e h = absurd (omega arith)
+slots_are n (a ∷ []) e h = absurd (omega arith)
+slots_are n (a ∷ b ∷ []) e h = absurd (omega arith)
+slots_are n (a ∷ b ∷ c ∷ []) e h = absurd (omega arith)
+slots_are zero (a ∷ b ∷ c ∷ d ∷ []) e h = refl
+slots_are (suc zero) (a ∷ b ∷ c ∷ d ∷ []) e h = refl
+slots_are (suc (suc zero)) (a ∷ b ∷ c ∷ d ∷ []) e h = refl
+slots_are (suc (suc (suc zero))) (a ∷ b ∷ c ∷ d ∷ []) e h = refl
+slots_are (suc (suc (suc (suc zero)))) (a ∷ b ∷ c ∷ d ∷ []) e h = refl
+slots_are (suc (suc (suc (suc (suc n))))) (a ∷ b ∷ c ∷ d ∷ []) e h = absurd (omega arith)
+slots_are n (a ∷ b ∷ c ∷ d ∷ x ∷ ms) e h = absurd (omega arith)

@@ -7,7 +7,7 @@ use Rattle.hand.specs.Counts.{held}
 use Rattle.hand.specs.Reading.{Reading, orphans}
 use Rattle.hand.specs.Records.{record_of, standard_bytes, records}
 use Rattle.hand.specs.Readings.{is_pairs, seven_pairs, thirteen_orphans, uncalled}
-use Rattle.search.specs.Slots.{slots_of}
+use Rattle.search.specs.Slots.{put, slots_of}
 use Rattle.decompose.specs.Pairs.{found_with, records_over}
 use Rattle.checks.specs.declared.Calls.{Calls}
 use Rattle.checks.specs.Checks.{called}
@@ -59,3 +59,7 @@ pub record Finds (cs : List ℕ) (k : Calls) (f : Found) : Type 0 where
   pub special : FindsSpecial cs k f.special
   pub standard : f.standard ≡ length (found_with (4 - k.count) (held cs) tiles)
   pub few : f.standard ≤ 2176
+
+-- slots with a number put in its place, if it is there
+abbrev pub put_call : Bool → ℕ → List ℕ → List ℕ
+put_call there x slots = cond there (put x slots) slots

@@ -2,6 +2,7 @@ pub mod Waits
 pub mod AnyRoom
 pub mod Doubled
 pub mod Renamed
+pub mod Starts
 pub mod Examples
 pub mod Places
 pub mod Pinfu

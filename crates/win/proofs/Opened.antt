@@ -1,4 +1,4 @@
--- When a hand is open. Assumes nothing.
+-- When a hand is open; and that it is so by the first calls of four melds, each asked by itself. Assumes nothing.
 use mathlib.Core.Path.{◌≡◌, refl, sym, ap, subst}
 use mathlib.Core.Logic.{◌↔◌}
 use mathlib.Core.Bool.{Bool, true, false, ◌&&◌, ◌||◌}
@@ -44,3 +44,35 @@ opened_means k = (
       (r.0, r.1, any_mem eqb eqb→eq eqb_refl r.0.kind open_kinds (subst T (kinds_are r.0) r.2)),
   λ r. some_open r.1 (subst T (sym (kinds_are r.0)) (any_in eqb eqb→eq eqb_refl r.2)),
 )
+
+-- ---- the four melds of the code
+-- four or more: all are asked
+all_four :
+    (p : Meld → Bool) (n : ℕ) (a b c d : Meld) → 4 ≤ n
+    → (ltb 0 n && p a) || ((ltb 1 n && p b) || ((ltb 2 n && p c) || (ltb 3 n && p d))) ≡ any p (take n (a ∷ b ∷ c ∷ d ∷ []))
+all_four p n a b c d h =
+    rw (
+      lt-ltb 0 n (omega arith),
+      lt-ltb 1 n (omega arith),
+      lt-ltb 2 n (omega arith),
+      lt-ltb 3 n (omega arith),
+      take_all n (a ∷ b ∷ c ∷ d ∷ []) h,
+    )
+    (ap (λ (x : Bool). p a || (p b || x)) (sym (or_false (p c) (p d))))
+
+-- whether one of the first n of four passes the question
+pub any_of_four :
+    (p : Meld → Bool) (n : ℕ) (ms : List Meld) → length ms ≡ 4
+    → (ltb 0 n && p (get_or ms 0 (meld 0 0)))
+    || ((ltb 1 n && p (get_or ms 1 (meld 0 0))) || ((ltb 2 n && p (get_or ms 2 (meld 0 0))) || (ltb 3 n && p (get_or ms 3 (meld 0 0)))))
+    ≡ any p (take n ms)
+any_of_four p n [] e = absurd (omega arith)
+any_of_four p n (a ∷ []) e = absurd (omega arith)
+any_of_four p n (a ∷ b ∷ []) e = absurd (omega arith)
+any_of_four p n (a ∷ b ∷ c ∷ []) e = absurd (omega arith)
+any_of_four p zero (a ∷ b ∷ c ∷ d ∷ []) e = refl
+any_of_four p (suc zero) (a ∷ b ∷ c ∷ d ∷ []) e = refl
+any_of_four p (suc (suc zero)) (a ∷ b ∷ c ∷ d ∷ []) e = refl
+any_of_four p (suc (suc (suc zero))) (a ∷ b ∷ c ∷ d ∷ []) e = refl
+any_of_four p (suc (suc (suc (suc n)))) (a ∷ b ∷ c ∷ d ∷ []) e = all_four p (suc (suc (suc (suc n)))) a b c d (omega arith)
+any_of_four p n (a ∷ b ∷ c ∷ d ∷ x ∷ ms) e = absurd (omega arith)
