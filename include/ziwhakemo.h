@@ -34,8 +34,8 @@
  * every one of its 40 bytes is a field's, and memcmp is fine on books.
  *
  * No function keeps anything between calls or allocates memory, so any number of threads may call
- * at the same time. Of stack, the deepest calls on a million random hands used 3,616 bytes in
- * ziwhakemo_book_win, 3,616 in ziwhakemo_score_win, 3,360 in ziwhakemo_score_reading, 2,833 in
+ * at the same time. Of stack, the deepest calls on a million random hands used 3,393 bytes in
+ * ziwhakemo_book_win, 3,393 in ziwhakemo_score_win, 3,137 in ziwhakemo_score_reading, 2,849 in
  * ziwhakemo_name_waits, 865 in ziwhakemo_list_readings and 61 in ziwhakemo_book_draw. This is
  * measured and not proved: leave some room.
  */
